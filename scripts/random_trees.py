@@ -16,7 +16,8 @@ ENVIRONMENT = {}
 
 def run(words, where, **more):
     """What a command ends with and writes."""
-    return subprocess.run(words, cwd=where, env=ENVIRONMENT, stdin=subprocess.DEVNULL, stdout=subprocess.PIPE, stderr=subprocess.PIPE, **more)
+    given = {} if "input" in more else {"stdin": subprocess.DEVNULL}
+    return subprocess.run(words, cwd=where, env=ENVIRONMENT, stdout=subprocess.PIPE, stderr=subprocess.PIPE, **given, **more)
 
 
 def git(where, *words):

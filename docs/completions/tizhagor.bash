@@ -14,7 +14,7 @@ _tizhagor_options() {
     report) echo "$shown $looked $written --plain $colour -h --help" ;;
     plan) echo "-x -X --nonbare $looked $written -h --help" ;;
     modules) echo "--permissions= -h --help" ;;
-    state) echo "$shown $looked $written $colour -h --help" ;;
+    state) echo "$shown --by-stat $looked $written $colour -h --help" ;;
     ls-files) echo "-c --cached -s --stage -u --unmerged -o --others -k --killed -d --deleted -m --modified -i --ignored --exclude-standard -x --exclude=
         -X --exclude-from= --exclude-per-directory=.gitignore --directory --no-empty-directory -t -v
         -z --deduplicate --full-name --error-unmatch -h --help" ;;

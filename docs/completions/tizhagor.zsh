@@ -94,7 +94,7 @@ _tizhagor() {
     report) _arguments -s $shown $looked $written '--plain[two letters in place of words]' $colour $help '*:path:_files' ;;
     plan) _arguments -s '-x[ignored paths too]' '-X[ignored paths alone]' '--nonbare[bare repositories as directories]' $looked $written $help '*:path:_files' ;;
     modules) _arguments '--permissions=[the configurations that are read]:which:(secure all isolated)' $help ;;
-    state) _arguments -s $shown $looked $written $colour $help ;;
+    state) _arguments -s $shown '--by-stat[by stat fields, and not by bytes]' $looked $written $colour $help ;;
     ls-files) _arguments -s $listed $help '*:path:_files' ;;
     clean) _arguments -s $cleaned $help '*:path:_files' ;;
     diff-files) _arguments -s $compared $help '*:path:_files' ;;

@@ -122,6 +122,7 @@ default_draft =
       comparing = default_comparing;
       checking = default_checking;
       force = forces.Unsaid;
+      by_stat = false;
       is_help = false;
     }
 
@@ -254,6 +255,10 @@ with_compare_choice choice on draft = record draft { comparing = told_apart choi
 -- one choice of `check-ignore` is made or dropped
 abbrev pub with_check_choice : CheckChoice → Bool → Draft → Draft
 with_check_choice choice on draft = record draft { checking = told_of choice on draft.checking }
+
+-- the stat fields of files tell what changed
+abbrev pub with_by_stat : Draft → Draft
+with_by_stat draft = record draft { by_stat = true }
 
 -- the help text is asked for
 abbrev pub with_help : Draft → Draft

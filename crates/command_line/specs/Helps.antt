@@ -182,6 +182,9 @@ state =
     ∷ codes "                        or isolated, which is that of the repository alone"
     ∷ codes "  --outcome             a last line with the counts of the walk"
     ∷ codes "How it is looked at"
+    ∷ codes "  --by-stat             go by the stat fields of files, as diff-files does: bytes are read"
+    ∷ codes "                        only where these do not tell. Nothing is then told of what is"
+    ∷ codes "                        skipped or assumed unchanged, nor of submodules without a conflict"
     ∷ codes "  --excludes, --no-excludes"
     ∷ codes "                        ignore rules count, as they do by default; or none does,"
     ∷ codes "                        though the files are read"
@@ -205,7 +208,7 @@ state =
     ∷ codes "  -h, --help            this text"
     ∷ codes ""
     ∷ codes "Of options that say the same the last counts; --no- before the name of one that"
-    ∷ codes "takes no value turns it off, but for --null and --help. For example:"
+    ∷ codes "takes no value turns it off, but for --by-stat, --null and --help. For example:"
     ∷ codes "tizhagor state --ignored"
     ∷ []
     )

@@ -1,5 +1,5 @@
 -- The options by their names.
-use Rattle.std.specs.Prelude.{ℕ, List, Bool, true, false, not, ◌==◌, ◌&&◌, nat_eq, drop, codes, Option, Some, None, option_map, if◌then◌else◌}
+use Rattle.std.specs.Prelude.{ℕ, List, Bool, true, false, ◌==◌, nat_eq, drop, codes, Option, Some, None, option_map, if◌then◌else◌}
 use Rattle.std.specs.List.{starts_with}
 use Rattle.std.specs.Str.{bytes_eq}
 use Rattle.dir_classify.specs.declared.options.EmissionMode.{EmissionMode}
@@ -65,6 +65,7 @@ valued_of name =
 abbrev pub plain_of : List ℕ → Option Opt
 plain_of name =
     if bytes_eq name (codes "nonbare") then Some opts.NonBare
+    else if bytes_eq name (codes "by-stat") then Some opts.ByStat
     else if bytes_eq name (codes "null") then Some opts.Nul
     else if bytes_eq name (codes "plain") then Some opts.Plain
     else if bytes_eq name (codes "no-color") then Some opts.NoColor
@@ -101,11 +102,12 @@ is_of_plan switches.StrictParents = true
 is_of_plan switches.LinksAsDirectories = true
 is_of_plan other = false
 
--- `report` has all but those that say what may be removed
+-- `report` has all but those that say what may be removed, or by what `state` goes
 abbrev pub is_of_report : Opt → Bool
 is_of_report opts.IgnoredToo = false
 is_of_report opts.IgnoredAlone = false
 is_of_report opts.NonBare = false
+is_of_report opts.ByStat = false
 is_of_report other = true
 
 -- an option of `plan`
@@ -127,17 +129,18 @@ is_of_modules opts.Permissions = true
 is_of_modules opts.Help = true
 is_of_modules other = false
 
--- the option that asks for git's letters
-abbrev pub is_letters : Opt → Bool
-is_letters opts.Plain = true
-is_letters other = false
+-- `state` has those of `report`, whose lines stand behind its own, but no letters: its own lines have none. And it may go by stat fields
+abbrev pub is_of_state : Opt → Bool
+is_of_state opts.Plain = false
+is_of_state opts.ByStat = true
+is_of_state other = is_of_report other
 
--- `ls-files`, `clean`, `diff-files` and `check-ignore` have those that they know by name. `state` has those of `report`, whose lines stand behind its own, but no letters: its own lines have none
+-- `ls-files`, `clean`, `diff-files` and `check-ignore` have those that they know by name
 abbrev pub takes : Verb → Opt → Bool
 takes Report opt = is_of_report opt
 takes Plan opt = takes_for_plan opt
 takes Modules opt = is_of_modules opt
-takes State opt = is_of_report opt && not (is_letters opt)
+takes State opt = is_of_state opt
 takes Files opt = true
 takes Clean opt = true
 takes Compare opt = true

@@ -46,7 +46,7 @@ pub data Command : Type 0 where
   report : Want → Form → Command
   plan : Want → What → Finding → Form → Command
   modules : Want → Command
-  state : Want → Form → Command
+  state : Want → Form → Bool → Command
   files : Want → Listing → RulesGiven → Command
   changed : Want → Listing → RulesGiven → Standings → Command
   clean : Want → Cleaning → Force → List (List ℕ) → Command
@@ -60,7 +60,7 @@ abbrev pub seen : code.Command → Command
 seen (commands.Report asked form) = report (want_of asked) form
 seen (commands.Plan asked what finding form) = plan (want_of asked) what finding form
 seen (commands.Modules asked) = modules (want_of asked)
-seen (commands.State asked form) = state (want_of asked) form
+seen (commands.State asked form by_stat) = state (want_of asked) form by_stat
 seen (commands.Files asked wants) = files (want_of asked) wants.listing wants.rules
 seen (commands.Changed asked wants standings) = changed (want_of asked) wants.listing wants.rules standings
 seen (commands.Clean asked wants) = clean (want_of asked) wants.cleaning wants.force wants.patterns.items
@@ -104,7 +104,7 @@ abbrev done : Verb → Draft → List (List ℕ) → RulesGiven → Command
 done verbs.Report draft paths rules = report (want_in verbs.Report draft paths) draft.form
 done verbs.Plan draft paths rules = plan (want_in verbs.Plan draft paths) draft.what draft.finding draft.form
 done verbs.Modules draft paths rules = modules (want_in verbs.Modules draft paths)
-done verbs.State draft paths rules = state (want_in verbs.State draft paths) draft.form
+done verbs.State draft paths rules = state (want_in verbs.State draft paths) draft.form draft.by_stat
 done verbs.Files draft paths rules = listed (standings_of draft.changes) (want_in verbs.Files draft paths) draft.listing rules
 done verbs.Clean draft paths rules = clean (want_in verbs.Clean draft paths) (cleaning_in draft.cleaning paths) draft.force rules.patterns
 done verbs.Compare draft paths rules = compare (want_in verbs.Compare draft paths) draft.comparing

@@ -31,7 +31,7 @@ use Rattle.command_line.specs.declared.comparing.CompareChoice.TheVariants as co
 use Rattle.command_line.specs.declared.comparing.Ignoring.{Ignoring}
 use Rattle.command_line.specs.declared.comparing.Ignoring.TheVariants as ignorings
 use Rattle.command_line.specs.Cleanings.{cleaning_opt_of, cleaning_opt_of_letter, is_line}
-use Rattle.command_line.specs.Drafts.{with_switch, with_untracked, with_ignored, with_collapsed, with_deletion, with_permissions, with_strategy, with_wording, with_end, with_color, with_what, with_finding, with_depth, with_choice, with_clean_choice, with_force, with_compare_choice, with_check_choice, with_help}
+use Rattle.command_line.specs.Drafts.{with_switch, with_untracked, with_ignored, with_collapsed, with_deletion, with_permissions, with_strategy, with_wording, with_end, with_color, with_what, with_finding, with_depth, with_choice, with_clean_choice, with_force, with_compare_choice, with_check_choice, with_by_stat, with_help}
 use Rattle.command_line.specs.Options.{opt_of, opt_of_letter, takes, emission_of, collapsed_of, deletion_of}
 use Rattle.command_line.specs.Verbs.{needs_dashes, takes_paths}
 
@@ -57,6 +57,7 @@ bare opts.Depth draft = Said draft nexts.Depth
 bare opts.IgnoredToo draft = on (with_what whats.UntrackedAndIgnored draft)
 bare opts.IgnoredAlone draft = on (with_what whats.IgnoredOnly draft)
 bare opts.NonBare draft = on (with_finding findings.NonBare draft)
+bare opts.ByStat draft = on (with_by_stat draft)
 bare opts.Nul draft = on (with_end Nul draft)
 bare opts.Plain draft = on (with_wording Letters draft)
 bare opts.Color draft = on (with_color Always draft)

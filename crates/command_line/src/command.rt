@@ -66,6 +66,8 @@ pub enum Command {
         asked: Asked,
         /// How both are written.
         form: Form,
+        /// Whether the stat fields of files tell what changed, and not their bytes.
+        by_stat: bool,
     },
     /// What `git ls-files` prints is written, with neither `-d` nor `-m`.
     Files {

@@ -44,6 +44,8 @@ pub struct Draft {
     pub checking: CheckAsked,
     /// How often it is to go by force.
     pub force: Force,
+    /// Whether the stat fields of files tell what changed, and not their bytes.
+    pub by_stat: bool,
     /// Whether the help text is asked for.
     pub is_help: bool,
 }
@@ -138,6 +140,7 @@ pub fn default_draft() -> Draft
         comparing: default_comparing(),
         checking: default_checking(),
         force: Force::Unsaid,
+        by_stat: false,
         is_help: false,
     }
 }
@@ -397,6 +400,15 @@ impl Draft {
     {
         let mut draft = self;
         draft.checking = told_of(draft.checking, choice, on);
+        draft
+    }
+
+    /// The stat fields of files tell what changed.
+    pub fn with_by_stat(self) -> Draft
+        ensures { result ≡ drafts.with_by_stat self }
+    {
+        let mut draft = self;
+        draft.by_stat = true;
         draft
     }
 

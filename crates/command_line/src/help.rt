@@ -142,6 +142,9 @@ What is shown
                         or isolated, which is that of the repository alone
   --outcome             a last line with the counts of the walk
 How it is looked at
+  --by-stat             go by the stat fields of files, as diff-files does: bytes are read
+                        only where these do not tell. Nothing is then told of what is
+                        skipped or assumed unchanged, nor of submodules without a conflict
   --excludes, --no-excludes
                         ignore rules count, as they do by default; or none does,
                         though the files are read
@@ -165,7 +168,7 @@ How it is written
   -h, --help            this text
 
 Of options that say the same the last counts; --no- before the name of one that
-takes no value turns it off, but for --null and --help. For example:
+takes no value turns it off, but for --by-stat, --null and --help. For example:
 tizhagor state --ignored
 ";
 

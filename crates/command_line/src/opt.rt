@@ -65,6 +65,8 @@ pub enum Opt {
     IgnoredAlone,
     /// Bare repositories are directories like any other.
     NonBare,
+    /// The stat fields of files tell what changed.
+    ByStat,
     /// Lines end in NULs.
     Nul,
     /// Letters stand in place of words.
@@ -185,6 +187,8 @@ fn plain_of(name: &[u8]) -> Option<Opt>
 {
     if name == b"nonbare".as_slice() {
         Some(Opt::NonBare)
+    } else if name == b"by-stat".as_slice() {
+        Some(Opt::ByStat)
     } else if name == b"null".as_slice() {
         Some(Opt::Nul)
     } else if name == b"plain".as_slice() {
@@ -262,7 +266,21 @@ fn is_of_plan(switch: Switch) -> bool
 fn is_of_report(opt: Opt) -> bool
     ensures { result ≡ options.is_of_report opt }
 {
-    !matches!(opt, Opt::IgnoredToo | Opt::IgnoredAlone | Opt::NonBare)
+    !matches!(
+        opt,
+        Opt::IgnoredToo | Opt::IgnoredAlone | Opt::NonBare | Opt::ByStat
+    )
+}
+
+/// Whether `state` has an option.
+fn is_of_state(opt: Opt) -> bool
+    ensures { result ≡ options.is_of_state opt }
+{
+    match opt {
+        Opt::Plain => false,
+        Opt::ByStat => true,
+        _ => is_of_report(opt),
+    }
 }
 
 /// Whether `plan` has an option.
@@ -293,7 +311,7 @@ pub fn takes(verb: Verb, opt: Opt) -> bool
         Verb::Report => is_of_report(opt),
         Verb::Plan => takes_for_plan(opt),
         Verb::Modules => matches!(opt, Opt::Permissions | Opt::Help),
-        Verb::State => is_of_report(opt) & !matches!(opt, Opt::Plain),
+        Verb::State => is_of_state(opt),
         Verb::Files | Verb::Clean | Verb::Compare | Verb::Check => true,
     }
 }

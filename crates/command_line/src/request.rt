@@ -81,7 +81,11 @@ fn told(verb: Verb, draft: Draft, paths: Vec<Bytes>, rules: RulesGiven) -> Comma
             form,
         },
         Verb::Modules => Command::Modules { asked },
-        Verb::State => Command::State { asked, form },
+        Verb::State => Command::State {
+            asked,
+            form,
+            by_stat: draft.by_stat,
+        },
         Verb::Files => {
             let listing = draft.listing;
             listed(

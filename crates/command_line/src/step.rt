@@ -86,6 +86,7 @@ fn bare(opt: Opt, draft: Draft) -> Step
         Opt::IgnoredToo => on(draft.with_what(What::UntrackedAndIgnored)),
         Opt::IgnoredAlone => on(draft.with_what(What::IgnoredOnly)),
         Opt::NonBare => on(draft.with_finding(Finding::NonBare)),
+        Opt::ByStat => on(draft.with_by_stat()),
         Opt::Nul => on(draft.with_end(LineEnd::Nul)),
         Opt::Plain => on(draft.with_wording(Wording::Letters)),
         Opt::Color => on(draft.with_color(Color::Always)),

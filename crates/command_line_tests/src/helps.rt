@@ -29,9 +29,18 @@ fn help_texts_name_the_options(rt: HostRuntime) {
     let modules = names_all(Topic::Of(Verb::Modules), b"--permissions=,-h, --help");
     let state = names_all(
         Topic::Of(Verb::State),
-        b"--ignored,  --excludes,  --strict-parents,-z, --null,--color",
+        b"--ignored,  --by-stat ,but for --by-stat,  --excludes,  --strict-parents,-z, --null,--color",
     );
     let pathless = !help_of(Topic::Of(Verb::State)).contains_str(b"PATH");
+    let by_stat_elsewhere = [
+        Verb::Report,
+        Verb::Plan,
+        Verb::Modules,
+        Verb::Files,
+        Verb::Clean,
+    ]
+    .iter()
+    .any(|verb| help_of(Topic::Of(*verb)).contains_str(b"--by-stat"));
     let files = names_all(Topic::Of(Verb::Files), FILES);
     let clean = names_all(
         Topic::Of(Verb::Clean),
@@ -41,7 +50,9 @@ fn help_texts_name_the_options(rt: HostRuntime) {
         Topic::Whole,
         b"-C DIR,report,plan,modules,state,ls-files,clean,diff-files,check-ignore,--version",
     );
-    assert!(rt; report & plan & modules & state & pathless & files & clean & whole);
+    assert!(rt;
+        report & plan & modules & state & pathless & !by_stat_elsewhere & files & clean & whole
+    );
 }
 
 #[test]

@@ -48,7 +48,11 @@ plan,-X,--nonbare,a>plan;ignored alone;bare go;path a\n\
 plan,--no-excludes,--depth=0>plan;not excludes;depth 0\n\
 modules>modules\n\
 modules,--permissions=isolated>modules;isolated\n\
-state,--ignored,-z>state;ignored;nul\n\
+state>state;by bytes;no path;words;feed\n\
+state,--ignored,-z>state;by bytes;ignored;nul\n\
+state,--by-stat>state;by stat;untracked;not ignored;no path;words;feed;auto;here\n\
+state,--by-stat,--ignored,-z>state;by stat;ignored;nul\n\
+-C,/w/d,state,-z,--by-stat,--by-stat,--no-excludes>in /w/d;state;by stat;nul;not excludes\n\
 ls-files>files;index;current;depth 1000;no path;from here\n\
 ls-files,-oz,--exclude-standard>others;ended;rules\n\
 ls-files,--others,--no-others,a>not others;path a\n\
@@ -87,6 +91,7 @@ clean,-n,--,-d>path -d;directories\n\
 clean,-nh>help clean\n\
 report,--help>help report\n\
 plan,-zh>help plan\n\
+state,--by-stat,-h>help state\n\
 --help>help whole\n\
 -h>help whole\n\
 --version>version";
@@ -132,7 +137,17 @@ clean,-ne>error: switch `e' requires a value\n\
 clean,-ea >error: the pattern in `-ea ' has a line feed, or a blank or carriage return at its end\n\
 ls-files,-e>error: unknown switch `e'\n\
 state,--,--plain>error: `--plain' is a path, and this command takes none\n\
-state,--plain>error: unknown option `--plain'";
+state,--plain>error: unknown option `--plain'\n\
+report,--by-stat>error: unknown option `--by-stat'\n\
+plan,--by-stat>error: unknown option `--by-stat'\n\
+modules,--by-stat>error: unknown option `--by-stat'\n\
+ls-files,--by-stat>error: unknown option `--by-stat'\n\
+diff-files,--by-stat>error: unknown option `--by-stat'\n\
+report,--by-stat=x>error: unknown option `--by-stat=x'\n\
+state,--no-by-stat>error: unknown option `--no-by-stat'\n\
+state,--by-stat,a>error: `a' is a path, and this command takes none\n\
+state,--by-stat=>error: option `--by-stat=' takes no value\n\
+state,--by-stat=x>error: option `--by-stat=x' takes no value";
 
 /// The words of a row.
 fn words_of(alloc: Global, row: &[u8]) -> Option<Vec<Bytes>> {
@@ -261,6 +276,17 @@ fn is_form(form: Form, want: &[u8]) -> bool {
         form.color == Color::Always
     } else {
         want == b"never".as_slice() && form.color == Color::Never
+    }
+}
+
+/// Whether what changed is told so.
+fn is_state(by_stat: bool, want: &[u8]) -> bool {
+    if want == b"state".as_slice() {
+        true
+    } else if want == b"by stat".as_slice() {
+        by_stat
+    } else {
+        want == b"by bytes".as_slice() && !by_stat
     }
 }
 
@@ -407,6 +433,7 @@ fn is_help(topic: Topic, want: &[u8]) -> bool {
         Topic::Whole => want == b"help whole".as_slice(),
         Topic::Of(Verb::Report) => want == b"help report".as_slice(),
         Topic::Of(Verb::Plan) => want == b"help plan".as_slice(),
+        Topic::Of(Verb::State) => want == b"help state".as_slice(),
         Topic::Of(Verb::Files) => want == b"help files".as_slice(),
         Topic::Of(Verb::Clean) => want == b"help clean".as_slice(),
         Topic::Of(_) => false,
@@ -426,9 +453,11 @@ fn is_command(command: &Command, want: &[u8]) -> bool {
             form,
         } => is_plan(*what, *finding, want) || is_asked(asked, want) || is_form(*form, want),
         Command::Modules { asked } => want == b"modules".as_slice() || is_asked(asked, want),
-        Command::State { asked, form } => {
-            want == b"state".as_slice() || is_asked(asked, want) || is_form(*form, want)
-        }
+        Command::State {
+            asked,
+            form,
+            by_stat,
+        } => is_state(*by_stat, want) || is_asked(asked, want) || is_form(*form, want),
         Command::Files { asked, files } => {
             want == b"files".as_slice()
                 || is_asked(asked, want)

@@ -1,9 +1,9 @@
 -- One step behind another, over a worktree and what is asked for stats, and over owners before them.
-use Rattle.std.proofs.Common.{◌≡◌, ◌⊎◌, ◌≤◌, inl, inr, ℕ, List, Option, Some, Result, Ok, Err, IfErr, IsErrOf, refl, sym, ap, ◌∙◌, subst, arith}
+use Rattle.std.proofs.Common.{◌≡◌, inl, inr, ℕ, List, Result, Ok, Err, IfErr, refl, sym, ap, ◌∙◌, subst, arith}
 use Rattle.gitbase_core.specs.declared.entry.IndexEntry.{IndexEntry}
 use Rattle.command_line.specs.declared.comparing.Comparing.{Comparing}
 use Rattle.diff_files.specs.Differences.{FindsDifferences, differences_in, out_of}
-use Rattle.diff_files.specs.KeptStats.{AsksStats, Outside}
+use Rattle.diff_files.specs.KeptStats.{AsksStats}
 use Rattle.diff_files.specs.Stats.{Told}
 use Rattle.diff_files.specs.declared.answer.Differences.{Differences}
 use Rattle.diff_files.specs.declared.comparison.Comparison.{Comparison}
@@ -22,10 +22,12 @@ use Rattle.worktree_fs.specs.Owners.{Owned}
 use Rattle.worktree_fs.specs.Tree.{Names}
 use Rattle.tizhagor.specs.declared.refusal.HereRefusal.{HereRefusal}
 use Rattle.tizhagor.specs.declared.reply.Reply.{Reply}
+use Rattle.tizhagor.specs.declared.writing.Writing.{Writing}
 use Rattle.tizhagor.specs.Compares.{Beside, Compares}
-use Rattle.tizhagor.specs.Comparing.{as_reply, as_said, reply_of}
+use Rattle.tizhagor.specs.Comparing.{as_reply, as_said, as_stated, as_states}
 use Rattle.tizhagor.specs.Finds.{FindsHereWith}
 use Rattle.tizhagor.specs.Refusals.{fault, memory, of_diff, IsOfFinding}
+use Rattle.tizhagor.specs.StateLines.{FindsStates, stated_in}
 
 -- ---- answers
 
@@ -146,11 +148,58 @@ module _ {W D : Type 0} (w : WorktreeOf W) (d : StatsOf D) where
         stats = h.stats;
       }
 
+  -- and of states
+  pub of_states : (w0 w1 : W) (d0 d1 : D) (root : List ℕ) (entries : List IndexEntry) (details : List Detail) (o : Comparison) (specs : List PathSpec) (writing : Writing) (answer : Result (List ℕ) DiffError)
+      → FindsStates w d w0 w1 d0 d1 root entries details o specs writing answer
+      → Beside {A = Reply} w d w0 w1 d0 d1 (λ t told. as_stated (stated_in (record { tree = t; stats = told }) root entries details o specs writing)) (as_states answer)
+  of_states w0 w1 d0 d1 root entries details o specs writing (Ok made) h =
+      record {
+        gives = λ t told tree tells. ap as_stated (h.gives (record { tree = t; stats = told }) (tree, tells));
+        cause = λ is. absurd (no_err _ _ is);
+        unfaulted = h.unfaulted.0;
+        stats_unfaulted = h.unfaulted.1;
+        keeps = h.worktree;
+        stats = h.stats;
+      }
+  of_states w0 w1 d0 d1 root entries details o specs writing (Err (differences.Unsupported refused)) h =
+      record {
+        gives = λ t told tree tells. inl (ap as_stated (h.gives (record { tree = t; stats = told }) (tree, tells)));
+        cause = λ is. absurd cc;
+        unfaulted = inr h.unfaulted.0;
+        stats_unfaulted = inr h.unfaulted.1;
+        keeps = h.worktree;
+        stats = h.stats;
+      }
+  of_states w0 w1 d0 d1 root entries details o specs writing (Err differences.Fault) h =
+      record {
+        gives = λ t told tree tells. inr (inl refl);
+        cause = λ is. h.cause refl;
+        unfaulted = inl refl;
+        stats_unfaulted = inl refl;
+        keeps = h.worktree;
+        stats = h.stats;
+      }
+  of_states w0 w1 d0 d1 root entries details o specs writing (Err differences.OutOfMemory) h =
+      record {
+        gives = λ t told tree tells. inr (inr refl);
+        cause = λ is. absurd cc;
+        unfaulted = inr h.unfaulted.0;
+        stats_unfaulted = inr h.unfaulted.1;
+        keeps = h.worktree;
+        stats = h.stats;
+      }
+
 pub of_diff-is : (comparing : Comparing) (answer : Result Differences DiffError) → IfErr (as_reply comparing answer) IsOfFinding
 of_diff-is comparing (Ok made) = tt
 of_diff-is comparing (Err (differences.Unsupported refused)) = tt
 of_diff-is comparing (Err differences.Fault) = tt
 of_diff-is comparing (Err differences.OutOfMemory) = tt
+
+pub of_states-is : (answer : Result (List ℕ) DiffError) → IfErr (as_states answer) IsOfFinding
+of_states-is (Ok text) = tt
+of_states-is (Err (differences.Unsupported refused)) = tt
+of_states-is (Err differences.Fault) = tt
+of_states-is (Err differences.OutOfMemory) = tt
 
 -- ---- behind owners
 

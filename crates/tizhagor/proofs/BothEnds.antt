@@ -1,5 +1,5 @@
--- What follows of how the top call ends, with `ls-files` of what a walk finds and of what changed among the commands.
-use Rattle.std.proofs.Common.{◌≡◌, ◌⊎◌, ◌≤◌, ◌<◌, inl, inr, ℕ, List, Bool, true, false, Option, Some, Result, Ok, Err, IfErr, sym, ap, ◌∙◌, subst, refl, arith}
+-- What follows of how the top call ends, with what is asked of a walk and of stats among the commands.
+use Rattle.std.proofs.Common.{◌≡◌, ◌⊎◌, ◌≤◌, inl, inr, ℕ, List, Bool, Option, Some, Result, Ok, Err, sym, ap, ◌∙◌, subst, refl, arith}
 use Rattle.diff_files.specs.Stats.{Told}
 use Rattle.diff_files.specs.declared.stats.Stats.{Ghosts as StatsOf}
 use Rattle.command_line.specs.declared.command.Request.{Request}
@@ -14,17 +14,16 @@ use Rattle.worktree_fs.specs.Tree.{Names}
 use Rattle.tizhagor.specs.declared.refusal.HereRefusal.{HereRefusal}
 use Rattle.tizhagor.specs.declared.reply.Reply.{Reply}
 use Rattle.tizhagor.specs.Answers.{AnswersTask, AnswersWord, IsAsked, IsMisuse, Place, Task, both_of, call_of, check_of, compare_of, offer_of, task_of, word_at, word_of}
-use Rattle.tizhagor.specs.Both.{joined, walked_word}
+use Rattle.tizhagor.specs.Both.{join_of}
 use Rattle.tizhagor.specs.BothAnswers.{AnswersBoth, BothAnswer, IsJoined}
-use Rattle.tizhagor.specs.BothHere.{AnswersAll, AnswersBeside, IsBoth, IsBothBy, IsBothTo, IsFirstOf, IsSecondOf, RefusesSecond, SaysBoth, behind}
-use Rattle.tizhagor.specs.ComparedHere.{Answers, AnswersAny, AnswersComparing, ComparesTo, IsCompared, IsSaidBy, RefusesCompared, replied_at}
+use Rattle.tizhagor.specs.BothHere.{AnswersAll, AnswersBeside, IsBoth, IsBothBy, IsBothTo, IsFirstOf, IsJoinedOf, IsSecondOf, RefusesSecond, SaysBoth, beside}
+use Rattle.tizhagor.specs.ComparedHere.{Answers, AnswersAny, ComparesTo, IsCompared, IsSaidBy, RefusesCompared, replied_at}
 use Rattle.tizhagor.specs.Compares.{Compares, SomeFails}
 use Rattle.tizhagor.specs.Ends.{EndsHere, IsFatal, IsReplied, IsTold, IsToldOf}
 use Rattle.tizhagor.specs.Output as output
 use Rattle.tizhagor.specs.OwnWords.{OwnWord, said_for}
 use Rattle.tizhagor.specs.Parts.{memory_line}
 use Rattle.tizhagor.specs.Refusals.{memory, status_of}
-use Rattle.tizhagor.specs.StatWords.{changes_of}
 use Rattle.tizhagor.proofs.ComparedEnds as alone
 use Rattle.tizhagor.proofs.Ended as ended
 
@@ -46,7 +45,7 @@ memory_not e n is status = sym status ∙ ap status_of is
 -- ---- two words, the second behind the first
 
 module _ {W I O D : Type 0} (w : WorktreeOf W) (i : InterruptOf I) (o : OwnersOf O) (d : StatsOf D) (w0 w1 : W) (i0 i1 : I) (o0 o1 : O) (d0 d1 : D)
-    (walked : Names → Owned → Result Found HereRefusal) (word : OwnWord) (changed : Names → Owned → Told → Result Reply HereRefusal) where
+    (walked : Names → Owned → Result Found HereRefusal) (word : OwnWord) (join : Reply → Reply → Reply) (changed : Names → Owned → Told → Result Reply HereRefusal) where
   -- both have a reply
   record Gave (reply : Reply) : Type 0 where
     middle : W
@@ -55,7 +54,7 @@ module _ {W I O D : Type 0} (w : WorktreeOf W) (i : InterruptOf I) (o : OwnersOf
     second : Reply
     walks : AnswersWord w i o w0 middle i0 i1 o0 owners walked word (Ok first)
     compares : Compares w o d middle w1 owners o1 d0 d1 changed (Ok second)
-    reply_is : reply ≡ joined first second
+    reply_is : reply ≡ join first second
 
   -- the second is refused
   record RefusedBehind (e : HereRefusal) : Type 0 where
@@ -65,8 +64,8 @@ module _ {W I O D : Type 0} (w : WorktreeOf W) (i : InterruptOf I) (o : OwnersOf
     walks : AnswersWord w i o w0 middle i0 i1 o0 owners walked word (Ok first)
     compares : Compares w o d middle w1 owners o1 d0 d1 changed (Err e)
 
-  gave_by : (reply : Reply) (both : BothAnswer w i o d w0 w1 i0 i1 o0 o1 d0 d1 walked word changed (Ok reply)) (second : Result Reply HereRefusal)
-      → Compares w o d both.middle w1 both.owners o1 d0 d1 changed second → IsJoined both.first second (Ok reply) → Gave reply
+  gave_by : (reply : Reply) (both : BothAnswer w i o d w0 w1 i0 i1 o0 o1 d0 d1 walked word join changed (Ok reply)) (second : Result Reply HereRefusal)
+      → Compares w o d both.middle w1 both.owners o1 d0 d1 changed second → IsJoined join both.first second (Ok reply) → Gave reply
   gave_by reply both (Ok second) compares is =
       elim is [
         | inl same ↦ record { middle = both.middle; owners = both.owners; first = both.first; second = second; walks = both.walks; compares = compares; reply_is = same_reply same }
@@ -74,11 +73,11 @@ module _ {W I O D : Type 0} (w : WorktreeOf W) (i : InterruptOf I) (o : OwnersOf
       ]
   gave_by reply both (Err e) compares is = absurd (ended.no_reply is)
 
-  gave : (reply : Reply) → AnswersBoth w i o d w0 w1 i0 i1 o0 o1 d0 d1 walked word changed (Ok reply) → Gave reply
+  gave : (reply : Reply) → AnswersBoth w i o d w0 w1 i0 i1 o0 o1 d0 d1 walked word join changed (Ok reply) → Gave reply
   gave reply a = elim a [ inl refused ↦ absurd (ended.no_reply refused.answer_is) | inr both ↦ gave_by reply both both.second both.compares both.joined ]
 
-  refused_by : (e : HereRefusal) (both : BothAnswer w i o d w0 w1 i0 i1 o0 o1 d0 d1 walked word changed (Err e)) (second : Result Reply HereRefusal)
-      → Compares w o d both.middle w1 both.owners o1 d0 d1 changed second → IsJoined both.first second (Err e) → RefusedBehind e ⊎ (e ≡ memory)
+  refused_by : (e : HereRefusal) (both : BothAnswer w i o d w0 w1 i0 i1 o0 o1 d0 d1 walked word join changed (Err e)) (second : Result Reply HereRefusal)
+      → Compares w o d both.middle w1 both.owners o1 d0 d1 changed second → IsJoined join both.first second (Err e) → RefusedBehind e ⊎ (e ≡ memory)
   refused_by e both (Ok second) compares is = elim is [ inl same ↦ absurd (ended.no_reply (sym same)) | inr wants ↦ inr (ended.same_error wants) ]
   refused_by e both (Err other) compares is =
       inl (record {
@@ -90,7 +89,7 @@ module _ {W I O D : Type 0} (w : WorktreeOf W) (i : InterruptOf I) (o : OwnersOf
       })
 
   -- a refusal is the first's, the second's, or want of memory
-  refusal_of : (e : HereRefusal) → AnswersBoth w i o d w0 w1 i0 i1 o0 o1 d0 d1 walked word changed (Err e)
+  refusal_of : (e : HereRefusal) → AnswersBoth w i o d w0 w1 i0 i1 o0 o1 d0 d1 walked word join changed (Err e)
       → AnswersWord w i o w0 w1 i0 i1 o0 o1 walked word (Err e) ⊎ (RefusedBehind e ⊎ (e ≡ memory))
   refusal_of e a =
       elim a [
@@ -135,7 +134,7 @@ module _ {W I O D : Type 0} (w : WorktreeOf W) (i : InterruptOf I) (o : OwnersOf
         | inr (inr wants) ↦ inl wants
       ]
 
-  not_misuse : (e : HereRefusal) → AnswersBoth w i o d w0 w1 i0 i1 o0 o1 d0 d1 walked word changed (Err e) → status_of e ≡ 129 → ⊥
+  not_misuse : (e : HereRefusal) → AnswersBoth w i o d w0 w1 i0 i1 o0 o1 d0 d1 walked word join changed (Err e) → status_of e ≡ 129 → ⊥
   not_misuse e a is =
       elim (refusal_of e a) [
         | inl walks ↦ ended.word_not_misuse w i o w0 w1 i0 i1 o0 o1 walked word e walks is
@@ -143,7 +142,7 @@ module _ {W I O D : Type 0} (w : WorktreeOf W) (i : InterruptOf I) (o : OwnersOf
         | inr (inr wants) ↦ absurd (let same = memory_not e 129 wants is in omega (arith, same))
       ]
 
-  was_interrupted : (e : HereRefusal) → AnswersBoth w i o d w0 w1 i0 i1 o0 o1 d0 d1 walked word changed (Err e) → status_of e ≡ 130 → Increased (i.raised i0) (i.raised i1)
+  was_interrupted : (e : HereRefusal) → AnswersBoth w i o d w0 w1 i0 i1 o0 o1 d0 d1 walked word join changed (Err e) → status_of e ≡ 130 → Increased (i.raised i0) (i.raised i1)
   was_interrupted e a is =
       elim (refusal_of e a) [
         | inl walks ↦ ended.word_interrupted w i o w0 w1 i0 i1 o0 o1 walked word e walks is
@@ -152,7 +151,7 @@ module _ {W I O D : Type 0} (w : WorktreeOf W) (i : InterruptOf I) (o : OwnersOf
       ]
 
   -- nothing is found for the first
-  none_found : (answer : Result Reply HereRefusal) → AnswersBoth w i o d w0 w1 i0 i1 o0 o1 d0 d1 walked word changed answer → (t : Names) (owned : Owned) → w.told w0 ≡ Some t → o.told o0 ≡ Some owned
+  none_found : (answer : Result Reply HereRefusal) → AnswersBoth w i o d w0 w1 i0 i1 o0 o1 d0 d1 walked word join changed answer → (t : Names) (owned : Owned) → w.told w0 ≡ Some t → o.told o0 ≡ Some owned
       → NotIncreased (w.faults w0) (w.faults w1) → NotIncreased (o.faults o0) (o.faults o1) → (e : HereRefusal) → walked t owned ≡ Err e → ended.IsRefusedAs e answer
   none_found (Ok reply) a t owned tree owns quiet owners_quiet e known = let g = gave reply a in ended.not_found (sym (g.walks.is t owned tree owns) ∙ known)
   none_found (Err other) a t owned tree owns quiet owners_quiet e known =
@@ -163,22 +162,22 @@ module _ {W I O D : Type 0} (w : WorktreeOf W) (i : InterruptOf I) (o : OwnersOf
       ]
 
   -- what both say over a tree, owners and stats is the answer, or memory is wanted
-  gave_wanted : (reply : Reply) → AnswersBoth w i o d w0 w1 i0 i1 o0 o1 d0 d1 walked word changed (Ok reply) → (t : Names) (owned : Owned) (told : Told) → w.told w0 ≡ Some t → o.told o0 ≡ Some owned → d.told d0 ≡ Some told
-      → (wanted : Result Reply HereRefusal) → SaysBoth (w.precomposes w0) t (walked t owned) word (changed t owned told) wanted → wanted ≡ Ok reply
+  gave_wanted : (reply : Reply) → AnswersBoth w i o d w0 w1 i0 i1 o0 o1 d0 d1 walked word join changed (Ok reply) → (t : Names) (owned : Owned) (told : Told) → w.told w0 ≡ Some t → o.told o0 ≡ Some owned → d.told d0 ≡ Some told
+      → (wanted : Result Reply HereRefusal) → SaysBoth (w.precomposes w0) t (walked t owned) word join (changed t owned told) wanted → wanted ≡ Ok reply
   gave_wanted reply a t owned told tree owns tells wanted says =
       let g = gave reply a in
       let same : says.first ≡ g.first = same_first (w.precomposes w0) t (walked t owned) word says.first g.first says.first_is (gave_first reply g t owned tree owns) in
-      says.wanted_is ∙ ap (behind says.first) (gave_second reply g t owned tree owns told tells) ∙ ap (λ (first : Reply). Ok (joined first g.second)) same ∙ ap Ok (sym g.reply_is)
+      says.wanted_is ∙ ap (beside join says.first) (gave_second reply g t owned tree owns told tells) ∙ ap (λ (first : Reply). Ok (join first g.second)) same ∙ ap Ok (sym g.reply_is)
 
-  refused_wanted : (e : HereRefusal) → AnswersBoth w i o d w0 w1 i0 i1 o0 o1 d0 d1 walked word changed (Err e) → (t : Names) (owned : Owned) (told : Told) → w.told w0 ≡ Some t → o.told o0 ≡ Some owned → d.told d0 ≡ Some told
+  refused_wanted : (e : HereRefusal) → AnswersBoth w i o d w0 w1 i0 i1 o0 o1 d0 d1 walked word join changed (Err e) → (t : Names) (owned : Owned) (told : Told) → w.told w0 ≡ Some t → o.told o0 ≡ Some owned → d.told d0 ≡ Some told
       → NotIncreased (w.faults w0) (w.faults w1) → NotIncreased (o.faults o0) (o.faults o1) → NotIncreased (d.faults d0) (d.faults d1) → NotIncreased (i.raised i0) (i.raised i1)
-      → (wanted : Result Reply HereRefusal) → SaysBoth (w.precomposes w0) t (walked t owned) word (changed t owned told) wanted → (e ≡ memory) ⊎ (wanted ≡ Err e)
+      → (wanted : Result Reply HereRefusal) → SaysBoth (w.precomposes w0) t (walked t owned) word join (changed t owned told) wanted → (e ≡ memory) ⊎ (wanted ≡ Err e)
   refused_wanted e a t owned told tree owns tells quiet owners_quiet stats_quiet calm wanted says =
       elim (refusal_of e a) [
         | inl walks ↦ inl (ended.word_complete w i o w0 w1 i0 i1 o0 o1 walked word e walks t owned tree owns quiet owners_quiet calm says.ready)
         | inr (inl r) ↦ elim (behind_is e r t owned tree owns quiet owners_quiet told tells stats_quiet) [
           | inl wants ↦ inl wants
-          | inr is ↦ inr (says.wanted_is ∙ ap (behind says.first) is)
+          | inr is ↦ inr (says.wanted_is ∙ ap (beside join says.first) is)
         ]
         | inr (inr wants) ↦ inl wants
       ]
@@ -191,7 +190,7 @@ no_both w i o w0 w1 i0 i1 o0 o1 place directory answer wanted composes t owned t
 no_both w i o w0 w1 i0 i1 o0 o1 place directory answer wanted composes t owned told (word_of word asked) a says = says
 no_both w i o w0 w1 i0 i1 o0 o1 place directory answer wanted composes t owned told (check_of wants asked) a says = says
 no_both w i o w0 w1 i0 i1 o0 o1 place directory answer wanted composes t owned told (compare_of comparing asked) a says = a
-no_both w i o w0 w1 i0 i1 o0 o1 place directory answer wanted composes t owned told (both_of wants standings asked) a says = a
+no_both w i o w0 w1 i0 i1 o0 o1 place directory answer wanted composes t owned told (both_of word stat asked) a says = a
 no_both w i o w0 w1 i0 i1 o0 o1 place directory answer wanted composes t owned told (offer_of text) a says = says
 
 -- the words are those of the task
@@ -206,8 +205,8 @@ by_request w i o d w0 w1 i0 i1 o0 o1 d0 d1 place words answer request asked (che
     inl (inl (inl (record { request = request; asked = asked; answers = subst (λ (x : Task). AnswersTask w i o w0 w1 i0 i1 o0 o1 place request.directory answer x) (sym is) a.0 }), a.1))
 by_request w i o d w0 w1 i0 i1 o0 o1 d0 d1 place words answer request asked (compare_of comparing wants) is a =
     inl (inr (record { request = request; asked = asked; comparing = comparing; wants = wants; task_is = is; compares = a.0; interrupt = a.1 }))
-by_request w i o d w0 w1 i0 i1 o0 o1 d0 d1 place words answer request asked (both_of files standings wants) is a =
-    inr (record { request = request; asked = asked; files = files; standings = standings; wants = wants; task_is = is; both = a })
+by_request w i o d w0 w1 i0 i1 o0 o1 d0 d1 place words answer request asked (both_of word stat wants) is a =
+    inr (record { request = request; asked = asked; word = word; stat = stat; wants = wants; task_is = is; both = a })
 by_request w i o d w0 w1 i0 i1 o0 o1 d0 d1 place words answer request asked (offer_of text) is a =
     inl (inl (inl (record { request = request; asked = asked; answers = subst (λ (x : Task). AnswersTask w i o w0 w1 i0 i1 o0 o1 place request.directory answer x) (sym is) a.0 }), a.1))
 
@@ -216,20 +215,20 @@ by_request w i o d w0 w1 i0 i1 o0 o1 d0 d1 place words answer request asked (off
 module _ {W I O D S E : Type 0} (w : WorktreeOf W) (i : InterruptOf I) (o : OwnersOf O) (d : StatsOf D) (s : SinkOf S) (e : SinkOf E) (w0 w1 : W) (i0 i1 : I) (o0 o1 : O) (d0 d1 : D) (s0 s1 : S) (e0 e1 : E) (first : List ℕ) (place : Place) (words : List (List ℕ)) (status : ℕ) where
   -- what is said of both where the answer is known
   as_known : (answer known : Result Reply HereRefusal) (a : AnswersBeside w i o d w0 w1 i0 i1 o0 o1 d0 d1 place words answer) → answer ≡ known
-      → AnswersBoth w i o d w0 w1 i0 i1 o0 o1 d0 d1 (word_at place a.request.directory (walked_word a.files) a.wants) (walked_word a.files) (replied_at place a.request.directory a.wants (changes_of a.files a.standings)) known
+      → AnswersBoth w i o d w0 w1 i0 i1 o0 o1 d0 d1 (word_at place a.request.directory a.word a.wants) a.word (join_of a.stat) (replied_at place a.request.directory a.wants a.stat) known
   as_known answer known a is =
-      subst (λ (x : Result Reply HereRefusal). AnswersBoth w i o d w0 w1 i0 i1 o0 o1 d0 d1 (word_at place a.request.directory (walked_word a.files) a.wants) (walked_word a.files) (replied_at place a.request.directory a.wants (changes_of a.files a.standings)) x) is a.both
+      subst (λ (x : Result Reply HereRefusal). AnswersBoth w i o d w0 w1 i0 i1 o0 o1 d0 d1 (word_at place a.request.directory a.word a.wants) a.word (join_of a.stat) (replied_at place a.request.directory a.wants a.stat) x) is a.both
 
   -- and of their task
-  as_task : (P : Task → Type 0) (answer : Result Reply HereRefusal) (a : AnswersBeside w i o d w0 w1 i0 i1 o0 o1 d0 d1 place words answer) → P (both_of a.files a.standings a.wants) → P (task_of place.takes_colors a.request.command)
+  as_task : (P : Task → Type 0) (answer : Result Reply HereRefusal) (a : AnswersBeside w i o d w0 w1 i0 i1 o0 o1 d0 d1 place words answer) → P (both_of a.word a.stat a.wants) → P (task_of place.takes_colors a.request.command)
   as_task P answer a holds = subst P (sym a.task_is) holds
 
-  of_task : (P : Task → Type 0) (answer : Result Reply HereRefusal) (a : AnswersBeside w i o d w0 w1 i0 i1 o0 o1 d0 d1 place words answer) → P (task_of place.takes_colors a.request.command) → P (both_of a.files a.standings a.wants)
+  of_task : (P : Task → Type 0) (answer : Result Reply HereRefusal) (a : AnswersBeside w i o d w0 w1 i0 i1 o0 o1 d0 d1 place words answer) → P (task_of place.takes_colors a.request.command) → P (both_of a.word a.stat a.wants)
   of_task P answer a holds = subst P a.task_is holds
 
   gave_here : (answer : Result Reply HereRefusal) (reply : Reply) (a : AnswersBeside w i o d w0 w1 i0 i1 o0 o1 d0 d1 place words answer) → answer ≡ Ok reply
-      → Gave w i o d w0 w1 i0 i1 o0 o1 d0 d1 (word_at place a.request.directory (walked_word a.files) a.wants) (walked_word a.files) (replied_at place a.request.directory a.wants (changes_of a.files a.standings)) reply
-  gave_here answer reply a is = gave w i o d w0 w1 i0 i1 o0 o1 d0 d1 _ _ _ reply (as_known answer (Ok reply) a is)
+      → Gave w i o d w0 w1 i0 i1 o0 o1 d0 d1 (word_at place a.request.directory a.word a.wants) a.word (join_of a.stat) (replied_at place a.request.directory a.wants a.stat) reply
+  gave_here answer reply a is = gave w i o d w0 w1 i0 i1 o0 o1 d0 d1 _ _ _ _ reply (as_known answer (Ok reply) a is)
 
   pub unfaulted : (answer : Result Reply HereRefusal) → AnswersAll w i o d w0 w1 i0 i1 o0 o1 d0 d1 place words answer → EndsHere s e s0 s1 e0 e1 first answer status
       → status ≤ 1 → output.IsUnfaultedHere place words (w.faults w0) (w.faults w1)
@@ -241,7 +240,7 @@ module _ {W I O D S E : Type 0} (w : WorktreeOf W) (i : InterruptOf I) (o : Owne
             record {
               request = a.request;
               asked = a.asked;
-              unfaulted = as_task (λ (x : Task). output.IsUnfaultedFor (w.faults w0) (w.faults w1) x) answer a (gave_faults w i o d w0 w1 i0 i1 o0 o1 d0 d1 _ _ _ wrote.0 (gave_here answer wrote.0 a wrote.1));
+              unfaulted = as_task (λ (x : Task). output.IsUnfaultedFor (w.faults w0) (w.faults w1) x) answer a (gave_faults w i o d w0 w1 i0 i1 o0 o1 d0 d1 _ _ _ _ wrote.0 (gave_here answer wrote.0 a wrote.1));
             }
       ]
 
@@ -250,7 +249,7 @@ module _ {W I O D S E : Type 0} (w : WorktreeOf W) (i : InterruptOf I) (o : Owne
   owners_unfaulted answer any ends few =
       elim any [
         | inl by ↦ alone.owners_unfaulted w i o d s e w0 w1 i0 i1 o0 o1 d0 d1 s0 s1 e0 e1 first place words status answer by ends few
-        | inr a ↦ let wrote = ended.ends_low s e s0 s1 e0 e1 first status answer ends few in gave_owners w i o d w0 w1 i0 i1 o0 o1 d0 d1 _ _ _ wrote.0 (gave_here answer wrote.0 a wrote.1)
+        | inr a ↦ let wrote = ended.ends_low s e s0 s1 e0 e1 first status answer ends few in gave_owners w i o d w0 w1 i0 i1 o0 o1 d0 d1 _ _ _ _ wrote.0 (gave_here answer wrote.0 a wrote.1)
       ]
 
   pub stats_unfaulted : (answer : Result Reply HereRefusal) → AnswersAll w i o d w0 w1 i0 i1 o0 o1 d0 d1 place words answer → EndsHere s e s0 s1 e0 e1 first answer status
@@ -271,9 +270,9 @@ module _ {W I O D S E : Type 0} (w : WorktreeOf W) (i : InterruptOf I) (o : Owne
         asked = a.asked;
         first = g.first;
         second = g.second;
-        first_is = as_task (λ (x : Task). IsFirstOf (w.precomposes w0) t owned place a.request.directory g.first x) answer a (gave_first w i o d w0 w1 i0 i1 o0 o1 d0 d1 _ _ _ reply g t owned tree owns);
-        second_is = λ told tells. as_task (λ (x : Task). IsSecondOf t owned told place a.request.directory (Ok g.second) x) answer a (gave_second w i o d w0 w1 i0 i1 o0 o1 d0 d1 _ _ _ reply g t owned tree owns told tells);
-        reply_is = g.reply_is;
+        first_is = as_task (λ (x : Task). IsFirstOf (w.precomposes w0) t owned place a.request.directory g.first x) answer a (gave_first w i o d w0 w1 i0 i1 o0 o1 d0 d1 _ _ _ _ reply g t owned tree owns);
+        second_is = λ told tells. as_task (λ (x : Task). IsSecondOf t owned told place a.request.directory (Ok g.second) x) answer a (gave_second w i o d w0 w1 i0 i1 o0 o1 d0 d1 _ _ _ _ reply g t owned tree owns told tells);
+        joined = as_task (λ (x : Task). IsJoinedOf reply g.first g.second x) answer a g.reply_is;
       }
 
   pub gives : (answer : Result Reply HereRefusal) → AnswersAll w i o d w0 w1 i0 i1 o0 o1 d0 d1 place words answer → EndsHere s e s0 s1 e0 e1 first answer status
@@ -296,7 +295,7 @@ module _ {W I O D S E : Type 0} (w : WorktreeOf W) (i : InterruptOf I) (o : Owne
         | inl by ↦ alone.misuse w i o d s e w0 w1 i0 i1 o0 o1 d0 d1 s0 s1 e0 e1 first place words status answer by ends is
         | inr a ↦
             let refused = ended.ends_above s e s0 s1 e0 e1 first status answer ends 129 is (omega arith) in
-            absurd (not_misuse w i o d w0 w1 i0 i1 o0 o1 d0 d1 _ _ _ refused.0 (as_known answer (Err refused.0) a refused.1) refused.2)
+            absurd (not_misuse w i o d w0 w1 i0 i1 o0 o1 d0 d1 _ _ _ _ refused.0 (as_known answer (Err refused.0) a refused.1) refused.2)
       ]
 
   pub usage : (answer : Result Reply HereRefusal) → AnswersAll w i o d w0 w1 i0 i1 o0 o1 d0 d1 place words answer → EndsHere s e s0 s1 e0 e1 first answer status → IsMisuse words
@@ -314,7 +313,7 @@ module _ {W I O D S E : Type 0} (w : WorktreeOf W) (i : InterruptOf I) (o : Owne
         | inl by ↦ alone.interrupted w i o d s e w0 w1 i0 i1 o0 o1 d0 d1 s0 s1 e0 e1 first place words status answer by ends is
         | inr a ↦
             let refused = ended.ends_above s e s0 s1 e0 e1 first status answer ends 130 is (omega arith) in
-            was_interrupted w i o d w0 w1 i0 i1 o0 o1 d0 d1 _ _ _ refused.0 (as_known answer (Err refused.0) a refused.1) refused.2
+            was_interrupted w i o d w0 w1 i0 i1 o0 o1 d0 d1 _ _ _ _ refused.0 (as_known answer (Err refused.0) a refused.1) refused.2
       ]
 
   -- a refusal of the first, or of the second
@@ -322,7 +321,7 @@ module _ {W I O D S E : Type 0} (w : WorktreeOf W) (i : InterruptOf I) (o : Owne
       → NotIncreased (w.faults w0) (w.faults w1) → NotIncreased (o.faults o0) (o.faults o1) → status_of refusal ≡ 128
       → (refusal ≡ memory) ⊎ (output.RefusesHere (w.precomposes w0) t owned place words refusal ⊎ RefusesSecond (w.precomposes w0) t owned (d.told d0) (d.faults d0) (d.faults d1) place words refusal)
   refuses refusal a t owned tree owns quiet owners_quiet is =
-      elim (refusal_of w i o d w0 w1 i0 i1 o0 o1 d0 d1 _ _ _ refusal a.both) [
+      elim (refusal_of w i o d w0 w1 i0 i1 o0 o1 d0 d1 _ _ _ _ refusal a.both) [
         | inl walks ↦ elim (ended.word_refuses w i o w0 w1 i0 i1 o0 o1 _ _ refusal walks t owned tree owns quiet owners_quiet is) [
           | inl wants ↦ inl wants
           | inr known ↦ inr (inl (record {
@@ -335,8 +334,8 @@ module _ {W I O D S E : Type 0} (w : WorktreeOf W) (i : InterruptOf I) (o : Owne
           request = a.request;
           asked = a.asked;
           first = r.first;
-          first_is = as_task (λ (x : Task). IsFirstOf (w.precomposes w0) t owned place a.request.directory r.first x) (Err refusal) a (behind_first w i o d w0 w1 i0 i1 o0 o1 d0 d1 _ _ _ refusal r t owned tree owns);
-          is = λ told tells stats_quiet. elim (behind_is w i o d w0 w1 i0 i1 o0 o1 d0 d1 _ _ _ refusal r t owned tree owns quiet owners_quiet told tells stats_quiet) [
+          first_is = as_task (λ (x : Task). IsFirstOf (w.precomposes w0) t owned place a.request.directory r.first x) (Err refusal) a (behind_first w i o d w0 w1 i0 i1 o0 o1 d0 d1 _ _ _ _ refusal r t owned tree owns);
+          is = λ told tells stats_quiet. elim (behind_is w i o d w0 w1 i0 i1 o0 o1 d0 d1 _ _ _ _ refusal r t owned tree owns quiet owners_quiet told tells stats_quiet) [
             | inl wants ↦ inl wants
             | inr said ↦ inr (as_task (λ (x : Task). IsSecondOf t owned told place a.request.directory (Err refusal) x) (Err refusal) a said)
           ];
@@ -380,7 +379,7 @@ module _ {W I O D S E : Type 0} (w : WorktreeOf W) (i : InterruptOf I) (o : Owne
       elim any [
         | inl by ↦ alone.refused w i o d s e w0 w1 i0 i1 o0 o1 d0 d1 s0 s1 e0 e1 first place words status answer by ends t owned refusal tree owns known quiet owners_quiet
         | inr a ↦ ended.told_refused w i o s e w0 w1 i0 i1 o0 o1 s0 s1 e0 e1 first place words status refusal answer
-            (none_found w i o d w0 w1 i0 i1 o0 o1 d0 d1 _ _ _ answer a.both t owned tree owns quiet owners_quiet refusal
+            (none_found w i o d w0 w1 i0 i1 o0 o1 d0 d1 _ _ _ _ answer a.both t owned tree owns quiet owners_quiet refusal
             (of_task (λ (x : Task). output.IsNotFoundFor t owned place a.request.directory refusal x) answer a (known.refused a.request a.asked))) ends
       ]
 
@@ -399,10 +398,10 @@ module _ {W I O D S E : Type 0} (w : WorktreeOf W) (i : InterruptOf I) (o : Owne
       → IsToldOf e e0 e1 memory_line 128 status ⊎ EndsHere s e s0 s1 e0 e1 first wanted status
   both_ends (Ok reply) wanted a ends t owned told tree owns tells known quiet owners_quiet stats_quiet calm =
       let says = of_task (λ (x : Task). IsBothBy (w.precomposes w0) t owned told place a.request.directory wanted x) (Ok reply) a (known.is a.request a.asked) in
-      inr (subst (λ (x : Result Reply HereRefusal). EndsHere s e s0 s1 e0 e1 first x status) (sym (gave_wanted w i o d w0 w1 i0 i1 o0 o1 d0 d1 _ _ _ reply a.both t owned told tree owns tells wanted says)) ends)
+      inr (subst (λ (x : Result Reply HereRefusal). EndsHere s e s0 s1 e0 e1 first x status) (sym (gave_wanted w i o d w0 w1 i0 i1 o0 o1 d0 d1 _ _ _ _ reply a.both t owned told tree owns tells wanted says)) ends)
   both_ends (Err refusal) wanted a ends t owned told tree owns tells known quiet owners_quiet stats_quiet calm =
       let says = of_task (λ (x : Task). IsBothBy (w.precomposes w0) t owned told place a.request.directory wanted x) (Err refusal) a (known.is a.request a.asked) in
-      elim (refused_wanted w i o d w0 w1 i0 i1 o0 o1 d0 d1 _ _ _ refusal a.both t owned told tree owns tells quiet owners_quiet stats_quiet calm wanted says) [
+      elim (refused_wanted w i o d w0 w1 i0 i1 o0 o1 d0 d1 _ _ _ _ refusal a.both t owned told tree owns tells quiet owners_quiet stats_quiet calm wanted says) [
         | inl wants ↦ inl (ended.wants_memory s e s0 s1 e0 e1 first status refusal wants ends.by.1)
         | inr is ↦ inr (subst (λ (x : Result Reply HereRefusal). EndsHere s e s0 s1 e0 e1 first x status) (sym is) ends)
       ]

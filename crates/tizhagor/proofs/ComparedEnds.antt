@@ -31,7 +31,7 @@ no_word w i o w0 w1 i0 i1 o0 o1 place directory answer wanted t owned told (call
 no_word w i o w0 w1 i0 i1 o0 o1 place directory answer wanted t owned told (word_of word asked) a said = said
 no_word w i o w0 w1 i0 i1 o0 o1 place directory answer wanted t owned told (check_of wants asked) a said = said
 no_word w i o w0 w1 i0 i1 o0 o1 place directory answer wanted t owned told (compare_of comparing asked) a said = a
-no_word w i o w0 w1 i0 i1 o0 o1 place directory answer wanted t owned told (both_of wants standings asked) a said = said
+no_word w i o w0 w1 i0 i1 o0 o1 place directory answer wanted t owned told (both_of word stat asked) a said = said
 no_word w i o w0 w1 i0 i1 o0 o1 place directory answer wanted t owned told (offer_of text) a said = said
 
 -- ---- the call

@@ -223,7 +223,7 @@ module _ {W I O : Type 0} (w : WorktreeOf W) (i : InterruptOf I) (o : OwnersOf O
   task_unfaulted place directory (word_of word asked) reply a = word_unfaulted (word_at place directory word asked) word reply a
   task_unfaulted place directory (check_of wants asked) reply a = a.0.unfaulted
   task_unfaulted place directory (compare_of comparing asked) reply a = absurd a
-  task_unfaulted place directory (both_of wants standings asked) reply a = absurd a
+  task_unfaulted place directory (both_of word stat asked) reply a = absurd a
   task_unfaulted place directory (offer_of text) reply a = ap w.faults a.0.worktree
 
   -- and the owners failed at nothing
@@ -232,7 +232,7 @@ module _ {W I O : Type 0} (w : WorktreeOf W) (i : InterruptOf I) (o : OwnersOf O
   task_owners place directory (word_of word asked) reply a = a.owners_unfaulted
   task_owners place directory (check_of wants asked) reply a = a.0.owners_unfaulted
   task_owners place directory (compare_of comparing asked) reply a = absurd a
-  task_owners place directory (both_of wants standings asked) reply a = absurd a
+  task_owners place directory (both_of word stat asked) reply a = absurd a
   task_owners place directory (offer_of text) reply a = ap o.faults a.0.owners
 
   task_reply : (place : Place) (directory : Option (List ℕ)) (task : Task) (reply : Reply) → AnswersTask w i o w0 w1 i0 i1 o0 o1 place directory (Ok reply) task
@@ -241,7 +241,7 @@ module _ {W I O : Type 0} (w : WorktreeOf W) (i : InterruptOf I) (o : OwnersOf O
   task_reply place directory (word_of word asked) reply a t owned told tells quiet = word_reply (word_at place directory word asked) word reply a t owned told tells
   task_reply place directory (check_of wants asked) reply a t owned told tells quiet = a.0.gives t owned told tells
   task_reply place directory (compare_of comparing asked) reply a t owned told tells quiet = absurd a
-  task_reply place directory (both_of wants standings asked) reply a t owned told tells quiet = absurd a
+  task_reply place directory (both_of word stat asked) reply a t owned told tells quiet = absurd a
   task_reply place directory (offer_of text) reply a t owned told tells quiet = a.1 ∙ ap plain a.0.gives
 
   -- a fault was counted, and none was
@@ -269,7 +269,7 @@ module _ {W I O : Type 0} (w : WorktreeOf W) (i : InterruptOf I) (o : OwnersOf O
   task_not_misuse place directory (word_of word asked) e a is = word_not_misuse (word_at place directory word asked) word e a is
   task_not_misuse place directory (check_of wants asked) e a is = finding_not_misuse e a.0.of is
   task_not_misuse place directory (compare_of comparing asked) e a is = absurd a
-  task_not_misuse place directory (both_of wants standings asked) e a is = absurd a
+  task_not_misuse place directory (both_of word stat asked) e a is = absurd a
   task_not_misuse place directory (offer_of text) e a is = absurd (let same = memory_not e 129 a.0.refused is in omega (arith, same))
 
   -- an interrupt was raised
@@ -295,7 +295,7 @@ module _ {W I O : Type 0} (w : WorktreeOf W) (i : InterruptOf I) (o : OwnersOf O
   task_interrupted place directory (word_of word asked) e a is = word_interrupted (word_at place directory word asked) word e a is
   task_interrupted place directory (check_of wants asked) e a is = absurd (finding_not_interrupted e a.0.of is)
   task_interrupted place directory (compare_of comparing asked) e a is = absurd a
-  task_interrupted place directory (both_of wants standings asked) e a is = absurd a
+  task_interrupted place directory (both_of word stat asked) e a is = absurd a
   task_interrupted place directory (offer_of text) e a is = absurd (let same = memory_not e 130 a.0.refused is in omega (arith, same))
 
   -- what is refused over a tree
@@ -381,7 +381,7 @@ module _ {W I O : Type 0} (w : WorktreeOf W) (i : InterruptOf I) (o : OwnersOf O
   task_refused place directory (word_of word asked) e a t owned told tells quiet owners_quiet is = word_refuses (word_at place directory word asked) word e a t owned told tells quiet owners_quiet is
   task_refused place directory (check_of wants asked) e a t owned told tells quiet owners_quiet is = check_refused (answered_at place directory wants asked) e a.0 t owned told tells quiet owners_quiet
   task_refused place directory (compare_of comparing asked) e a t owned told tells quiet owners_quiet is = absurd a
-  task_refused place directory (both_of wants standings asked) e a t owned told tells quiet owners_quiet is = absurd a
+  task_refused place directory (both_of word stat asked) e a t owned told tells quiet owners_quiet is = absurd a
   task_refused place directory (offer_of text) e a t owned told tells quiet owners_quiet is = inl a.0.refused
 
   -- where nothing is found over a tree, that is the answer, or want of memory
@@ -427,7 +427,7 @@ module _ {W I O : Type 0} (w : WorktreeOf W) (i : InterruptOf I) (o : OwnersOf O
   task_none place directory (word_of word asked) answer a t owned told tells quiet owners_quiet e known = word_none (word_at place directory word asked) word answer a t owned told tells quiet owners_quiet e known
   task_none place directory (check_of wants asked) answer a t owned told tells quiet owners_quiet e known = check_none (answered_at place directory wants asked) answer a.0 t owned told tells quiet owners_quiet e known
   task_none place directory (compare_of comparing asked) answer a t owned told tells quiet owners_quiet e known = absurd a
-  task_none place directory (both_of wants standings asked) answer a t owned told tells quiet owners_quiet e known = absurd a
+  task_none place directory (both_of word stat asked) answer a t owned told tells quiet owners_quiet e known = absurd a
   task_none place directory (offer_of text) answer a t owned told tells quiet owners_quiet e known = absurd known
 
   -- for what can be had only memory may be wanted
@@ -487,7 +487,7 @@ module _ {W I O : Type 0} (w : WorktreeOf W) (i : InterruptOf I) (o : OwnersOf O
   task_complete place directory (word_of word asked) e a t owned told tells quiet owners_quiet calm ready = word_complete (word_at place directory word asked) word e a t owned told tells quiet owners_quiet calm ready
   task_complete place directory (check_of wants asked) e a t owned told tells quiet owners_quiet calm ready = check_complete (answered_at place directory wants asked) e a.0 t owned told tells quiet owners_quiet ready
   task_complete place directory (compare_of comparing asked) e a t owned told tells quiet owners_quiet calm ready = absurd a
-  task_complete place directory (both_of wants standings asked) e a t owned told tells quiet owners_quiet calm ready = absurd a
+  task_complete place directory (both_of word stat asked) e a t owned told tells quiet owners_quiet calm ready = absurd a
   task_complete place directory (offer_of text) e a t owned told tells quiet owners_quiet calm ready = a.0.refused
 
 -- ---- the call

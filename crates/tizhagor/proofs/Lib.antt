@@ -3,6 +3,7 @@ pub mod Listed
 pub mod Said
 pub mod Finding
 pub mod Here
+pub mod QuietReports
 pub mod Ended
 pub mod Besides
 pub mod Changes

@@ -1,5 +1,5 @@
 -- The text that the words ask for, or why there is none.
-use Rattle.std.specs.Prelude.{◌≡◌, ◌⊎◌, ◌≤◌, ℕ, List, Bool, Option, Some, Result, Ok, Err, IfOk, IfErr, IsErrOf, if◌then◌else◌}
+use Rattle.std.specs.Prelude.{◌≡◌, ◌⊎◌, ℕ, List, Bool, Option, Some, Result, Ok, Err, IfOk, IfErr, if◌then◌else◌}
 use Rattle.worktree_fs.specs.declared.interrupt.Interrupt.{Ghosts as InterruptOf}
 use Rattle.worktree_fs.specs.declared.owners.Owners.{Ghosts as OwnersOf}
 use Rattle.worktree_fs.specs.declared.worktree.Worktree.{Ghosts as WorktreeOf}
@@ -14,7 +14,6 @@ use Rattle.command_line.specs.Helps.{help_of, version}
 use Rattle.command_line.specs.Requests.{asks, is_misuse, request_in, seen}
 use Rattle.command_line.specs.declared.command.Command.{Command}
 use Rattle.command_line.specs.declared.command.Command.TheVariants as commands
-use Rattle.command_line.specs.declared.command.FilesAsked.{FilesAsked}
 use Rattle.command_line.specs.declared.command.Request.{Request}
 use Rattle.command_line.specs.declared.misuse.Misuse.TheVariants.{Word}
 use Rattle.command_line.specs.declared.misuse.Wrong.{Wrong}
@@ -25,7 +24,6 @@ use Rattle.git_setup.specs.declared.asked.Asked.{Asked}
 use Rattle.git_setup.specs.declared.found.Found.{Found}
 use Rattle.ls_files.specs.Choices.{walks}
 use Rattle.ls_files.specs.Excluded.{lists_excluded}
-use Rattle.ls_files.specs.declared.standings.Standings.{Standings}
 use Rattle.tizhagor.specs.declared.call.Call.{Call}
 use Rattle.tizhagor.specs.declared.refusal.HereRefusal.{HereRefusal}
 use Rattle.tizhagor.specs.declared.call.Call.TheVariants as calls
@@ -34,11 +32,12 @@ use Rattle.tizhagor.specs.declared.writing.Writing.{Writing}
 use Rattle.tizhagor.specs.declared.writing.Writing.TheVariants as writings
 use Rattle.tizhagor.specs.declared.reply.Reply.{Reply}
 use Rattle.tizhagor.specs.Asking.{asked_for, here_in}
+use Rattle.tizhagor.specs.Both.{walked_word}
 use Rattle.tizhagor.specs.Checks.{Checks}
-use Rattle.tizhagor.specs.OwnWords.{OwnWord, Says, cleaning_of, listing_of, word_in}
+use Rattle.tizhagor.specs.OwnWords.{OwnWord, Says, cleaning_of, listing_of, report_of, word_in}
 use Rattle.tizhagor.specs.Replies.{SaysPlainly}
 use Rattle.tizhagor.specs.RuleWords.{RuleWord, checking_of, excluding_of, word_said}
-use Rattle.tizhagor.specs.StatWords.{StatWord, changes_of, differences_of}
+use Rattle.tizhagor.specs.StatWords.{StatWord, changes_of, differences_of, states_of}
 use Rattle.tizhagor.specs.Refusals.{fault, memory, IsOfFinding}
 use Rattle.tizhagor.specs.Texts.{TextsBy}
 use Rattle.tizhagor.specs.Writing.{written}
@@ -130,14 +129,14 @@ pub record Offers {W I O : Type 0} (w0 w1 : W) (i0 i1 : I) (o0 o1 : O) (text : L
 -- ---- what the words ask for
 
 -- what a command asks for: a call, with what it asks of the work tree and how its text is written; one of git's own words; one that
--- asks which rules decide; a word that is told by stats too; both of these, `ls-files` with what a walk finds and with what changed; or a text
--- that is always the same
+-- asks which rules decide; a word that is told by stats too; a word of a walk and one that is told by stats; or a text that is always the
+-- same
 pub data Task : Type 0 where
   call_of : Call → Asked → Writing → Task
   word_of : OwnWord → Asked → Task
   check_of : RuleWord → Asked → Task
   compare_of : StatWord → Asked → Task
-  both_of : FilesAsked → Standings → Asked → Task
+  both_of : OwnWord → StatWord → Asked → Task
   offer_of : List ℕ → Task
 
 -- `takes_colors` says whether the output takes colours
@@ -145,11 +144,13 @@ abbrev pub task_of : Bool → Command → Task
 task_of takes_colors (commands.Report asked form) = call_of calls.Report (asked_for calls.Report asked) (writings.Lines (styled form takes_colors))
 task_of takes_colors (commands.Plan asked what finding form) = call_of (calls.Plan what finding) (asked_for (calls.Plan what finding) asked) (writings.Paths form.end)
 task_of takes_colors (commands.Modules asked) = call_of calls.Modules (asked_for calls.Modules asked) writings.AsItIs
-task_of takes_colors (commands.State asked form) = call_of calls.State (asked_for calls.State asked) (writings.Lines (styled form takes_colors))
+task_of takes_colors (commands.State asked form by_stat) =
+    if by_stat then both_of (report_of (writings.Lines (styled form takes_colors))) (states_of (writings.Lines (styled form takes_colors))) asked
+    else call_of calls.State (asked_for calls.State asked) (writings.Lines (styled form takes_colors))
 task_of takes_colors (commands.Files asked wants) =
     if lists_excluded wants.listing then check_of (excluding_of wants) asked else word_of (listing_of wants) asked
 task_of takes_colors (commands.Changed asked wants standings) =
-    if walks wants.listing then both_of wants standings asked else compare_of (changes_of wants standings) asked
+    if walks wants.listing then both_of (walked_word wants) (changes_of wants standings) asked else compare_of (changes_of wants standings) asked
 task_of takes_colors (commands.Clean asked wants) = word_of (cleaning_of wants) asked
 task_of takes_colors (commands.Check asked checking) = check_of (checking_of checking) asked
 task_of takes_colors (commands.Compare asked comparing) = compare_of (differences_of comparing) asked
@@ -182,7 +183,7 @@ AnswersTask w i o w0 w1 i0 i1 o0 o1 place directory answer (call_of call asked w
 AnswersTask w i o w0 w1 i0 i1 o0 o1 place directory answer (word_of word asked) = AnswersWord w i o w0 w1 i0 i1 o0 o1 (word_at place directory word asked) word answer
 AnswersTask w i o w0 w1 i0 i1 o0 o1 place directory answer (check_of wants asked) = Checks w o w0 w1 o0 o1 (answered_at place directory wants asked) answer × (i1 ≡ i0)
 AnswersTask w i o w0 w1 i0 i1 o0 o1 place directory answer (compare_of comparing asked) = ⊥
-AnswersTask w i o w0 w1 i0 i1 o0 o1 place directory answer (both_of wants standings asked) = ⊥
+AnswersTask w i o w0 w1 i0 i1 o0 o1 place directory answer (both_of word stat asked) = ⊥
 AnswersTask w i o w0 w1 i0 i1 o0 o1 place directory answer (offer_of text) = SaysPlainly (Offers w0 w1 i0 i1 o0 o1 text) answer
 
 -- the words ask for this

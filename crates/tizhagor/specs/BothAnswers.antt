@@ -1,4 +1,4 @@
--- What is answered to two words, the second behind the first: one of git's own words, and then one that is told by stats.
+-- What is answered to two words: one of git's own words, or the report, and then one that is told by stats.
 use Rattle.std.specs.Prelude.{◌≡◌, ◌⊎◌, Result, Ok, Err}
 use Rattle.diff_files.specs.Stats.{Told}
 use Rattle.diff_files.specs.declared.stats.Stats.{Ghosts as StatsOf}
@@ -11,15 +11,14 @@ use Rattle.worktree_fs.specs.Tree.{Names}
 use Rattle.tizhagor.specs.declared.refusal.HereRefusal.{HereRefusal}
 use Rattle.tizhagor.specs.declared.reply.Reply.{Reply}
 use Rattle.tizhagor.specs.Answers.{AnswersWord}
-use Rattle.tizhagor.specs.Both.{joined}
 use Rattle.tizhagor.specs.Compares.{Compares}
 use Rattle.tizhagor.specs.OwnWords.{OwnWord}
 use Rattle.tizhagor.specs.Refusals.{memory}
 
--- a reply and what is said behind it, or the refusal of that; or memory was wanted for both together
-abbrev pub IsJoined : Reply → Result Reply HereRefusal → Result Reply HereRefusal → Type 0
-IsJoined first (Ok second) answer = (answer ≡ Ok (joined first second)) ⊎ (answer ≡ Err memory)
-IsJoined first (Err e) answer = answer ≡ Err e
+-- two replies as `join` puts them together, or the refusal of the second; or memory was wanted for both together
+abbrev pub IsJoined : (Reply → Reply → Reply) → Reply → Result Reply HereRefusal → Result Reply HereRefusal → Type 0
+IsJoined join first (Ok second) answer = (answer ≡ Ok (join first second)) ⊎ (answer ≡ Err memory)
+IsJoined join first (Err e) answer = answer ≡ Err e
 
 -- The first word is refused, and the second is not asked for.
 pub record FirstRefuses {W I O D : Type 0} (w : WorktreeOf W) (i : InterruptOf I) (o : OwnersOf O) (w0 w1 : W) (i0 i1 : I) (o0 o1 : O) (d0 d1 : D)
@@ -31,16 +30,16 @@ pub record FirstRefuses {W I O D : Type 0} (w : WorktreeOf W) (i : InterruptOf I
 
 -- The first word has a reply. The second is answered over the worktree and the owners as they were by then, and asks no interrupt.
 pub record BothAnswer {W I O D : Type 0} (w : WorktreeOf W) (i : InterruptOf I) (o : OwnersOf O) (d : StatsOf D) (w0 w1 : W) (i0 i1 : I) (o0 o1 : O) (d0 d1 : D)
-    (walked : Names → Owned → Result Found HereRefusal) (word : OwnWord) (changed : Names → Owned → Told → Result Reply HereRefusal) (answer : Result Reply HereRefusal) : Type 0 where
+    (walked : Names → Owned → Result Found HereRefusal) (word : OwnWord) (join : Reply → Reply → Reply) (changed : Names → Owned → Told → Result Reply HereRefusal) (answer : Result Reply HereRefusal) : Type 0 where
   pub middle : W
   pub owners : O
   pub first : Reply
   pub second : Result Reply HereRefusal
   pub walks : AnswersWord w i o w0 middle i0 i1 o0 owners walked word (Ok first)
   pub compares : Compares w o d middle w1 owners o1 d0 d1 changed second
-  pub joined : IsJoined first second answer
+  pub joined : IsJoined join first second answer
 
 abbrev pub AnswersBoth : {W I O D : Type 0} → WorktreeOf W → InterruptOf I → OwnersOf O → StatsOf D → W → W → I → I → O → O → D → D
-    → (Names → Owned → Result Found HereRefusal) → OwnWord → (Names → Owned → Told → Result Reply HereRefusal) → Result Reply HereRefusal → Type 0
-AnswersBoth w i o d w0 w1 i0 i1 o0 o1 d0 d1 walked word changed answer =
-    FirstRefuses w i o w0 w1 i0 i1 o0 o1 d0 d1 walked word answer ⊎ BothAnswer w i o d w0 w1 i0 i1 o0 o1 d0 d1 walked word changed answer
+    → (Names → Owned → Result Found HereRefusal) → OwnWord → (Reply → Reply → Reply) → (Names → Owned → Told → Result Reply HereRefusal) → Result Reply HereRefusal → Type 0
+AnswersBoth w i o d w0 w1 i0 i1 o0 o1 d0 d1 walked word join changed answer =
+    FirstRefuses w i o w0 w1 i0 i1 o0 o1 d0 d1 walked word answer ⊎ BothAnswer w i o d w0 w1 i0 i1 o0 o1 d0 d1 walked word join changed answer

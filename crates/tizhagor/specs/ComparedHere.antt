@@ -1,4 +1,4 @@
--- What `diff-files`, and `ls-files` with `-d` or `-m`, answer to the words, among the other commands.
+-- What `diff-files`, and `ls-files` with `-d` or `-m`, answer to the words, and what stands beside a walk, among the other commands.
 use Rattle.std.specs.Prelude.{◌≡◌, ◌⊎◌, ℕ, List, Option, Some, Result, Ok, Err}
 use Rattle.command_line.specs.Requests.{Command, asks, request_in}
 use Rattle.command_line.specs.declared.command.Request.{Request}
@@ -14,11 +14,11 @@ use Rattle.worktree_fs.specs.Tree.{Names}
 use Rattle.tizhagor.specs.declared.refusal.HereRefusal.{HereRefusal}
 use Rattle.tizhagor.specs.declared.reply.Reply.{Reply}
 use Rattle.tizhagor.specs.Answers.{AnswersHere, AnswersTask, IsAsked, Place, Task, both_of, call_of, check_of, compare_of, offer_of, task_of, word_at, word_of}
-use Rattle.tizhagor.specs.Both.{walked_word}
+use Rattle.tizhagor.specs.Both.{join_of}
 use Rattle.tizhagor.specs.BothAnswers.{AnswersBoth}
 use Rattle.tizhagor.specs.Compares.{Compares}
 use Rattle.tizhagor.specs.Refusals.{memory}
-use Rattle.tizhagor.specs.StatWords.{StatWord, changes_of, told_in}
+use Rattle.tizhagor.specs.StatWords.{StatWord, told_in}
 
 -- what is said of the work tree around a directory
 abbrev pub replied_at : Place → Option (List ℕ) → Asked → StatWord → Names → Owned → Told → Result Reply HereRefusal
@@ -32,8 +32,8 @@ AnswersAny w i o d w0 w1 i0 i1 o0 o1 d0 d1 place directory answer (call_of call 
 AnswersAny w i o d w0 w1 i0 i1 o0 o1 d0 d1 place directory answer (word_of word asked) = AnswersTask w i o w0 w1 i0 i1 o0 o1 place directory answer (word_of word asked) × (d1 ≡ d0)
 AnswersAny w i o d w0 w1 i0 i1 o0 o1 d0 d1 place directory answer (check_of wants asked) = AnswersTask w i o w0 w1 i0 i1 o0 o1 place directory answer (check_of wants asked) × (d1 ≡ d0)
 AnswersAny w i o d w0 w1 i0 i1 o0 o1 d0 d1 place directory answer (compare_of comparing asked) = Compares w o d w0 w1 o0 o1 d0 d1 (replied_at place directory asked comparing) answer × (i1 ≡ i0)
-AnswersAny w i o d w0 w1 i0 i1 o0 o1 d0 d1 place directory answer (both_of wants standings asked) =
-    AnswersBoth w i o d w0 w1 i0 i1 o0 o1 d0 d1 (word_at place directory (walked_word wants) asked) (walked_word wants) (replied_at place directory asked (changes_of wants standings)) answer
+AnswersAny w i o d w0 w1 i0 i1 o0 o1 d0 d1 place directory answer (both_of word stat asked) =
+    AnswersBoth w i o d w0 w1 i0 i1 o0 o1 d0 d1 (word_at place directory word asked) word (join_of stat) (replied_at place directory asked stat) answer
 AnswersAny w i o d w0 w1 i0 i1 o0 o1 d0 d1 place directory answer (offer_of text) = AnswersTask w i o w0 w1 i0 i1 o0 o1 place directory answer (offer_of text) × (d1 ≡ d0)
 
 -- The words ask for what is told by stats, and this is the answer to it.
@@ -59,7 +59,7 @@ IsSaidBy t owned told place directory answer (call_of call asked writing) = ⊥
 IsSaidBy t owned told place directory answer (word_of word asked) = ⊥
 IsSaidBy t owned told place directory answer (check_of wants asked) = ⊥
 IsSaidBy t owned told place directory answer (compare_of comparing asked) = replied_at place directory asked comparing t owned told ≡ answer
-IsSaidBy t owned told place directory answer (both_of wants standings asked) = ⊥
+IsSaidBy t owned told place directory answer (both_of word stat asked) = ⊥
 IsSaidBy t owned told place directory answer (offer_of text) = ⊥
 
 abbrev pub IsComparing : Task → Type 0
@@ -67,7 +67,7 @@ IsComparing (call_of call asked writing) = ⊥
 IsComparing (word_of word asked) = ⊥
 IsComparing (check_of wants asked) = ⊥
 IsComparing (compare_of comparing asked) = Unit {0}
-IsComparing (both_of wants standings asked) = ⊥
+IsComparing (both_of word stat asked) = ⊥
 IsComparing (offer_of text) = ⊥
 
 -- The words ask for what is told by stats; where the stats are told, this is what it says.

@@ -1,12 +1,11 @@
--- What `diff-files` says of a work tree.
-use Rattle.std.specs.Prelude.{ℕ, List, [], Bool, true, not, ◌&&◌, ◌||◌, codes, Option, Some, None, Result, Ok, Err, if◌then◌else◌}
+-- What `diff-files`, and `state` with `--by-stat`, say of what changed in a work tree.
+use Rattle.std.specs.Prelude.{ℕ, List, [], Bool, false, not, ◌&&◌, ◌||◌, codes, Option, Some, None, Result, Ok, Err, if◌then◌else◌}
 use Rattle.gitbase_core.specs.Path.{is_empty}
 use Rattle.gitbase_core.specs.Steps.{and_then}
 use Rattle.command_line.specs.declared.comparing.Comparing.{Comparing}
 use Rattle.command_line.specs.declared.comparing.Ignoring.{Ignoring}
 use Rattle.command_line.specs.declared.comparing.Ignoring.TheVariants as ignorings
 use Rattle.diff_files.specs.Differences.{differences_in, out_of}
-use Rattle.diff_files.specs.KeptStats.{Outside}
 use Rattle.diff_files.specs.Stats.{Told}
 use Rattle.diff_files.specs.declared.answer.Differences.{Differences}
 use Rattle.diff_files.specs.declared.comparison.Comparison.{Comparison}
@@ -17,7 +16,6 @@ use Rattle.diff_files.specs.declared.comparison.Submodules.TheVariants as subs
 use Rattle.diff_files.specs.declared.error.DiffError.{DiffError}
 use Rattle.diff_files.specs.declared.error.Unanswered.{Unanswered}
 use Rattle.diff_files.specs.declared.stats.node_stat.NodeStat.{NodeStat}
-use Rattle.git_places.specs.Answers.{refused_as}
 use Rattle.git_places.specs.Places.{Layout}
 use Rattle.git_places.specs.Surroundings.{Surroundings}
 use Rattle.git_places.specs.Variables.{Variable, surroundings_of}
@@ -30,13 +28,18 @@ use Rattle.git_setup.specs.declared.settings.Settings.{Settings}
 use Rattle.worktree_fs.specs.Changes.{real_path}
 use Rattle.worktree_fs.specs.Owners.{Owned}
 use Rattle.worktree_fs.specs.Tree.{Names}
+use Rattle.tizhagor.specs.declared.compare.ChangeLines.{ChangeLines}
+use Rattle.tizhagor.specs.declared.compare.ChangeLines.TheVariants as lines
 use Rattle.tizhagor.specs.declared.compare.Placed.{Placed}
 use Rattle.tizhagor.specs.declared.refusal.HereRefusal.{HereRefusal}
 use Rattle.tizhagor.specs.declared.refusal.HereRefusal.TheVariants as errors
 use Rattle.tizhagor.specs.declared.refusal.Uncompared.TheVariants as reasons
 use Rattle.tizhagor.specs.declared.reply.Reply.{Reply}
+use Rattle.tizhagor.specs.declared.writing.Writing.{Writing}
 use Rattle.tizhagor.specs.Asking.{directory_in}
-use Rattle.tizhagor.specs.Refusals.{as_git, of_diff, of_git}
+use Rattle.tizhagor.specs.Refusals.{as_git, of_diff}
+use Rattle.tizhagor.specs.Replies.{plain}
+use Rattle.tizhagor.specs.StateLines.{state_comparing, stated_in}
 
 -- ---- where
 
@@ -129,23 +132,46 @@ replied t told comparing compared time =
     (differences_in (record { tree = t; stats = told }) compared.root compared.index compared.details (comparison_of comparing compared.settings time)
     compared.specs))
 
-abbrev pub replied_by : Names → Told → Placed → Asked → Comparing → ℕ → Result Reply HereRefusal
-replied_by t told placed asked comparing time =
-    and_then (λ (compared : Compared). replied t told comparing compared time) (compared_in t placed asked)
+-- ---- in the words of `state`
 
-abbrev pub replied_at : Names → Told → Placed → Asked → Comparing → Result Reply HereRefusal
-replied_at t told placed asked comparing =
-    and_then (λ (time : ℕ). replied_by t told placed asked comparing time) (index_time t told placed.places.git)
+abbrev pub as_states : Result (List ℕ) DiffError → Result Reply HereRefusal
+as_states (Ok text) = Ok (plain text)
+as_states (Err e) = Err (of_diff e)
+
+abbrev pub as_stated : Result (List ℕ) Unanswered → Result Reply HereRefusal
+as_stated (Ok text) = Ok (plain text)
+as_stated (Err refused) = Err (errors.Uncompared (reasons.Form refused))
+
+abbrev pub stated : Names → Told → Writing → Compared → ℕ → Result Reply HereRefusal
+stated t told writing compared time =
+    as_stated
+    (stated_in (record { tree = t; stats = told }) compared.root compared.index compared.details (comparison_of state_comparing compared.settings time)
+    compared.specs writing)
+
+-- ---- in the lines that are asked for
+
+abbrev pub replied_with : Names → Told → ChangeLines → Compared → ℕ → Result Reply HereRefusal
+replied_with t told (lines.Differences comparing) compared time = replied t told comparing compared time
+replied_with t told (lines.States writing) compared time = stated t told writing compared time
+
+abbrev pub replied_by : Names → Told → Placed → Asked → ChangeLines → ℕ → Result Reply HereRefusal
+replied_by t told placed asked wanted time =
+    and_then (λ (compared : Compared). replied_with t told wanted compared time) (compared_in t placed asked)
+
+abbrev pub replied_at : Names → Told → Placed → Asked → ChangeLines → Result Reply HereRefusal
+replied_at t told placed asked wanted =
+    and_then (λ (time : ℕ). replied_by t told placed asked wanted time) (index_time t told placed.places.git)
 
 -- "options '--name-only', '--name-status', '--check', and '-s' cannot be used together"
-abbrev pub is_exclusive : Comparing → Bool
-is_exclusive comparing = comparing.names && comparing.statuses
+abbrev pub is_exclusive : ChangeLines → Bool
+is_exclusive (lines.Differences comparing) = comparing.names && comparing.statuses
+is_exclusive (lines.States writing) = false
 
-abbrev pub replied_unless : Names → Told → Placed → Asked → Comparing → Result Reply HereRefusal
-replied_unless t told placed asked comparing =
-    if is_exclusive comparing then Err (errors.Uncompared reasons.Exclusive) else replied_at t told placed asked comparing
+abbrev pub replied_unless : Names → Told → Placed → Asked → ChangeLines → Result Reply HereRefusal
+replied_unless t told placed asked wanted =
+    if is_exclusive wanted then Err (errors.Uncompared reasons.Exclusive) else replied_at t told placed asked wanted
 
 -- what is said of the work tree around a directory, or the first refusal
-abbrev pub replied_in : Names → Owned → Told → List ℕ → List Variable → Option (List ℕ) → Asked → Comparing → Result Reply HereRefusal
-replied_in t owned told current variables directory asked comparing =
-    and_then (λ (placed : Placed). replied_unless t told placed asked comparing) (placed_in t owned current variables directory)
+abbrev pub replied_in : Names → Owned → Told → List ℕ → List Variable → Option (List ℕ) → Asked → ChangeLines → Result Reply HereRefusal
+replied_in t owned told current variables directory asked wanted =
+    and_then (λ (placed : Placed). replied_unless t told placed asked wanted) (placed_in t owned current variables directory)

@@ -14,7 +14,7 @@ abbrev pub reads : Command → Bool
 reads (commands.Report asked form) = false
 reads (commands.Plan asked what finding form) = false
 reads (commands.Modules asked) = false
-reads (commands.State asked form) = false
+reads (commands.State asked form by_stat) = false
 reads (commands.Files asked wants) = false
 reads (commands.Changed asked wants standings) = false
 reads (commands.Clean asked wants) = false

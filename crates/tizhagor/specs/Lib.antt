@@ -15,10 +15,12 @@ pub mod ExcludeFiles
 pub mod Listings
 pub mod Cleanings
 pub mod Texts
-pub mod OwnWords
 pub mod Writing
 pub mod Written
+pub mod QuietReport
+pub mod OwnWords
 pub mod Compares
+pub mod StateLines
 pub mod Comparing
 pub mod Changing
 pub mod StatWords

@@ -13,7 +13,6 @@ use Rattle.tizhagor.specs.declared.refusal.HereRefusal.TheVariants.{Program}
 use Rattle.tizhagor.specs.declared.writing.Writing.{Writing}
 use Rattle.tizhagor.specs.declared.reply.Reply.{Reply}
 use Rattle.tizhagor.specs.Answers.{IsAsked, Place, Task, answered_at, both_of, call_of, check_of, compare_of, found_at, offer_of, task_of, word_at, word_of}
-use Rattle.tizhagor.specs.Both.{walked_word}
 use Rattle.tizhagor.specs.Checks.{IsReply}
 use Rattle.tizhagor.specs.OwnWords.{IsSayable, OwnWord, RefusesWord, said_for}
 use Rattle.tizhagor.specs.Replies.{IsPlain, plain}
@@ -44,7 +43,7 @@ IsReplyFor composes t owned place directory reply (call_of call asked writing) =
 IsReplyFor composes t owned place directory reply (word_of word asked) = IsSaidOf composes t (word_at place directory word asked t owned) word reply
 IsReplyFor composes t owned place directory reply (check_of wants asked) = answered_at place directory wants asked t owned ≡ Ok reply
 IsReplyFor composes t owned place directory reply (compare_of comparing asked) = ⊥
-IsReplyFor composes t owned place directory reply (both_of wants standings asked) = ⊥
+IsReplyFor composes t owned place directory reply (both_of word stat asked) = ⊥
 IsReplyFor composes t owned place directory reply (offer_of text) = reply ≡ plain text
 
 -- what is said of the count of faults, where there is a reply
@@ -53,7 +52,7 @@ IsUnfaultedFor before now (call_of call asked writing) = IsUnfaultedBy call befo
 IsUnfaultedFor before now (word_of word asked) = now ≡ before
 IsUnfaultedFor before now (check_of wants asked) = now ≡ before
 IsUnfaultedFor before now (compare_of comparing asked) = now ≡ before
-IsUnfaultedFor before now (both_of wants standings asked) = now ≡ before
+IsUnfaultedFor before now (both_of word stat asked) = now ≡ before
 IsUnfaultedFor before now (offer_of text) = now ≡ before
 
 -- what has to be known of it besides, so that the reply is said
@@ -62,7 +61,7 @@ IsQuietWith before now (call_of call asked writing) = IsQuietFor call before now
 IsQuietWith before now (word_of word asked) = Unit {0}
 IsQuietWith before now (check_of wants asked) = Unit {0}
 IsQuietWith before now (compare_of comparing asked) = Unit {0}
-IsQuietWith before now (both_of wants standings asked) = Unit {0}
+IsQuietWith before now (both_of word stat asked) = Unit {0}
 IsQuietWith before now (offer_of text) = Unit {0}
 
 -- The words ask for something, and the worktree did not fail for it, but for a report.
@@ -103,14 +102,13 @@ pub record RefusesSaid (composes : Bool) (t : Names) (found : Result Found HereR
 abbrev pub RefusesWordOf : Bool → Names → Result Found HereRefusal → OwnWord → HereRefusal → Type 0
 RefusesWordOf composes t found word e = (found ≡ Err e) ⊎ RefusesSaid composes t found word e
 
--- of two listings the first; what the second is refused for stands beside these
+-- of two words the first; what the second is refused for stands beside these
 abbrev pub RefusesFor : Bool → Names → Owned → Place → Option (List ℕ) → HereRefusal → Task → Type 0
 RefusesFor composes t owned place directory e (call_of call asked writing) = RefusesCall composes t (found_at place directory asked t owned) call e
 RefusesFor composes t owned place directory e (word_of word asked) = RefusesWordOf composes t (word_at place directory word asked t owned) word e
 RefusesFor composes t owned place directory e (check_of wants asked) = answered_at place directory wants asked t owned ≡ Err e
 RefusesFor composes t owned place directory e (compare_of comparing asked) = ⊥
-RefusesFor composes t owned place directory e (both_of wants standings asked) =
-    RefusesWordOf composes t (word_at place directory (walked_word wants) asked t owned) (walked_word wants) e
+RefusesFor composes t owned place directory e (both_of word stat asked) = RefusesWordOf composes t (word_at place directory word asked t owned) word e
 RefusesFor composes t owned place directory e (offer_of text) = ⊥
 
 -- The words ask for something, and it is refused so over the tree.
@@ -125,7 +123,7 @@ IsNotFoundFor t owned place directory e (call_of call asked writing) = found_at 
 IsNotFoundFor t owned place directory e (word_of word asked) = word_at place directory word asked t owned ≡ Err e
 IsNotFoundFor t owned place directory e (check_of wants asked) = answered_at place directory wants asked t owned ≡ Err e
 IsNotFoundFor t owned place directory e (compare_of comparing asked) = ⊥
-IsNotFoundFor t owned place directory e (both_of wants standings asked) = word_at place directory (walked_word wants) asked t owned ≡ Err e
+IsNotFoundFor t owned place directory e (both_of word stat asked) = word_at place directory word asked t owned ≡ Err e
 IsNotFoundFor t owned place directory e (offer_of text) = ⊥
 
 -- No word is wrong, and no root and no setup is found for what they ask for.
@@ -154,7 +152,7 @@ IsReadyWith composes t owned place directory (call_of call asked writing) = IsRe
 IsReadyWith composes t owned place directory (word_of word asked) = IsSayableAt composes t (word_at place directory word asked t owned) word
 IsReadyWith composes t owned place directory (check_of wants asked) = IsReply (answered_at place directory wants asked t owned)
 IsReadyWith composes t owned place directory (compare_of comparing asked) = ⊥
-IsReadyWith composes t owned place directory (both_of wants standings asked) = ⊥
+IsReadyWith composes t owned place directory (both_of word stat asked) = ⊥
 IsReadyWith composes t owned place directory (offer_of text) = Unit {0}
 
 -- No word is wrong, and what the words ask for can be had.

@@ -1,4 +1,4 @@
--- What git's own words say of a work tree that is found.
+-- What git's own words, and the report beside what stats tell, say of a work tree that is found.
 --
 -- For each of them stands here what is found, the reply, what making it says, whether it can be had, and why there is none.
 use Rattle.std.specs.Prelude.{◌≡◌, ℕ, List, Bool, Option, option_map, Result, Ok, Err}
@@ -14,37 +14,45 @@ use Rattle.worktree_fs.specs.Tree.{Names}
 use Rattle.worktree_report.specs.declared.refusal.Refusal.{Refusal}
 use Rattle.tizhagor.specs.declared.refusal.HereRefusal.{HereRefusal}
 use Rattle.tizhagor.specs.declared.reply.Reply.{Reply}
+use Rattle.tizhagor.specs.declared.writing.Writing.{Writing}
+use Rattle.tizhagor.specs.Asking.{here_in}
 use Rattle.tizhagor.specs.Cleanings as clean
 use Rattle.tizhagor.specs.Cleanings.{Cleans, IsCleanable, cleanable_in, cleaned_for}
 use Rattle.tizhagor.specs.Listings as list
 use Rattle.tizhagor.specs.Listings.{IsListable, Lists, listable_in, listed_for, reply_of}
 use Rattle.tizhagor.specs.Replies.{plain}
+use Rattle.tizhagor.specs.QuietReport.{IsReportable, ReportsQuietly, reported_for}
 use Rattle.tizhagor.specs.Texts.{RefusesReport}
 
--- one of git's own words, with what is asked of it
+-- one of git's own words, with what is asked of it; or the report, and how it is written
 pub data OwnWord : Type 0 where
   listing_of : FilesAsked → OwnWord
   cleaning_of : CleanAsked → OwnWord
+  report_of : Writing → OwnWord
 
 -- the work tree around a directory and its setup, or the first refusal
 abbrev pub word_in : Names → Owned → List ℕ → List Variable → Option (List ℕ) → Asked → OwnWord → Result Found HereRefusal
 word_in t owned current variables directory asked (listing_of wants) = listable_in t owned current variables directory wants asked
 word_in t owned current variables directory asked (cleaning_of wants) = cleanable_in t owned current variables directory wants asked
+word_in t owned current variables directory asked (report_of writing) = here_in t owned current variables directory asked
 
 -- the reply, over a tree
 abbrev pub said_for : Bool → Names → Found → OwnWord → Option Reply
 said_for composes t here (listing_of wants) = option_map reply_of (listed_for composes t here wants)
 said_for composes t here (cleaning_of wants) = option_map plain (cleaned_for composes t here wants)
+said_for composes t here (report_of writing) = option_map plain (reported_for composes t here writing)
 
 -- it can be had
 abbrev pub IsSayable : Bool → Names → Found → OwnWord → Type 0
 IsSayable composes t here (listing_of wants) = IsListable composes t here wants
 IsSayable composes t here (cleaning_of wants) = IsCleanable composes t here wants
+IsSayable composes t here (report_of writing) = IsReportable composes t here
 
 -- it is refused over a tree
 abbrev pub RefusesWord : Bool → Names → Found → Refusal → OwnWord → Type 0
 RefusesWord composes t here refusal (listing_of wants) = RefusesReport composes t here.root (list.setup_for wants here) refusal
 RefusesWord composes t here refusal (cleaning_of wants) = RefusesReport composes t here.root (clean.setup_for wants here) refusal
+RefusesWord composes t here refusal (report_of writing) = RefusesReport composes t here.root here.setup refusal
 
 -- The reply is that of something that was made.
 pub record IsReplyOf {A : Type 0} (as_reply : A → Reply) (Makes : Result A Refusal → Type 0) (reply : Reply) : Type 0 where
@@ -61,3 +69,4 @@ Replies as_reply Makes (Err refusal) = Makes (Err refusal)
 abbrev pub Says : {W I : Type 0} → WorktreeOf W → InterruptOf I → W → W → I → I → Found → Result Reply Refusal → OwnWord → Type 0
 Says w i w0 w1 i0 i1 here answer (listing_of wants) = Replies reply_of (Lists w i w0 w1 i0 i1 wants here) answer
 Says w i w0 w1 i0 i1 here answer (cleaning_of wants) = Replies plain (Cleans w i w0 w1 i0 i1 wants here) answer
+Says w i w0 w1 i0 i1 here answer (report_of writing) = Replies plain (ReportsQuietly w i w0 w1 i0 i1 writing here) answer

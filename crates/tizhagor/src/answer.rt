@@ -17,11 +17,12 @@ ghost use Rattle.tizhagor.specs.Replies.{SaysPlainly, plain};
 ghost use Rattle.tizhagor.specs.declared.reply.Reply.{Reply as ReplyOf};
 
 use crate::both::both_here;
+use crate::by_stat::state_here;
 use crate::call::Call;
 use crate::changed::changed_here;
 use crate::check::check_here;
 use crate::clean::clean_here;
-use crate::compare::compare_here;
+use crate::compare::{ChangeLines, compare_here};
 use crate::ending::finish_here;
 use crate::excluding::excluded_here;
 use crate::fault::NamesFault;
@@ -156,13 +157,24 @@ fn reply_of<W: CountsFaults, O: Owners, D: Stats, I: Interrupt>(
                 writing,
             )
         }
-        Command::State { asked, form } => {
+        Command::State {
+            asked,
+            form,
+            by_stat,
+        } => {
             let writing = Writing::Lines(styled(form, takes_colors));
-            let call = Call::State;
-            reply_for(
-                alloc, worktree, owners, interrupt, current, variables, directory, call, asked,
-                writing,
-            )
+            if by_stat {
+                state_here(
+                    alloc, worktree, owners, stats, interrupt, current, variables, directory,
+                    &asked, writing,
+                )
+            } else {
+                let call = Call::State;
+                reply_for(
+                    alloc, worktree, owners, interrupt, current, variables, directory, call, asked,
+                    writing,
+                )
+            }
         }
         Command::Files { asked, files } => {
             if lists_excluded(&files.listing) {
@@ -199,9 +211,12 @@ fn reply_of<W: CountsFaults, O: Owners, D: Stats, I: Interrupt>(
         Command::Check { asked, checking } => check_here(
             alloc, worktree, owners, current, variables, directory, &asked, &checking, input,
         ),
-        Command::Compare { asked, comparing } => compare_here(
-            alloc, worktree, owners, stats, current, variables, directory, &asked, &comparing,
-        ),
+        Command::Compare { asked, comparing } => {
+            let lines = ChangeLines::Differences(comparing);
+            compare_here(
+                alloc, worktree, owners, stats, current, variables, directory, &asked, lines,
+            )
+        }
         Command::Help(topic) => offered(alloc, help_of(topic)),
         Command::Version => offered(alloc, version()),
     }
@@ -257,8 +272,8 @@ fn reply_asked<W: CountsFaults, O: Owners, D: Stats, I: Interrupt>(
 /// | 129 | a word is wrong; the line names it |
 /// | 130 | the interrupt was raised, and counted it |
 ///
-/// A work tree is read where it is the user's or safe, as `owners` tell whose it is. What `diff-files`, and `ls-files` with `-d` or
-/// `-m`, ask of nodes besides, `stats` tell.
+/// A work tree is read where it is the user's or safe, as `owners` tell whose it is. What `diff-files`, `ls-files` with `-d` or `-m`, and
+/// `state` with `--by-stat` ask of nodes besides, `stats` tell.
 ///
 /// With a status above 1 nothing goes to `out`, but where `out` itself refused bytes, a front of them. With each status above 1 a line goes
 /// to `err`, with 129 the usage behind it, with 0 none; that of a fault names the path of the worktree's first one. A refusal of `err`
@@ -361,7 +376,7 @@ pub fn answer_here<W: NamesFault, O: Owners, D: Stats, I: Interrupt, S: Sink, E:
         → (result ≤ 1) ⊎ IsToldOf E.Sink err.old err.new memory_line 128 result }
 
     // What is told by stats, over a told tree, told owners and told stats, with no fault counted: it ends as what is found over them does,
-    // with its reply or with the line of its refusal; or want of memory is told. So does what is told by a walk and behind it by stats,
+    // with its reply or with the line of its refusal; or want of memory is told. So does what is told by a walk and by stats,
     // where the walk can be had and no interrupt was raised.
     ensures compared { (t : Names) (owned : Owned) (told : Told)
         (wanted : ResultOf ReplyOf HereRefusal)

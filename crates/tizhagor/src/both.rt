@@ -33,7 +33,7 @@ fn walked_part(listing: &Listing) -> Listing
 }
 
 /// The first reply, and the second behind it.
-fn joined(alloc: Global, first: Reply, second: &Reply) -> Result<Reply, OutOfMemory>
+pub fn joined(alloc: Global, first: Reply, second: &Reply) -> Result<Reply, OutOfMemory>
     ensures { IfOk result (λ reply. reply ≡ words.joined first second.now) }
 {
     let Reply {
@@ -53,7 +53,7 @@ fn joined_with(
     first: Reply,
     second: Result<Reply, HereRefusal>,
 ) -> Result<Reply, HereRefusal>
-    ensures { IsJoined first second result }
+    ensures { IsJoined words.joined first second result }
 {
     let second = second?;
     Ok(joined(alloc, first, &second)?)
@@ -84,7 +84,7 @@ pub fn both_here<W: CountsFaults, O: Owners, D: Stats, I: Interrupt>(
     ensures { AnswersBoth W.Worktree I.Interrupt O.Owners D.Stats worktree.old worktree.new
         interrupt.old interrupt.new owners.old owners.new stats.old stats.new
         (λ t owned. listable_in t owned current.now variables.now directory.now
-        (words.walked wants) asked.now) (words.walked_word wants)
+        (words.walked wants) asked.now) (words.walked_word wants) words.joined
         (λ t owned told. listed_in t owned told current.now variables.now directory.now asked.now
         wants standings) result }
 {

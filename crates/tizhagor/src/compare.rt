@@ -1,4 +1,4 @@
-//! What `diff-files` says of the work tree around a directory.
+//! What `diff-files`, and `state` with `--by-stat`, say of what changed in the work tree around a directory.
 ghost use Rattle.std.specs.Prelude.{◌≡◌, IfErr, IfOk};
 ghost use Rattle.git_setup.specs.Compared.{compared_in, places_in};
 ghost use Rattle.tizhagor.specs.Compares.{Beside, Compares};
@@ -9,6 +9,8 @@ ghost use Rattle.tizhagor.specs.Refusals.{IsOfFinding};
 use crate::found::directory_in;
 use crate::refusal::{HereRefusal, Uncompared};
 use crate::reply::Reply;
+use crate::state_lines::state_with;
+use crate::writing::Writing;
 use command_line::{Comparing, Ignoring};
 use diff_files::{
     Comparison, DiffError, Differences, Form, NodeStat, Stats, Submodules, diff_files,
@@ -18,6 +20,15 @@ use git_setup::{Asked, Compared, GitRefusal, Settings, compared_at, index_path, 
 use gitbase_core::{Bytes, PathText};
 use std::alloc::Global;
 use worktree_fs::{Owners, Worktree};
+
+/// In which lines it is told what changed.
+#[derive(Clone, Copy, Debug, PartialEq, Eq)]
+pub enum ChangeLines {
+    /// Those of `diff-files`.
+    Differences(Comparing),
+    /// Those of `state`, written so.
+    States(Writing),
+}
 
 /// Where a work tree is compared: what git heeds besides the files, and where the repository lies.
 #[derive(Debug, Drop)]
@@ -268,6 +279,29 @@ fn compare_with<W: Worktree, D: Stats>(
     as_reply(alloc, comparing, answer)
 }
 
+/// The same in the lines that are asked for.
+fn reply_with<W: Worktree, D: Stats>(
+    alloc: Global,
+    worktree: &mut W,
+    stats: &mut D,
+    compared: &Compared,
+    lines: ChangeLines,
+    index_time: u32,
+) -> Result<Reply, HereRefusal>
+    ensures finds { Beside W.Worktree D.Stats worktree.old worktree.new stats.old stats.new
+        (λ t told. words.replied_with t told lines compared.now index_time) result }
+    ensures of { IfErr result IsOfFinding }
+{
+    match lines {
+        ChangeLines::Differences(comparing) => {
+            compare_with(alloc, worktree, stats, compared, &comparing, index_time)
+        }
+        ChangeLines::States(writing) => {
+            state_with(alloc, worktree, stats, compared, writing, index_time)
+        }
+    }
+}
+
 /// What is said by what is read of a work tree, where its index was last written at a time.
 fn compare_read<W: Worktree, D: Stats>(
     alloc: Global,
@@ -275,23 +309,26 @@ fn compare_read<W: Worktree, D: Stats>(
     stats: &mut D,
     placed: &Placed,
     asked: &Asked,
-    comparing: &Comparing,
+    lines: ChangeLines,
     index_time: u32,
 ) -> Result<Reply, HereRefusal>
     ensures finds { Beside W.Worktree D.Stats worktree.old worktree.new stats.old stats.new
-        (λ t told. words.replied_by t told placed.now asked.now comparing.now index_time)
+        (λ t told. words.replied_by t told placed.now asked.now lines index_time)
         result }
     ensures of { IfErr result IsOfFinding }
 {
     let compared = compared_here(alloc, worktree, placed, asked)?;
-    compare_with(alloc, worktree, stats, &compared, comparing, index_time)
+    reply_with(alloc, worktree, stats, &compared, lines, index_time)
 }
 
 /// Whether two forms are asked for that git does not print together.
-fn is_exclusive(comparing: &Comparing) -> bool
-    ensures { result ≡ words.is_exclusive comparing.now }
+fn is_exclusive(lines: ChangeLines) -> bool
+    ensures { result ≡ words.is_exclusive lines }
 {
-    comparing.names && comparing.statuses
+    match lines {
+        ChangeLines::Differences(comparing) => comparing.names && comparing.statuses,
+        ChangeLines::States(_) => false,
+    }
 }
 
 /// What is said of the work tree at a place. When the index was written is asked for before it is read, so that what changes between them
@@ -302,14 +339,14 @@ fn compare_at<W: Worktree, D: Stats>(
     stats: &mut D,
     placed: &Placed,
     asked: &Asked,
-    comparing: &Comparing,
+    lines: ChangeLines,
 ) -> Result<Reply, HereRefusal>
     ensures finds { Beside W.Worktree D.Stats worktree.old worktree.new stats.old stats.new
-        (λ t told. words.replied_at t told placed.now asked.now comparing.now) result }
+        (λ t told. words.replied_at t told placed.now asked.now lines) result }
     ensures of { IfErr result IsOfFinding }
 {
     let time = time_of_index(alloc, worktree, stats, &placed.places)?;
-    compare_read(alloc, worktree, stats, placed, asked, comparing, time)
+    compare_read(alloc, worktree, stats, placed, asked, lines, time)
 }
 
 /// The same, unless the words ask for what git does not print.
@@ -319,19 +356,19 @@ fn compare_placed<W: Worktree, D: Stats>(
     stats: &mut D,
     placed: &Placed,
     asked: &Asked,
-    comparing: &Comparing,
+    lines: ChangeLines,
 ) -> Result<Reply, HereRefusal>
     ensures finds { Beside W.Worktree D.Stats worktree.old worktree.new stats.old stats.new
-        (λ t told. words.replied_unless t told placed.now asked.now comparing.now) result }
+        (λ t told. words.replied_unless t told placed.now asked.now lines) result }
     ensures of { IfErr result IsOfFinding }
 {
-    if is_exclusive(comparing) {
+    if is_exclusive(lines) {
         return Err(HereRefusal::Uncompared(Uncompared::Exclusive));
     }
-    compare_at(alloc, worktree, stats, placed, asked, comparing)
+    compare_at(alloc, worktree, stats, placed, asked, lines)
 }
 
-/// What `diff-files` says of the work tree around the directory that is asked for, or why there is nothing of it.
+/// What is said of what changed in the work tree around the directory that is asked for, or why there is nothing of it.
 ///
 /// # Errors
 ///
@@ -349,12 +386,12 @@ pub fn compare_here<W: Worktree, O: Owners, D: Stats>(
     variables: &[Variable],
     directory: &Option<Bytes>,
     asked: &Asked,
-    comparing: &Comparing,
+    lines: ChangeLines,
 ) -> Result<Reply, HereRefusal>
     ensures { Compares W.Worktree O.Owners D.Stats worktree.old worktree.new owners.old
         owners.new stats.old stats.new (λ t owned told. words.replied_in t owned told current.now
-        variables.now directory.now asked.now comparing.now) result }
+        variables.now directory.now asked.now lines) result }
 {
     let placed = placed_here(alloc, worktree, owners, current, variables, directory)?;
-    compare_placed(alloc, worktree, stats, &placed, asked, comparing)
+    compare_placed(alloc, worktree, stats, &placed, asked, lines)
 }

@@ -33,7 +33,11 @@ fn reads(command: &Command) -> bool
             form: _,
         } => false,
         Command::Modules { asked: _ } => false,
-        Command::State { asked: _, form: _ } => false,
+        Command::State {
+            asked: _,
+            form: _,
+            by_stat: _,
+        } => false,
         Command::Files { asked: _, files: _ } => false,
         Command::Changed {
             asked: _,

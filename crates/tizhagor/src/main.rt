@@ -3,6 +3,7 @@
 
 mod answer;
 mod both;
+mod by_stat;
 mod call;
 mod changed;
 mod check;
@@ -21,8 +22,10 @@ mod input;
 mod lines;
 mod patterns;
 mod progress;
+mod quiet_report;
 mod refusal;
 mod reply;
+mod state_lines;
 #[cfg(test)]
 mod tests;
 mod texts;

@@ -12,7 +12,8 @@ use gitbase_core::Bytes;
 use rows::ROWS;
 use std::alloc::Global;
 use worktree_fs::{
-    MemoryOwners, MemorySink, MemoryWorktree, NewNode, OwnedNode, Ownership, PlannedInterrupt,
+    CallKind, MemoryOwners, MemorySink, MemoryWorktree, NewNode, OwnedNode, Ownership,
+    PlannedInterrupt,
 };
 use worktree_report::Refusal;
 
@@ -254,30 +255,62 @@ fn is_wanted(alloc: Global, answer: &Answer, want: &[u8]) -> bool {
     }
 }
 
-fn holds_for(alloc: Global, row: &[u8], interrupt: PlannedInterrupt, nth: u64) -> Option<bool> {
+/// A row, by its fields.
+#[derive(Clone, Copy)]
+struct Row<'a> {
+    words: &'a [u8],
+    current: &'a [u8],
+    variable: &'a [u8],
+    steps: &'a [u8],
+    want: &'a [u8],
+}
+
+fn row_of(row: &[u8]) -> Option<Row<'_>> {
     let (words, rest) = row.split_once_str(b"^")?;
     let (current, rest) = rest.split_once_str(b"^")?;
     let (variable, rest) = rest.split_once_str(b"^")?;
     let (steps, want) = rest.split_once_str(b"^")?;
-    let words = words_of(alloc, words)?;
-    let variables = variables_of(alloc, variable)?;
-    let mut tree = tree_of(alloc, steps)?;
-    let mut owners = owners_of(alloc, steps)?;
-    let mut stats = stats_of(alloc, steps)?;
-    let input = input_of(alloc, variable)?;
-    let answer = answer_of(
+    Some(Row {
+        words,
+        current,
+        variable,
+        steps,
+        want,
+    })
+}
+
+/// What the words of a row answer in a tree.
+fn said_in(
+    alloc: Global,
+    row: Row<'_>,
+    tree: &mut MemoryWorktree,
+    interrupt: PlannedInterrupt,
+    nth: u64,
+) -> Option<Answer> {
+    let words = words_of(alloc, row.words)?;
+    let variables = variables_of(alloc, row.variable)?;
+    let mut owners = owners_of(alloc, row.steps)?;
+    let mut stats = stats_of(alloc, row.steps)?;
+    let input = input_of(alloc, row.variable)?;
+    answer_of(
         alloc,
         &words,
-        current,
+        row.current,
         &variables,
         &input,
-        &mut tree,
+        tree,
         &mut owners,
         &mut stats,
         interrupt,
         nth,
-    )?;
-    Some(is_wanted(alloc, &answer, want))
+    )
+}
+
+fn holds_for(alloc: Global, row: &[u8], interrupt: PlannedInterrupt, nth: u64) -> Option<bool> {
+    let row = row_of(row)?;
+    let mut tree = tree_of(alloc, row.steps)?;
+    let answer = said_in(alloc, row, &mut tree, interrupt, nth)?;
+    Some(is_wanted(alloc, &answer, row.want))
 }
 
 /// The first row that does not hold.
@@ -339,4 +372,87 @@ fn names_the_path_of_a_fault(rt: HostRuntime) {
     }
     let memory = b"fatal: out of memory\n";
     assert!(rt; is_told(alloc, Refusal::OutOfMemory, b"/w/a", memory) == Some(true));
+}
+
+/// Calls of a worktree that fail one after another, how many of each kind.
+const FAILING: [CallKind; 6] = [
+    CallKind::Kind,
+    CallKind::KindFollowing,
+    CallKind::ListOpen,
+    CallKind::ListEntry,
+    CallKind::Read,
+    CallKind::RealPath,
+];
+
+const FAILING_EACH: u64 = 40;
+
+/// The status of words in a tree of which one call fails, how many faults were counted, and whether
+/// the output has anything.
+fn failing(alloc: Global, row: &[u8], call: CallKind, nth: u64) -> Option<(u8, u64, bool)> {
+    let row = row_of(row)?;
+    let mut tree = tree_of(alloc, row.steps)?;
+    tree.fail(alloc, call, nth).ok()?;
+    let never = PlannedInterrupt::never();
+    let answer = said_in(alloc, row, &mut tree, never, u64::MAX)?;
+    let tells = !answer.out.written().is_empty();
+    Some((answer.status, tree.fault_count(), tells))
+}
+
+/// The walk goes on with some faults. A report is given with them, and states by stat fields are not.
+#[test]
+fn states_by_stat_hide_no_fault(rt: HostRuntime) {
+    let alloc = rt.alloc();
+    let mut swallowed = 0;
+    for call in FAILING {
+        for nth in 1..=FAILING_EACH {
+            let state = failing(alloc, b"state --by-stat^/w^^%/w/a=f\x05\x02^", call, nth);
+            let Some((status, faults, tells)) = state else {
+                assert!(rt; false, "memory");
+                return;
+            };
+            assert!(rt;
+                (status == 0) == (faults == 0) && tells == (faults == 0),
+                "{call:?} {nth}"
+            );
+            if let Some((0, 1, true)) = failing(alloc, b"report^/w^^^", call, nth) {
+                swallowed = 1;
+            }
+        }
+    }
+    assert!(rt; swallowed == 1, "no report is given with a fault");
+}
+
+/// A row of `state --by-stat` whose stat fields tell all but where the index was written with the file.
+const STAMPED: &[u8] = b"state --by-stat^/w^^/w/.git/index=DIRC\0\0\0\x02\0\0\0\x01\
+\0\0\0\0\0\0\0\0\0\0\0\x05\0\0\0\0\0\0\0\0\0\0\0\0\0\0\x81\xa4\0\0\0\0\0\0\0\0\0\0\0\x02\
+\x58\x7b\xe6\xb4\xc3\xf9\x3f\x93\xc4\x89\xc0\x11\x1b\xba\x55\x96\x14\x7a\x26\xcb\0\x01a\0\
+\0\0\0\0\0\0\0\0\0\0\0\0\0\0\0\0\0\0\0\0;%/w/a=f\x05\x02;%/w/.git/index=f";
+
+/// How many files are read for it where the index was written at a time.
+fn reads_at(alloc: Global, time: u8) -> Option<u64> {
+    let mut row = STAMPED.to_vec(alloc).ok()?;
+    row.push(time).ok()?;
+    row.extend_from_slice(b"\x68^").ok()?;
+    let row = row_of(&row)?;
+    let mut tree = tree_of(alloc, row.steps)?;
+    let never = PlannedInterrupt::never();
+    let answer = said_in(alloc, row, &mut tree, never, u64::MAX)?;
+    if answer.status != 0 {
+        return None;
+    }
+    Some(tree.read_count())
+}
+
+/// A file is read where the index was not written later than it, and not where it was.
+#[test]
+fn states_by_stat_read_what_stats_do_not_tell(rt: HostRuntime) {
+    let alloc = rt.alloc();
+    match (reads_at(alloc, 6), reads_at(alloc, 5)) {
+        (Some(told), Some(untold)) => {
+            assert!(rt; untold == told.saturating_add(1), "{told} {untold}");
+        }
+        _ => {
+            assert!(rt; false, "no answer");
+        }
+    }
 }

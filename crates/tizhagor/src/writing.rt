@@ -20,7 +20,7 @@ pub enum Writing {
 }
 
 /// The bytes that are written for a text.
-fn bytes_of(alloc: Global, writing: Writing, text: Bytes) -> Result<Bytes, OutOfMemory>
+pub fn bytes_of(alloc: Global, writing: Writing, text: Bytes) -> Result<Bytes, OutOfMemory>
     ensures { IfOk result (λ bytes. bytes ≡ words.written writing text) }
 {
     match writing {

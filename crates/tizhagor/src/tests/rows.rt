@@ -18,6 +18,45 @@ plan^/w/d^^^128^^fatal: what is to be deleted is told at the top of the work tre
 modules^/w^^^0^^|\
 state^/w^^^0^untracked file - always - -\t.gitignore~untracked file - always - -\tb~untracked file - always - -\td/e~^|\
 state^/w^^/w/a=y~^0^modified\ta~untracked file - always - -\t.gitignore~untracked file - always - -\tb~untracked file - always - -\td/e~^|\
+state --by-stat^/w^^^0^deleted\ta~untracked file - always - -\t.gitignore~untracked file - always - -\tb~untracked file - always - -\td/e~^|\
+state --by-stat^/w/d^^%/w/a=f\x05\x02^0^modified\ta~untracked file - always - -\t.gitignore~untracked file - always - -\tb~untracked file - always - -\td/e~^|\
+-C w state --by-stat -z^/^^%/w/a=d\x05\x02^0^deleted\ta\0untracked file - always - -\t.gitignore\0untracked file - always - -\tb\0untracked file - always - -\td/e\0^|\
+state --by-stat^/w^^/w/.git/index=DIRC\0\0\0\x02\0\0\0\x01\
+\0\0\0\0\0\0\0\0\0\0\0\x05\0\0\0\0\0\0\0\0\0\0\0\0\0\0\x81\xa4\0\0\0\0\0\0\0\0\0\0\0\x02\x58\x7b\xe6\xb4\xc3\xf9\x3f\x93\xc4\x89\xc0\x11\x1b\xba\x55\x96\x14\x7a\x26\xcb\0\x01a\0\
+\0\0\0\0\0\0\0\0\0\0\0\0\0\0\0\0\0\0\0\0;%/w/a=f\x05\x02;%/w/.git/index=f\x06\x68;/w/a=y~^0^untracked file - always - -\t.gitignore~untracked file - always - -\tb~untracked file - always - -\td/e~^|\
+state^/w^^/w/.git/index=DIRC\0\0\0\x02\0\0\0\x01\
+\0\0\0\0\0\0\0\0\0\0\0\x05\0\0\0\0\0\0\0\0\0\0\0\0\0\0\x81\xa4\0\0\0\0\0\0\0\0\0\0\0\x02\x58\x7b\xe6\xb4\xc3\xf9\x3f\x93\xc4\x89\xc0\x11\x1b\xba\x55\x96\x14\x7a\x26\xcb\0\x01a\0\
+\0\0\0\0\0\0\0\0\0\0\0\0\0\0\0\0\0\0\0\0;%/w/a=f\x05\x02;%/w/.git/index=f\x06\x68;/w/a=y~^0^modified\ta~untracked file - always - -\t.gitignore~untracked file - always - -\tb~untracked file - always - -\td/e~^|\
+state --by-stat^/w^^/w/.git/index=DIRC\0\0\0\x02\0\0\0\x02\
+\0\0\0\0\0\0\0\0\0\0\0\0\0\0\0\0\0\0\0\0\0\0\0\0\0\0\x81\xa4\0\0\0\0\0\0\0\0\0\0\0\0\x58\x7b\xe6\xb4\xc3\xf9\x3f\x93\xc4\x89\xc0\x11\x1b\xba\x55\x96\x14\x7a\x26\xcb\x20\x01a\0\
+\0\0\0\0\0\0\0\0\0\0\0\0\0\0\0\0\0\0\0\0\0\0\0\0\0\0\x81\xa4\0\0\0\0\0\0\0\0\0\0\0\0\x58\x7b\xe6\xb4\xc3\xf9\x3f\x93\xc4\x89\xc0\x11\x1b\xba\x55\x96\x14\x7a\x26\xcb\x30\x01a\0\
+\0\0\0\0\0\0\0\0\0\0\0\0\0\0\0\0\0\0\0\0;%/w/a=f\x05\x02^0^conflicted\ta~untracked file - always - -\t.gitignore~untracked file - always - -\tb~untracked file - always - -\td/e~^|\
+state --by-stat^/w^^/w/.git/index=DIRC\0\0\0\x02\0\0\0\x01\
+\0\0\0\0\0\0\0\0\0\0\0\x05\0\0\0\0\0\0\0\0\0\0\0\0\0\0\x81\xa4\0\0\0\0\0\0\0\0\0\0\0\x02\x58\x7b\xe6\xb4\xc3\xf9\x3f\x93\xc4\x89\xc0\x11\x1b\xba\x55\x96\x14\x7a\x26\xcb\0\x01a\0\
+\0\0\0\0\0\0\0\0\0\0\0\0\0\0\0\0\0\0\0\0;%/w/a=f\x05\x02;%/w/.git/index=f\x05\x68;/w/.git/info/attributes=^128^^fatal: diff-files is not supported where bytes are converted: 'a'~|\
+state --by-stat^/w/.git^^^128^^fatal: this operation must be run in a work tree~|\
+report --by-stat^/w^^^129^^error: unknown option `--by-stat'~usage: tizhagor [-C DIR] report|\
+state --by-stat^/w^^/w/.git/index=DIRC\0\0\0\x02\0\0\0\x01\
+\0\0\0\0\0\0\0\0\0\0\0\x05\0\0\0\0\0\0\0\0\0\0\0\0\0\0\x81\xa4\0\0\0\0\0\0\0\0\0\0\0\x02\x58\x7b\xe6\xb4\xc3\xf9\x3f\x93\xc4\x89\xc0\x11\x1b\xba\x55\x96\x14\x7a\x26\xcb\0\x01a\0\
+\0\0\0\0\0\0\0\0\0\0\0\0\0\0\0\0\0\0\0\0;%/w/a=f\x05\x02;%/w/.git/index=f\x05\x68^0^untracked file - always - -\t.gitignore~untracked file - always - -\tb~untracked file - always - -\td/e~^|\
+state --by-stat^/w^^/w/.git/index=DIRC\0\0\0\x02\0\0\0\x01\
+\0\0\0\0\0\0\0\0\0\0\0\x05\0\0\0\0\0\0\0\0\0\0\0\0\0\0\x81\xa4\0\0\0\0\0\0\0\0\0\0\0\x02\x58\x7b\xe6\xb4\xc3\xf9\x3f\x93\xc4\x89\xc0\x11\x1b\xba\x55\x96\x14\x7a\x26\xcb\0\x01a\0\
+\0\0\0\0\0\0\0\0\0\0\0\0\0\0\0\0\0\0\0\0;%/w/a=f\x05\x02;%/w/.git/index=f\x05\x68;/w/a=y~^0^modified\ta~untracked file - always - -\t.gitignore~untracked file - always - -\tb~untracked file - always - -\td/e~^|\
+state --by-stat^/w^^/w/.git/index=DIRC\0\0\0\x02\0\0\0\x01\
+\0\0\0\0\0\0\0\0\0\0\0\x05\0\0\0\0\0\0\0\0\0\0\0\0\0\0\x81\xa4\0\0\0\0\0\0\0\0\0\0\0\x02\x58\x7b\xe6\xb4\xc3\xf9\x3f\x93\xc4\x89\xc0\x11\x1b\xba\x55\x96\x14\x7a\x26\xcb\0\x01a\0\
+\0\0\0\0\0\0\0\0\0\0\0\0\0\0\0\0\0\0\0\0;%/w/a=x\x05\x02;%/w/.git/index=f\x06\x68^0^modified\ta~untracked file - always - -\t.gitignore~untracked file - always - -\tb~untracked file - always - -\td/e~^|\
+state --by-stat^/w^^/w/.git/index=DIRC\0\0\0\x02\0\0\0\x02\
+\0\0\0\0\0\0\0\0\0\0\0\x05\0\0\0\0\0\0\0\0\0\0\0\0\0\0\x81\xa4\0\0\0\0\0\0\0\0\0\0\0\x02\x58\x7b\xe6\xb4\xc3\xf9\x3f\x93\xc4\x89\xc0\x11\x1b\xba\x55\x96\x14\x7a\x26\xcb\0\x01a\0\
+\0\0\0\0\0\0\0\0\0\0\0\0\0\0\0\0\0\0\0\0\0\0\0\0\0\0\x81\xa4\0\0\0\0\0\0\0\0\0\0\0\0\x58\x7b\xe6\xb4\xc3\xf9\x3f\x93\xc4\x89\xc0\x11\x1b\xba\x55\x96\x14\x7a\x26\xcb\0\x01z\0\
+\0\0\0\0\0\0\0\0\0\0\0\0\0\0\0\0\0\0\0\0^0^deleted\ta~deleted\tz~untracked file - always - -\t.gitignore~untracked file - always - -\tb~untracked file - always - -\td/e~^|\
+state --by-stat^/w^^/w/.git/index=DIRC\0\0\0\x02\0\0\0\x02\
+\0\0\0\0\0\0\0\0\0\0\0\x05\0\0\0\0\0\0\0\0\0\0\0\0\0\0\x81\xa4\0\0\0\0\0\0\0\0\0\0\0\x02\x58\x7b\xe6\xb4\xc3\xf9\x3f\x93\xc4\x89\xc0\x11\x1b\xba\x55\x96\x14\x7a\x26\xcb\0\x01a\0\
+\0\0\0\0\0\0\0\0\0\0\0\0\0\0\0\0\0\0\0\0\0\0\0\0\0\0\xe0\0\0\0\0\0\0\0\0\0\0\0\0\0\x58\x7b\xe6\xb4\xc3\xf9\x3f\x93\xc4\x89\xc0\x11\x1b\xba\x55\x96\x14\x7a\x26\xcb\0\x01m\0\
+\0\0\0\0\0\0\0\0\0\0\0\0\0\0\0\0\0\0\0\0;%/w/a=f\x05\x02;%/w/.git/index=f\x06\x68^0^untracked file - always - -\t.gitignore~untracked file - always - -\tb~untracked file - always - -\td/e~^|\
+state --by-stat^/w^^/w/.git/index=DIRC\0\0\0\x02\0\0\0\x01\
+\0\0\0\0\0\0\0\0\0\0\0\0\0\0\0\0\0\0\0\0\0\0\0\0\0\0\x81\xa4\0\0\0\0\0\0\0\0\0\0\0\0\x58\x7b\xe6\xb4\xc3\xf9\x3f\x93\xc4\x89\xc0\x11\x1b\xba\x55\x96\x14\x7a\x26\xcb\x80\x01a\0\
+\0\0\0\0\0\0\0\0\0\0\0\0\0\0\0\0\0\0\0\0^0^untracked file - always - -\t.gitignore~untracked file - always - -\tb~untracked file - always - -\td/e~^|\
+state --by-stat --color=always^/w^^^0^deleted\ta~\x1b[31muntracked file - always - -\t.gitignore\x1b[0m~\x1b[31muntracked file - always - -\tb\x1b[0m~\x1b[31muntracked file - always - -\td/e\x1b[0m~^|\
 --version^/^^^0^tizhagor, unreleased~^|\
 ^/w^^^129^^error: no command is given~usage: tizhagor [-C DIR] report|\
 frob^/w^^^129^^error: unknown command `frob'~usage: tizhagor [-C DIR] report|\

@@ -9,13 +9,13 @@ pub returns-in_err-time-clause-finds : goal.returns-in_err-time-clause-finds
 returns-in_err-time-clause-finds g c =
     let p = err_from_is_err_and c.from_residual.result c.from_residual.ensures.1 in
     rw (p.1, p.2)
-    (stops g.W.Worktree g.D.Stats _ _ _ _ c.in_err-time.field-0.0 (λ t told. index_time t told c.args.placed.now.places.git) (λ t told. replied_at t told c.args.placed.now c.args.asked.now c.args.comparing.now)
-    (λ t told h. ap (and_then (λ (time : ℕ). replied_by t told c.args.placed.now c.args.asked.now c.args.comparing.now time)) h)
+    (stops g.W.Worktree g.D.Stats _ _ _ _ c.in_err-time.field-0.0 (λ t told. index_time t told c.args.placed.now.places.git) (λ t told. replied_at t told c.args.placed.now c.args.asked.now c.args.lines)
+    (λ t told h. ap (and_then (λ (time : ℕ). replied_by t told c.args.placed.now c.args.asked.now c.args.lines time)) h)
     c.in_err-time.ensures.finds)
 
 pub returns-clause-finds : goal.returns-clause-finds
 returns-clause-finds g c =
-    goes_on g.W.Worktree g.D.Stats _ _ _ _ _ _ c.in_ok-time.time (λ t told. index_time t told c.args.placed.now.places.git) (λ t told. replied_by t told c.args.placed.now c.args.asked.now c.args.comparing.now c.in_ok-time.time)
-    (λ t told. replied_at t told c.args.placed.now c.args.asked.now c.args.comparing.now) c.compare_read.result
-    (λ t told h. ap (and_then (λ (time : ℕ). replied_by t told c.args.placed.now c.args.asked.now c.args.comparing.now time)) h)
+    goes_on g.W.Worktree g.D.Stats _ _ _ _ _ _ c.in_ok-time.time (λ t told. index_time t told c.args.placed.now.places.git) (λ t told. replied_by t told c.args.placed.now c.args.asked.now c.args.lines c.in_ok-time.time)
+    (λ t told. replied_at t told c.args.placed.now c.args.asked.now c.args.lines) c.compare_read.result
+    (λ t told h. ap (and_then (λ (time : ℕ). replied_by t told c.args.placed.now c.args.asked.now c.args.lines time)) h)
     c.in_ok-time.ensures.finds c.compare_read.ensures.finds

@@ -1,0 +1,81 @@
+//! The report of a work tree, where the worktree did not fail for it.
+ghost use Rattle.std.specs.Prelude.{◌≡◌};
+ghost use Rattle.tizhagor.specs.Answers as answers;
+ghost use Rattle.tizhagor.specs.Asking.{here_in};
+ghost use Rattle.tizhagor.specs.OwnWords as own;
+ghost use Rattle.tizhagor.specs.QuietReport.{IsQuietly, ReportsQuietly};
+
+use crate::found::found_here;
+use crate::refusal::HereRefusal;
+use crate::reply::{Reply, of_text, replied};
+use crate::writing::{Writing, bytes_of};
+use git_places::Variable;
+use git_setup::{Asked, Found};
+use gitbase_core::Bytes;
+use std::alloc::Global;
+use worktree_fs::{Interrupt, Owners};
+use worktree_report::{CountsFaults, Refusal, has_failed_since, walked_text};
+
+/// The bytes of a text, unless the worktree failed since its count of faults was `before`.
+fn quietly<W: CountsFaults>(
+    alloc: Global,
+    worktree: &W,
+    before: u64,
+    writing: Writing,
+    answer: Result<Bytes, Refusal>,
+) -> Result<Bytes, Refusal>
+    ensures { IsQuietly before (W.faults worktree.now) writing answer result }
+{
+    let text = answer?;
+    if has_failed_since(worktree, before) {
+        return Err(Refusal::Fault);
+    }
+    Ok(bytes_of(alloc, writing, text)?)
+}
+
+/// The report of a work tree that is found, as it is written; none where the worktree failed for
+/// it, also where the walk goes on with such a fault.
+fn report_in<W: CountsFaults, I: Interrupt>(
+    alloc: Global,
+    worktree: &mut W,
+    interrupt: &mut I,
+    found: &Found,
+    writing: Writing,
+) -> Result<Bytes, Refusal>
+    ensures { ReportsQuietly W.Worktree I.Interrupt worktree.old worktree.new interrupt.old
+        interrupt.new writing found.now result }
+{
+    let before = worktree.fault_count();
+    let root = found.root.as_bytes();
+    let answer = walked_text(alloc, worktree, interrupt, root, &found.setup);
+    quietly(alloc, worktree, before, writing, answer)
+}
+
+/// The report of the work tree around the directory that is asked for, or why there is none.
+///
+/// # Errors
+///
+/// As [`found_here`] says; `Program` has the refusal of the report, `Fault` also for a fault with
+/// which the walk goes on, and where the count of faults stands at its last value.
+pub fn report_here<W: CountsFaults, O: Owners, I: Interrupt>(
+    alloc: Global,
+    worktree: &mut W,
+    owners: &mut O,
+    interrupt: &mut I,
+    current: &[u8],
+    variables: &[Variable],
+    directory: &Option<Bytes>,
+    asked: &Asked,
+    writing: Writing,
+) -> Result<Reply, HereRefusal>
+    ensures { answers.AnswersWord W.Worktree I.Interrupt O.Owners worktree.old worktree.new
+        interrupt.old interrupt.new owners.old owners.new
+        (λ t owned. here_in t owned current.now variables.now directory.now asked.now)
+        (own.report_of writing) result }
+{
+    let found = found_here(
+        alloc, worktree, owners, current, variables, directory, asked,
+    )?;
+    let answer = report_in(alloc, worktree, interrupt, &found, writing);
+    replied(of_text(alloc, answer))
+}
