@@ -7,8 +7,8 @@ use Rattle.std.specs.Option.{option_or}
 use Rattle.bstr.specs.Text.{lines_of, without_terminator}
 use Rattle.glob_rules.specs.declared.ignore.RuleGroup.{RuleGroup}
 use Rattle.glob_rules.specs.declared.ignore.RuleGroup.TheVariants as groups
-use Rattle.check_ignore.specs.declared.checking.NamedRules.{NamedRules}
-use Rattle.check_ignore.specs.declared.checking.OuterRules.{OuterRules}
+use Rattle.check_ignore.specs.declared.options.NamedRules.{NamedRules}
+use Rattle.check_ignore.specs.declared.options.OuterRules.{OuterRules}
 use Rattle.check_ignore.specs.declared.found_rule.FoundRule.{FoundRule}
 
 -- ---- a line of a file

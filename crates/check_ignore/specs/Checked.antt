@@ -10,8 +10,8 @@ use Rattle.check_ignore.specs.Links.{all_asked}
 use Rattle.check_ignore.specs.Tracked.{not_sparse, outside_modules}
 use Rattle.check_ignore.specs.declared.answer.Answered.{Answered}
 use Rattle.check_ignore.specs.declared.asked.AskedPath.{AskedPath}
-use Rattle.check_ignore.specs.declared.checking.Checking.{Checking}
-use Rattle.check_ignore.specs.declared.checking.OuterRules.{OuterRules}
+use Rattle.check_ignore.specs.declared.options.Checking.{Checking}
+use Rattle.check_ignore.specs.declared.options.OuterRules.{OuterRules}
 use Rattle.check_ignore.specs.declared.found_rule.FoundRule.{FoundRule}
 use Rattle.check_ignore.specs.declared.stop.Stop.{Stop}
 

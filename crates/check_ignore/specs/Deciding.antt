@@ -24,8 +24,8 @@ use Rattle.check_ignore.specs.Links.{is_directory, kind_at}
 use Rattle.check_ignore.specs.Outer.{all_excluder, made_of as made, source_of}
 use Rattle.check_ignore.specs.Tracked.{is_tracked}
 use Rattle.check_ignore.specs.declared.asked.AskedPath.{AskedPath}
-use Rattle.check_ignore.specs.declared.checking.Checking.{Checking}
-use Rattle.check_ignore.specs.declared.checking.OuterRules.{OuterRules}
+use Rattle.check_ignore.specs.declared.options.Checking.{Checking}
+use Rattle.check_ignore.specs.declared.options.OuterRules.{OuterRules}
 use Rattle.check_ignore.specs.declared.found_rule.FoundRule.{FoundRule}
 use Rattle.check_ignore.specs.declared.found_rule.RulePlace.{RulePlace}
 use Rattle.check_ignore.specs.declared.stop.Stop.{Stop}

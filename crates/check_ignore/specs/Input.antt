@@ -8,8 +8,8 @@ use Rattle.check_ignore.specs.Checked.{checked, nothing, with_answer}
 use Rattle.check_ignore.specs.Lines.{or_nul}
 use Rattle.check_ignore.specs.Unquoted.{unquoted}
 use Rattle.check_ignore.specs.declared.answer.Answered.{Answered}
-use Rattle.check_ignore.specs.declared.checking.Checking.{Checking}
-use Rattle.check_ignore.specs.declared.checking.OuterRules.{OuterRules}
+use Rattle.check_ignore.specs.declared.options.Checking.{Checking}
+use Rattle.check_ignore.specs.declared.options.OuterRules.{OuterRules}
 use Rattle.check_ignore.specs.declared.stop.Stop.{Stop}
 use Rattle.check_ignore.specs.declared.stop.Stop.TheVariants as stops
 

@@ -8,9 +8,9 @@ use Rattle.glob_rules.specs.Rule.{without_front}
 use Rattle.glob_rules.specs.declared.ignore.RuleGroup.{RuleGroup}
 use Rattle.glob_rules.specs.declared.ignore.RuleGroup.TheVariants.{Overrides, Directory, Globals}
 use Rattle.worktree_fs.specs.Tree.{Names, Look, found, absent, too_many_links, file, link, directory, other, look}
-use Rattle.check_ignore.specs.declared.checking.Checking.{Checking}
-use Rattle.check_ignore.specs.declared.checking.NamedRules.{NamedRules}
-use Rattle.check_ignore.specs.declared.checking.OuterRules.{OuterRules}
+use Rattle.check_ignore.specs.declared.options.Checking.{Checking}
+use Rattle.check_ignore.specs.declared.options.NamedRules.{NamedRules}
+use Rattle.check_ignore.specs.declared.options.OuterRules.{OuterRules}
 use Rattle.check_ignore.specs.declared.found_rule.FoundRule.{FoundRule}
 
 -- ---- the pattern, as its line has it

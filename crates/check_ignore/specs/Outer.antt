@@ -6,8 +6,8 @@ use Rattle.glob_rules.specs.Ignore.{Hit, Rules, entries, search_hit}
 use Rattle.worktree_stack.specs.Mappings.{case_of, mappings_in}
 use Rattle.worktree_stack.specs.Setup.{Setup, Made}
 use Rattle.worktree_stack.specs.declared.ignore_source.Source.TheVariants.{WorktreeThenIdMappingIfNotSkipped}
-use Rattle.check_ignore.specs.declared.checking.NamedRules.{NamedRules}
-use Rattle.check_ignore.specs.declared.checking.OuterRules.{OuterRules}
+use Rattle.check_ignore.specs.declared.options.NamedRules.{NamedRules}
+use Rattle.check_ignore.specs.declared.options.OuterRules.{OuterRules}
 use Rattle.check_ignore.specs.declared.found_rule.RulePlace.{RulePlace}
 
 -- the rules of a file outside the work tree: they are for every path beneath the top

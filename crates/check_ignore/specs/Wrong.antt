@@ -1,7 +1,7 @@
 -- Which words there are not: git-check-ignore(1), "OPTIONS".
 use Rattle.std.specs.Prelude.{ℕ, List, not, ◌&&◌, ◌==◌, nat_lt, Option, Some, None, codes, if◌then◌else◌}
 use Rattle.std.specs.Option.{option_or}
-use Rattle.check_ignore.specs.declared.checking.Checking.{Checking}
+use Rattle.check_ignore.specs.declared.options.Checking.{Checking}
 use Rattle.check_ignore.specs.declared.wrong.WrongCheck.{WrongCheck}
 use Rattle.check_ignore.specs.declared.wrong.WrongCheck.TheVariants as wrongs
 

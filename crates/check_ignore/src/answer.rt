@@ -4,11 +4,11 @@ ghost use Rattle.check_ignore.specs.Checked as words;
 ghost use Rattle.check_ignore.specs.Finds.{Finds};
 
 use crate::asked::AskedPath;
-use crate::checking::{Checking, OuterRules};
-use crate::deciding::{counted, rule_of};
+use crate::decision::{counted, rule_of};
 use crate::found_rule::FoundRule;
 use crate::line::line;
 use crate::links::all_asked;
+use crate::options::{Checking, OuterRules};
 use crate::stop::Stop;
 use crate::tracked::{not_sparse, outside_modules};
 use gitbase_core::{Bytes, OutOfMemory, State as Index};
@@ -125,8 +125,8 @@ fn answers<W: Worktree>(
 ///   symbolic link stands above it.
 /// - `Inside`: a path lies in a submodule, the first of the index in which one does.
 /// - Of the first path of which one holds, and of which the index has nothing: `Everything`: a rule
-///   outside the work tree excludes all, as `*` behind a byte order mark does; `Unread`: the rules above it are not read;
-///   `Slash`: it is the top, or asks for a directory that no rule excludes.
+///   outside the work tree excludes all, as `*` behind a byte order mark does; `Unread`: the rules
+///   above it are not read; `Slash`: it is the top, or asks for a directory that no rule excludes.
 ///
 /// Besides, wherever it comes:
 ///

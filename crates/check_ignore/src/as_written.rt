@@ -2,8 +2,8 @@
 ghost use Rattle.std.specs.Prelude.{◌≡◌, IfOk, option_copied};
 ghost use Rattle.check_ignore.specs.AsWritten as words;
 
-use crate::checking::{NamedRules, OuterRules};
 use crate::found_rule::FoundRule;
+use crate::options::{NamedRules, OuterRules};
 use bstr::ByteSlice;
 use gitbase_core::{Bytes, OutOfMemory};
 use glob_rules::ignore::RuleGroup;

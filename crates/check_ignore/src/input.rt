@@ -5,7 +5,7 @@ ghost use Rattle.check_ignore.specs.Finds.{Decides};
 ghost use Rattle.check_ignore.specs.Input as words;
 ghost use Rattle.check_ignore.specs.Unquoted.{unquoted};
 
-use crate::checking::Checking;
+use crate::options::Checking;
 use crate::quotes::unquoted;
 use crate::stop::Stop;
 use gitbase_core::{Bytes, OutOfMemory};

@@ -3,8 +3,8 @@ ghost use Rattle.std.specs.Prelude.{◌≡◌, ◌++◌, decimal, Ok, IfOk, OnOk
 ghost use Rattle.check_ignore.specs.Finds.{Finds};
 ghost use Rattle.check_ignore.specs.Lines as words;
 
-use crate::checking::{Checking, OuterRules};
 use crate::found_rule::FoundRule;
+use crate::options::{Checking, OuterRules};
 use crate::stop::Stop;
 use crate::written::pattern_in;
 use git_paths::add_quoted;

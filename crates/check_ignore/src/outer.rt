@@ -6,8 +6,8 @@ ghost use Rattle.worktree_stack.specs.Reading.{Sources};
 ghost use Rattle.worktree_stack.specs.Stacked.{IsInStep, made_of};
 ghost use Rattle.check_ignore.specs.Outer as words;
 
-use crate::checking::{NamedRules, OuterRules};
 use crate::found_rule::RulePlace;
+use crate::options::{NamedRules, OuterRules};
 use git_setup::rules_below_top;
 use gitbase_core::{Bytes, OutOfMemory, PathText, State as Index};
 use glob_rules::Case;

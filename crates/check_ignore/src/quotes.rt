@@ -113,8 +113,9 @@ fn past(bytes: &[u8], count: usize) -> &[u8]
     &bytes[count..]
 }
 
-/// What stands in quotes, by what follows the one that opens them, up to the one that closes them: each byte but a backslash means itself,
-/// a backslash and a letter, or three octal digits, mean another. None where no quote closes it, or something else follows a backslash.
+/// What stands in quotes, by what follows the one that opens them, up to the one that closes them:
+/// each byte but a backslash means itself, a backslash and a letter, or three octal digits, mean
+/// another. None where no quote closes it, or something else follows a backslash.
 ///
 /// # Errors
 ///

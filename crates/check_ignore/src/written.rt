@@ -3,8 +3,8 @@ ghost use Rattle.std.specs.Prelude.{◌≡◌, ◌++◌, ◌-◌, Ok, IfOk, OnOk
 ghost use Rattle.check_ignore.specs.Finds.{Finds};
 ghost use Rattle.check_ignore.specs.Lines as words;
 
-use crate::checking::{NamedRules, OuterRules};
 use crate::found_rule::FoundRule;
+use crate::options::{NamedRules, OuterRules};
 use crate::stop::Stop;
 use gitbase_core::{Bytes, OutOfMemory, without_mark};
 use glob_rules::ignore::RuleGroup;

@@ -2,7 +2,7 @@
 ghost use Rattle.std.specs.Prelude.{◌≡◌, Some, None, if◌then◌else◌};
 ghost use Rattle.check_ignore.specs.Wrong as words;
 
-use crate::checking::Checking;
+use crate::options::Checking;
 
 /// Why nothing is asked: git refuses the words.
 #[derive(Clone, Copy, Debug, PartialEq, Eq)]

@@ -1,11 +1,14 @@
 //! What git answers of paths; made by `scripts/ask-git-check-ignore` with git version 2.39.5.
 //!
-//! A row has the number of the tree, the directory, the options, parted by `|`, how many paths there are, the paths, parted by `|`, or
-//! with `--stdin` what is given on the standard input, the status, what git prints to its output, with `$` in the place of each LF, and what
-//! stands behind `fatal: ` in what it prints besides. Where git refuses a line of the input, what it prints of the lines before is left out.
-//! A tree has the rules outside the work tree, parted by `;`: `R` is the repository's, `U` the user's, each with its name and its text, and `Rx` has its bytes in hexadecimal digits; the
-//! paths of the index: `m` is that of a submodule; and its steps: `d` is a directory, `f` a file with its text, `x` one with its bytes in
-//! hexadecimal digits, and `l` a link.
+//! A row has the number of the tree, the directory, the options, parted by `|`, how many paths
+//! there are, the paths, parted by `|`, or with `--stdin` what is given on the standard input, the
+//! status, what git prints to its output, with `$` in the place of each LF, and what stands behind
+//! `fatal: ` in what it prints besides. Where git refuses a line of the input, what it prints of
+//! the lines before is left out. A tree has the rules outside the work tree, parted by `;`: `R` is
+//! the repository's, `U` the user's, each with its name and its text, and `Rx` has its bytes in
+//! hexadecimal digits; the paths of the index: `m` is that of a submodule; and its steps: `d` is a
+//! directory, `f` a file with its text, `x` one with its bytes in hexadecimal digits, and `l` a
+//! link.
 
 /// The trees, one a line.
 pub const TREES: &[u8] = b"\

@@ -12,7 +12,7 @@ use Rattle.gitbase_core.specs.Path.{lies_beneath}
 use Rattle.dir_walk.specs.Covered.{IsIn}
 use Rattle.dir_walk.specs.Distinct.{AreFlat, Ascends, IsOverNone}
 use Rattle.dir_walk.specs.Emissions.{Emission, is_before, path_of}
-use Rattle.dir_walk.proofs.Members.{in-all}
+use Rattle.dir_walk.proofs.Order.Members.{in-all}
 
 pub flat-in : (all : List Emission) (x y : Emission) → AreFlat all → IsIn x all → IsIn y all → lies_beneath (path_of x) (path_of y) ≡ false
 flat-in all x y flat here there = in-all (λ (z : Emission). lies_beneath (path_of x) (path_of z) ≡ false) y all (in-all (IsOverNone all) x all flat here) there

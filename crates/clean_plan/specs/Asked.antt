@@ -2,7 +2,7 @@
 use Rattle.std.specs.Prelude.{ℕ, List, Bool, Option, is_some}
 use Rattle.gitbase_core.specs.declared.entry.IndexEntry.{IndexEntry}
 use Rattle.glob_rules.specs.PathSpec.{PathSpec}
-use Rattle.clean_plan.specs.declared.cleaning.Cleaning.{Cleaning}
+use Rattle.clean_plan.specs.declared.inputs.Cleaning.{Cleaning}
 use Rattle.clean_plan.specs.declared.what.OtherNodes.{OtherNodes}
 use Rattle.clean_plan.specs.declared.what.TakenOut.{TakenOut}
 use Rattle.clean_plan.specs.declared.what.What.{What}

@@ -6,9 +6,9 @@ ghost use Rattle.clean_plan.specs.Prepared.{is_prepared};
 ghost use Rattle.clean_plan.specs.Setups.{asked_in, start_of};
 ghost use Rattle.clean_plan.specs.Wanted.{as_reported};
 
-use crate::cleaning::Cleaning;
 use crate::current::{current_below, current_dir_of, start_of};
 use crate::error::CleanError;
+use crate::inputs::Cleaning;
 use crate::outcome::Plan;
 use crate::planned::planned;
 use crate::what::{Finding, Wanted, What};

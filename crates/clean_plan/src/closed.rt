@@ -3,8 +3,8 @@ ghost use Rattle.std.specs.Prelude.{◌≡◌, ◌<◌, ◌&&◌, ◌∷◌, ◌
 ghost use Rattle.gitbase_core.specs.Path.{is_top, lies_beneath};
 ghost use Rattle.clean_plan.specs.Closed as words;
 
-use crate::cleaning::Cleaning;
 use crate::fronts::is_above;
+use crate::inputs::Cleaning;
 use crate::kept::takes_out;
 use crate::what::TakenOut;
 use dir_classify::{Entry, Kind};

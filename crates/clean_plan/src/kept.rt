@@ -6,7 +6,7 @@ ghost use Rattle.clean_plan.specs.Asked.{asked_by};
 ghost use Rattle.clean_plan.specs.Kept as kept;
 ghost use Rattle.dir_classify.specs.Layers.{IsLookupIf};
 
-use crate::cleaning::Cleaning;
+use crate::inputs::Cleaning;
 use gitbase_core::{
     AccelerateLookup, PathText, State, is_dot_git, is_path_prefix, split_component,
 };

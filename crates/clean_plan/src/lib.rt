@@ -2,12 +2,13 @@
 #![tactic(auto)]
 
 mod by_setup;
-mod cleaning;
 mod closed;
 mod current;
 mod error;
 mod fronts;
+mod inputs;
 mod kept;
+mod left_in_place;
 mod outcome;
 mod paths;
 mod planned;
@@ -16,7 +17,6 @@ mod program;
 mod removable;
 mod shared;
 mod sift;
-mod staying;
 mod what;
 mod whole;
 mod words;

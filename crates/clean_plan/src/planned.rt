@@ -7,10 +7,10 @@ ghost use Rattle.clean_plan.specs.Plans.{IsPlan, entries_of};
 ghost use Rattle.clean_plan.specs.Targets.{ArePlanned};
 ghost use Rattle.clean_plan.specs.Whole.{is_whole_among};
 
-use crate::cleaning::Cleaning;
+use crate::inputs::Cleaning;
+use crate::left_in_place::staying;
 use crate::paths::Paths;
 use crate::sift::sift;
-use crate::staying::staying;
 use crate::whole::{Known, target};
 use gitbase_core::{OutOfMemory, PathText};
 use std::alloc::Global;

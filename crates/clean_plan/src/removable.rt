@@ -8,8 +8,8 @@ ghost use Rattle.clean_plan.specs.Kept as kept;
 ghost use Rattle.dir_classify.specs.Layers.{IsLookupIf};
 ghost use Rattle.clean_plan.specs.Removable as removable;
 
-use crate::cleaning::Cleaning;
 use crate::closed::is_closed;
+use crate::inputs::Cleaning;
 use crate::kept::{is_kept, takes_out};
 use crate::what::What;
 use dir_classify::{Entry, Kind, PathspecMatch, Status};

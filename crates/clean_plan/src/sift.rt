@@ -9,8 +9,8 @@ ghost use Rattle.clean_plan.specs.Kept.{takes_out};
 ghost use Rattle.clean_plan.specs.Sifted.{IsLooked, IsSifted, with_path};
 ghost use Rattle.clean_plan.specs.Whole.{spoils};
 
-use crate::cleaning::Cleaning;
 use crate::fronts::add_above;
+use crate::inputs::Cleaning;
 use crate::paths::Paths;
 use crate::removable::is_removable;
 use crate::shared::shared_length;

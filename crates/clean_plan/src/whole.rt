@@ -7,8 +7,8 @@ ghost use Rattle.clean_plan.specs.Kept as kept;
 ghost use Rattle.dir_classify.specs.Layers.{IsLookupIf};
 ghost use Rattle.clean_plan.specs.Whole.{is_whole_among};
 
-use crate::cleaning::Cleaning;
 use crate::fronts::is_above;
+use crate::inputs::Cleaning;
 use crate::kept::{is_kept, takes_out};
 use crate::paths::Paths;
 use crate::shared::shared_length;

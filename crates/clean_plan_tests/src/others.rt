@@ -8,8 +8,8 @@ use test_cases::{held, parted_by, text_of};
 use worktree_fs::{MemoryWorktree, PlannedInterrupt};
 use worktree_report::Setup;
 
-/// Cases, each behind an `@`: the nodes, the lines of a setup, those of the plan where other nodes may
-/// go, as reported, and of the one where they stay, as git sees them.
+/// Cases, each behind an `@`: the nodes, the lines of a setup, those of the plan where other nodes
+/// may go, as reported, and of the one where they stay, as git sees them.
 const ROWS: &[u8] = b"\
 @
 nodes:

@@ -8,8 +8,8 @@ use test_cases::{held, parted_by, text_of};
 use worktree_fs::{MemoryWorktree, PlannedInterrupt};
 use worktree_report::Setup;
 
-/// Cases, each behind an `@`: the nodes, the lines of a setup, what is asked for, and the paths that
-/// are wanted or why there is no plan.
+/// Cases, each behind an `@`: the nodes, the lines of a setup, what is asked for, and the paths
+/// that are wanted or why there is no plan.
 const ROWS: &[u8] = b"\
 @
 nodes:

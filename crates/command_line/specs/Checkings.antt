@@ -2,10 +2,10 @@
 use Rattle.std.specs.Prelude.{ℕ, List, Bool, true, false, ◌||◌, ◌==◌, nat_eq, drop, codes, Option, Some, None, option_map, if◌then◌else◌}
 use Rattle.std.specs.List.{starts_with}
 use Rattle.std.specs.Str.{bytes_eq}
-use Rattle.check_ignore.specs.declared.checking.Checking.{Checking}
-use Rattle.command_line.specs.declared.checking.CheckAsked.{CheckAsked}
-use Rattle.command_line.specs.declared.checking.CheckChoice.{CheckChoice}
-use Rattle.command_line.specs.declared.checking.CheckChoice.TheVariants as choices
+use Rattle.check_ignore.specs.declared.options.Checking.{Checking}
+use Rattle.command_line.specs.declared.check_options.CheckAsked.{CheckAsked}
+use Rattle.command_line.specs.declared.check_options.CheckChoice.{CheckChoice}
+use Rattle.command_line.specs.declared.check_options.CheckChoice.TheVariants as choices
 use Rattle.command_line.specs.declared.opt.Opt.{Opt}
 use Rattle.command_line.specs.declared.opt.Opt.TheVariants as opts
 use Rattle.command_line.specs.Options.{first_of}

@@ -9,8 +9,8 @@ use Rattle.command_line.specs.declared.opt.Opt.TheVariants as opts
 use Rattle.command_line.specs.Options.{first_of}
 
 -- those that `no-` before them turns off
-abbrev pub choice_of : List ℕ → Option Choice
-choice_of name =
+abbrev pub negatable_choice_of : List ℕ → Option Choice
+negatable_choice_of name =
     if bytes_eq name (codes "cached") then Some choices.Cached
     else if bytes_eq name (codes "stage") then Some choices.Stages
     else if bytes_eq name (codes "unmerged") then Some choices.Unmerged
@@ -59,7 +59,7 @@ dropped choice = option_map (λ (c : Choice). opts.Drops c) choice
 
 -- the option of a choice by its name, dropped behind `no-`
 abbrev pub chosen_by : List ℕ → Option Opt
-chosen_by name = if starts_with nat_eq name (codes "no-") then dropped (choice_of (drop 3 name)) else made (choice_of name)
+chosen_by name = if starts_with nat_eq name (codes "no-") then dropped (negatable_choice_of (drop 3 name)) else made (negatable_choice_of name)
 
 -- the option that a long name means to `ls-files`: one that nothing drops, or a choice
 abbrev pub choosing : List ℕ → Option Opt

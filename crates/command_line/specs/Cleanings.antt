@@ -2,10 +2,10 @@
 use Rattle.std.specs.Prelude.{ℕ, List, [], ◌∷◌, Bool, true, false, not, ◌||◌, ◌&&◌, ◌==◌, nat_eq, is_some, position, drop, codes, Option, Some, None, option_map, if◌then◌else◌}
 use Rattle.std.specs.List.{starts_with, ends_with}
 use Rattle.std.specs.Str.{bytes_eq}
-use Rattle.command_line.specs.declared.cleaning.CleanChoice.{CleanChoice}
-use Rattle.command_line.specs.declared.cleaning.CleanChoice.TheVariants as choices
-use Rattle.command_line.specs.declared.cleaning.Force.{Force}
-use Rattle.command_line.specs.declared.cleaning.Force.TheVariants as forces
+use Rattle.command_line.specs.declared.clean_options.CleanChoice.{CleanChoice}
+use Rattle.command_line.specs.declared.clean_options.CleanChoice.TheVariants as choices
+use Rattle.command_line.specs.declared.clean_options.Force.{Force}
+use Rattle.command_line.specs.declared.clean_options.Force.TheVariants as forces
 use Rattle.command_line.specs.declared.opt.Opt.{Opt}
 use Rattle.command_line.specs.declared.opt.Opt.TheVariants as opts
 

@@ -2,11 +2,11 @@
 use Rattle.std.specs.Prelude.{ℕ, List, Bool, true, false, ◌||◌, ◌==◌, nat_eq, drop, codes, Option, Some, None, option_map, if◌then◌else◌}
 use Rattle.std.specs.List.{list_any, starts_with}
 use Rattle.std.specs.Str.{bytes_eq}
-use Rattle.command_line.specs.declared.comparing.CompareChoice.{CompareChoice}
-use Rattle.command_line.specs.declared.comparing.CompareChoice.TheVariants as choices
-use Rattle.command_line.specs.declared.comparing.Comparing.{Comparing}
-use Rattle.command_line.specs.declared.comparing.Ignoring.{Ignoring}
-use Rattle.command_line.specs.declared.comparing.Ignoring.TheVariants as ignorings
+use Rattle.command_line.specs.declared.compare_options.CompareChoice.{CompareChoice}
+use Rattle.command_line.specs.declared.compare_options.CompareChoice.TheVariants as choices
+use Rattle.command_line.specs.declared.compare_options.Comparing.{Comparing}
+use Rattle.command_line.specs.declared.compare_options.Ignoring.{Ignoring}
+use Rattle.command_line.specs.declared.compare_options.Ignoring.TheVariants as ignorings
 use Rattle.command_line.specs.declared.opt.Opt.{Opt}
 use Rattle.command_line.specs.declared.opt.Opt.TheVariants as opts
 use Rattle.command_line.specs.Options.{first_of}

@@ -14,13 +14,13 @@ use Rattle.worktree_report.specs.Permissions.{all_permissions, isolated_permissi
 use Rattle.worktree_report.specs.declared.permissions.Permissions.{Permissions}
 use Rattle.worktree_report.specs.declared.setup.SetupOptions.{SetupOptions}
 use Rattle.worktree_stack.specs.declared.ignore_source.Source.TheVariants as sources
-use Rattle.git_clean.specs.declared.cleaning.Cleaning.{Cleaning}
-use Rattle.ls_files.specs.declared.listing.Listing.{Listing}
+use Rattle.git_clean.specs.declared.options.Cleaning.{Cleaning}
+use Rattle.ls_files.specs.declared.options.Listing.{Listing}
 use Rattle.command_line.specs.declared.choice.Choice.{Choice}
 use Rattle.command_line.specs.declared.choice.Choice.TheVariants as choices
-use Rattle.command_line.specs.declared.cleaning.CleanChoice.{CleanChoice}
-use Rattle.command_line.specs.declared.cleaning.CleanChoice.TheVariants as cleans
-use Rattle.command_line.specs.declared.cleaning.Force.TheVariants as forces
+use Rattle.command_line.specs.declared.clean_options.CleanChoice.{CleanChoice}
+use Rattle.command_line.specs.declared.clean_options.CleanChoice.TheVariants as cleans
+use Rattle.command_line.specs.declared.clean_options.Force.TheVariants as forces
 use Rattle.command_line.specs.declared.draft.Draft.{Draft}
 use Rattle.command_line.specs.declared.form.Color.{Color}
 use Rattle.command_line.specs.declared.form.Color.TheVariants.{Auto}
@@ -35,8 +35,8 @@ use Rattle.command_line.specs.ChangeWords.{no_changes, with_change}
 use Rattle.command_line.specs.Checkings.{default_checking, told_of}
 use Rattle.command_line.specs.Cleanings.{forced}
 use Rattle.command_line.specs.Comparings.{default_comparing, told_apart}
-use Rattle.command_line.specs.declared.checking.CheckChoice.{CheckChoice}
-use Rattle.command_line.specs.declared.comparing.CompareChoice.{CompareChoice}
+use Rattle.command_line.specs.declared.check_options.CheckChoice.{CheckChoice}
+use Rattle.command_line.specs.declared.compare_options.CompareChoice.{CompareChoice}
 
 -- Each untracked path by itself and nothing else, by the rules that git asks: what lies in an excluded directory stays excluded.
 -- Whether letters compare without regard to their case is left to the configuration.

@@ -12,7 +12,7 @@ use Rattle.command_line.specs.declared.step.Step.TheVariants as steps
 use Rattle.command_line.specs.declared.verb.Verb.{Verb}
 use Rattle.command_line.specs.Drafts.{default_draft}
 use Rattle.command_line.specs.RulesGiven.{RulesGiven, no_rules, with_ruling}
-use Rattle.command_line.specs.Steps.{step_of}
+use Rattle.command_line.specs.Steps.{word_step}
 
 -- what the options say, the paths as they are written, and the rules; or the first word that is wrong, and how
 pub data Reading : Type 0 where
@@ -45,7 +45,7 @@ stepped (steps.Wrong how) word onward draft next paths rules = wrong how word
 unfoldable pub read_on : Verb → List (List ℕ) → Draft → Next → List (List ℕ) → RulesGiven → Reading
 read_on verb [] draft next paths rules = ended draft next paths rules
 read_on verb (word ∷ words) draft next paths rules =
-    stepped (step_of verb next word draft) word (λ d n p q. read_on verb words d n p q) draft next paths rules
+    stepped (word_step verb next word draft) word (λ d n p q. read_on verb words d n p q) draft next paths rules
 
 -- what the words of a command say together
 abbrev pub read_words : Verb → List (List ℕ) → Reading

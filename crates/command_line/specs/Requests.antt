@@ -4,14 +4,14 @@ use Rattle.std.specs.List.{starts_with}
 use Rattle.std.specs.Str.{bytes_eq}
 use Rattle.clean_plan.specs.declared.what.Finding.{Finding}
 use Rattle.clean_plan.specs.declared.what.What.{What}
-use Rattle.git_clean.specs.declared.cleaning.Cleaning.{Cleaning}
+use Rattle.git_clean.specs.declared.options.Cleaning.{Cleaning}
 use Rattle.git_setup.specs.declared.asked.Asked.{Asked}
-use Rattle.ls_files.specs.declared.listing.Listing.{Listing}
+use Rattle.ls_files.specs.declared.options.Listing.{Listing}
 use Rattle.ls_files.specs.declared.standings.Standings.{Standings}
 use Rattle.worktree_report.specs.declared.setup.SetupOptions.{SetupOptions}
-use Rattle.command_line.specs.declared.checking.CheckAsked.{CheckAsked}
-use Rattle.command_line.specs.declared.cleaning.Force.{Force}
-use Rattle.command_line.specs.declared.comparing.Comparing.{Comparing}
+use Rattle.command_line.specs.declared.check_options.CheckAsked.{CheckAsked}
+use Rattle.command_line.specs.declared.clean_options.Force.{Force}
+use Rattle.command_line.specs.declared.compare_options.Comparing.{Comparing}
 use Rattle.command_line.specs.declared.command.Command as code
 use Rattle.command_line.specs.declared.command.Command.TheVariants as commands
 use Rattle.command_line.specs.declared.command.Request.{Request}

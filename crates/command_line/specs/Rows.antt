@@ -28,8 +28,8 @@ abbrev pub behind_space : List ℕ → List ℕ
 behind_space words = behind_place (position (λ b. b == 32) words) words
 
 -- the letters of a status; another word stands for itself
-abbrev pub letters_of : List ℕ → List ℕ
-letters_of status =
+abbrev pub status_letters : List ℕ → List ℕ
+status_letters status =
     if bytes_eq status (codes "untracked") then codes "??"
     else if bytes_eq status (codes "ignored") then codes "!!"
     else if bytes_eq status (codes "precious") then codes "$$"
@@ -72,7 +72,7 @@ in_words end words path = words ++ 9 ∷ path_text end path
 -- the letters of the status, which is the first word, and the path, with a slash behind it by the kind on disk, which is the second
 abbrev pub in_letters : LineEnd → List ℕ → List ℕ → List ℕ
 in_letters end words path =
-    letters_of (first_word words) ++ 32 ∷ path_text end path ++ slash_of (first_word (behind_space words))
+    status_letters (first_word words) ++ 32 ∷ path_text end path ++ slash_of (first_word (behind_space words))
 
 -- the text of a line in words or in letters
 abbrev body_in : Wording → LineEnd → List ℕ → List ℕ → List ℕ

@@ -27,9 +27,9 @@ use Rattle.command_line.specs.declared.verb.Verb.TheVariants as verbs
 use Rattle.command_line.specs.Checkings.{checking_opt_of, checking_opt_of_letter}
 use Rattle.command_line.specs.Choices.{listing_opt_of, listing_opt_of_letter}
 use Rattle.command_line.specs.Comparings.{comparing_opt_of, comparing_opt_of_letter, ignoring_of}
-use Rattle.command_line.specs.declared.comparing.CompareChoice.TheVariants as compare_choices
-use Rattle.command_line.specs.declared.comparing.Ignoring.{Ignoring}
-use Rattle.command_line.specs.declared.comparing.Ignoring.TheVariants as ignorings
+use Rattle.command_line.specs.declared.compare_options.CompareChoice.TheVariants as compare_choices
+use Rattle.command_line.specs.declared.compare_options.Ignoring.{Ignoring}
+use Rattle.command_line.specs.declared.compare_options.Ignoring.TheVariants as ignorings
 use Rattle.command_line.specs.Cleanings.{cleaning_opt_of, cleaning_opt_of_letter, is_line}
 use Rattle.command_line.specs.Drafts.{with_switch, with_untracked, with_ignored, with_collapsed, with_deletion, with_permissions, with_strategy, with_wording, with_end, with_color, with_what, with_finding, with_depth, with_choice, with_clean_choice, with_force, with_compare_choice, with_check_choice, with_by_stat, with_help}
 use Rattle.command_line.specs.Options.{opt_of, opt_of_letter, takes, emission_of, collapsed_of, deletion_of}
@@ -324,11 +324,11 @@ any verb [] draft = undashed verb
 any verb (b ∷ text) draft = if b == 45 then dashed verb text draft else undashed verb
 
 -- what a word says, by what was said before it
-abbrev pub step_of : Verb → Next → List ℕ → Draft → Step
-step_of verb nexts.Any word draft = any verb word draft
-step_of verb nexts.Depth word draft = depth_by word draft
-step_of verb nexts.Pattern word draft = pattern_by word draft
-step_of verb (nexts.LetterPattern letter) word draft = pattern_by word draft
-step_of verb nexts.File word draft = file_by word draft
-step_of verb (nexts.LetterFile letter) word draft = file_by word draft
-step_of verb nexts.Paths word draft = path verb
+abbrev pub word_step : Verb → Next → List ℕ → Draft → Step
+word_step verb nexts.Any word draft = any verb word draft
+word_step verb nexts.Depth word draft = depth_by word draft
+word_step verb nexts.Pattern word draft = pattern_by word draft
+word_step verb (nexts.LetterPattern letter) word draft = pattern_by word draft
+word_step verb nexts.File word draft = file_by word draft
+word_step verb (nexts.LetterFile letter) word draft = file_by word draft
+word_step verb nexts.Paths word draft = path verb

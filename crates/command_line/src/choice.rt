@@ -46,8 +46,8 @@ pub enum Choice {
 }
 
 /// The choice of this name that can be turned off.
-fn choice_of(name: &[u8]) -> Option<Choice>
-    ensures { result ≡ choices.choice_of name.now }
+fn negatable_choice_of(name: &[u8]) -> Option<Choice>
+    ensures { result ≡ choices.negatable_choice_of name.now }
 {
     if name == b"cached".as_slice() {
         Some(Choice::Cached)
@@ -136,12 +136,12 @@ fn chosen_by(name: &[u8]) -> Option<Opt>
 {
     if name.starts_with(b"no-") {
         let (_, rest) = name.split_at(3);
-        return match choice_of(rest) {
+        return match negatable_choice_of(rest) {
             Some(choice) => Some(Opt::Drops(choice)),
             None => None,
         };
     }
-    made(choice_of(name))
+    made(negatable_choice_of(name))
 }
 
 /// The option of this name that is a choice, whether it can be turned off or not.

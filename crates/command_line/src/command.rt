@@ -1,7 +1,7 @@
 //! What the words ask for.
-use crate::checking::CheckAsked;
-use crate::cleaning::Force;
-use crate::comparing::Comparing;
+use crate::check_options::CheckAsked;
+use crate::clean_options::Force;
+use crate::compare_options::Comparing;
 use crate::form::Form;
 use crate::rules_given::RulesGiven;
 use crate::verb::Topic;

@@ -3,10 +3,10 @@ ghost use Rattle.std.specs.Prelude.{◌≡◌, Option};
 ghost use Rattle.command_line.specs.Drafts as drafts;
 
 use crate::change_words::{ChangeWords, no_changes, with_change};
-use crate::checking::{CheckAsked, CheckChoice, default_checking, told_of};
+use crate::check_options::{CheckAsked, CheckChoice, default_checking, told_of};
 use crate::choice::Choice;
-use crate::cleaning::{CleanChoice, Force};
-use crate::comparing::{CompareChoice, Comparing, default_comparing, told_apart};
+use crate::clean_options::{CleanChoice, Force};
+use crate::compare_options::{CompareChoice, Comparing, default_comparing, told_apart};
 use crate::form::{Color, Form, LineEnd, Wording};
 use crate::opt::Switch;
 use clean_plan::{Finding, What};

@@ -4,13 +4,12 @@
 
 mod change_words;
 mod check_help;
-mod checking;
+mod check_options;
 mod choice;
-mod cleaning;
+mod clean_options;
 mod command;
 mod compare_help;
-mod comparing;
-mod depth;
+mod compare_options;
 mod draft;
 mod form;
 mod help;
@@ -25,10 +24,10 @@ mod step;
 mod unspelled;
 mod verb;
 
-pub use checking::CheckAsked;
-pub use cleaning::Force;
+pub use check_options::CheckAsked;
+pub use clean_options::Force;
 pub use command::{CleanAsked, Command, FilesAsked, Request};
-pub use comparing::{Comparing, Ignoring, default_comparing};
+pub use compare_options::{Comparing, Ignoring, default_comparing};
 pub use form::{Color, Form, LineEnd, Style, Wording, styled};
 pub use help::{help_of, version};
 pub use misuse::{Misuse, Wrong, said};

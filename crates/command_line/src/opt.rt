@@ -2,10 +2,10 @@
 ghost use Rattle.std.specs.Prelude.{◌≡◌};
 ghost use Rattle.command_line.specs.Options as options;
 
-use crate::checking::CheckChoice;
+use crate::check_options::CheckChoice;
 use crate::choice::Choice;
-use crate::cleaning::CleanChoice;
-use crate::comparing::CompareChoice;
+use crate::clean_options::CleanChoice;
+use crate::compare_options::CompareChoice;
 use crate::verb::Verb;
 use dir_classify::{CollapsedEntriesEmissionMode, EmissionMode, ForDeletionMode};
 

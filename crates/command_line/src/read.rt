@@ -5,7 +5,7 @@ ghost use Rattle.command_line.specs.Readings as readings;
 use crate::draft::{Draft, default_draft};
 use crate::misuse::Wrong;
 use crate::rules_given::RulesGiven;
-use crate::step::{Next, Step, step_of};
+use crate::step::{Next, Step, word_step};
 use crate::verb::Verb;
 use gitbase_core::{Bytes, OutOfMemory};
 use std::alloc::Global;
@@ -55,7 +55,7 @@ pub fn read_words(alloc: Global, verb: Verb, words: &[Bytes]) -> Result<Read, Ou
     let mut rules = RulesGiven::new(alloc);
     let mut rest = words;
     while let Some((word, after)) = rest.split_first() {
-        match step_of(verb, next, word.as_bytes(), draft) {
+        match word_step(verb, next, word.as_bytes(), draft) {
             Step::Said(now, then) => {
                 draft = now;
                 next = then;

@@ -41,8 +41,8 @@ fn behind_space(words: &[u8]) -> &[u8]
 }
 
 /// The two letters of a status; another word stands for itself.
-fn letters_of(status: &[u8]) -> &[u8]
-    ensures { result.now ≡ rows.letters_of status.now }
+fn status_letters(status: &[u8]) -> &[u8]
+    ensures { result.now ≡ rows.status_letters status.now }
 {
     if status == b"untracked".as_slice() {
         b"??"
@@ -135,7 +135,7 @@ fn add_letters(
     ensures { OnOk result (text.new.items ≡ text.old.items ++ rows.in_letters end words.now
         path.now) }
 {
-    text.extend_from_slice(letters_of(first_word(words)))?;
+    text.extend_from_slice(status_letters(first_word(words)))?;
     text.push(b' ')?;
     add_path(text, end, path)?;
     text.extend_from_slice(slash_of(first_word(behind_space(words))))?;

@@ -2,13 +2,12 @@
 ghost use Rattle.std.specs.Prelude.{◌≡◌, ◌<◌, ◌==◌, length, position, IfSome};
 ghost use Rattle.command_line.specs.Steps as steps;
 
-use crate::checking::{checking_opt_of, checking_opt_of_letter};
+use crate::check_options::{checking_opt_of, checking_opt_of_letter};
 use crate::choice::{Choice, listing_opt_of, listing_opt_of_letter};
-use crate::cleaning::{cleaning_opt_of, cleaning_opt_of_letter, is_line};
-use crate::comparing::{
+use crate::clean_options::{cleaning_opt_of, cleaning_opt_of_letter, is_line};
+use crate::compare_options::{
     CompareChoice, Ignoring, comparing_opt_of, comparing_opt_of_letter, ignoring_of,
 };
-use crate::depth::depth_of;
 use crate::draft::Draft;
 use crate::form::{Color, LineEnd, Wording};
 use crate::misuse::Wrong;
@@ -17,7 +16,7 @@ use crate::rules_given::Ruling;
 use crate::verb::{Verb, needs_dashes, takes_paths};
 use clean_plan::{Finding, What};
 use dir_classify::EmissionMode;
-use worktree_report::Strategy;
+use worktree_report::{Strategy, depth_of};
 
 /// How the next word is read.
 #[derive(Clone, Copy, Debug)]
@@ -488,8 +487,8 @@ fn any(verb: Verb, word: &[u8], draft: Draft) -> Step
 }
 
 /// What a word says, by what was said before it.
-pub fn step_of(verb: Verb, next: Next, word: &[u8], draft: Draft) -> Step
-    ensures { result ≡ steps.step_of verb next word.now draft }
+pub fn word_step(verb: Verb, next: Next, word: &[u8], draft: Draft) -> Step
+    ensures { result ≡ steps.word_step verb next word.now draft }
 {
     match next {
         Next::Any => any(verb, word, draft),

@@ -4,8 +4,9 @@ use command_line::{CheckAsked, Command, Topic, Verb, help_of, request_of, said};
 use gitbase_core::Bytes;
 use std::alloc::Global;
 
-/// Rows: the words, parted by `,`, and behind `>` the letters of what is asked, `i` for the index that is left aside; then the paths, each
-/// behind a blank; or behind `!` the line of the word that is wrong.
+/// Rows: the words, parted by `,`, and behind `>` the letters of what is asked, `i` for the index
+/// that is left aside; then the paths, each behind a blank; or behind `!` the line of the word that
+/// is wrong.
 const ROWS: &[u8] = b"\
 check-ignore>\n\
 check-ignore,-q,a>q a\n\

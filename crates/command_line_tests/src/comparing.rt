@@ -4,8 +4,8 @@ use command_line::{Command, Comparing, Ignoring, Topic, Verb, help_of, request_o
 use gitbase_core::Bytes;
 use std::alloc::Global;
 
-/// Rows: the words, parted by `,`, and behind `>` the letters of what is asked, in the order of the fields; then the paths, each behind a
-/// blank; or behind `!` the line of the word that is wrong.
+/// Rows: the words, parted by `,`, and behind `>` the letters of what is asked, in the order of the
+/// fields; then the paths, each behind a blank; or behind `!` the line of the word that is wrong.
 const ROWS: &[u8] = b"\
 diff-files>\n\
 diff-files,-q,--raw>r\n\

@@ -3,7 +3,8 @@ use bstr::ByteSlice;
 use command_line::{Color, Form, LineEnd, Style, Wording, rendered, rendered_paths, styled};
 use std::alloc::Global;
 
-/// Rows, parted by `|`: the style (`w` or `l`, `f` or `n`, `c` or `-`), a text of a report, and what is wanted, parted by `^`.
+/// Rows, parted by `|`: the style (`w` or `l`, `f` or `n`, `c` or `-`), a text of a report, and
+/// what is wanted, parted by `^`.
 const ROWS: &[u8] = b"\
 wf-^untracked file - always - -\ta b\\0a\n# read_dir 1 returned 2 seen 3\n\
 ^untracked file - always - -\ta b\\0a\n# read_dir 1 returned 2 seen 3\n|\

@@ -11,13 +11,13 @@ use Rattle.diff_files.specs.declared.stats.Stats.{Ghosts as StatsOf}
 use Rattle.diff_files.specs.KeptStats.{AsksStats, FailsNot, Outside, Tells}
 use Rattle.diff_files.specs.Rows.{Row, rows_from}
 use Rattle.diff_files.specs.Stats.{Told}
-use Rattle.diff_files.specs.There.{IsKnown, leads}
+use Rattle.diff_files.specs.There.{IsKnown, has_directories_only}
 
 -- directories lead along the names that were taken, if they lead along all from here on
 pub record IsLeading {S : Type 0} (s : StatsOf S) (before now : S) (root directory full left : List ℕ) : Type 0 where
   pub kept : AsksStats s before now
   pub unfaulted : s.faults now ≡ s.faults before
-  pub same : (t : Told) → s.told before ≡ Some t → leads t full (components left) ≡ leads t root (components directory)
+  pub same : (t : Told) → s.told before ≡ Some t → has_directories_only t full (components left) ≡ has_directories_only t root (components directory)
 
 -- the rows that were made, with those of the entries that are left, are those of all
 pub record IsAlong {W S : Type 0} (w : WorktreeOf W) (s : StatsOf S) (w0 w1 : W) (s0 s1 : S) (root : List ℕ) (entries : List IndexEntry)

@@ -11,10 +11,10 @@ is_directory_stat None = false
 is_directory_stat (Some at) = is_directory at.mode
 
 -- directories alone lead along some names from a directory, the last one among them
-abbrev pub leads : Told → List ℕ → List (List ℕ) → Bool
-leads told directory [] = true
-leads told directory (name ∷ names) =
-    is_directory_stat (told.stat_at (joined directory name)) && leads told (joined directory name) names
+abbrev pub has_directories_only : Told → List ℕ → List (List ℕ) → Bool
+has_directories_only told directory [] = true
+has_directories_only told directory (name ∷ names) =
+    is_directory_stat (told.stat_at (joined directory name)) && has_directories_only told (joined directory name) names
 
 -- the directory that holds a path
 abbrev pub directory_of : List ℕ → List ℕ
@@ -22,7 +22,7 @@ directory_of path = unwrap_or (parent path) []
 
 -- only directories lead to a path
 abbrev pub is_led : Told → List ℕ → List ℕ → Bool
-is_led told root path = leads told root (components (directory_of path))
+is_led told root path = has_directories_only told root (components (directory_of path))
 
 -- what stands at a path below a root; behind a link nothing does
 abbrev pub there : Told → List ℕ → List ℕ → Option NodeStat
@@ -34,4 +34,4 @@ holds_git told full = is_some (told.stat_at (joined full (codes ".git")))
 
 -- directories are known to lead along a path from a root
 abbrev pub IsKnown : Option Told → List ℕ → List ℕ → Type 0
-IsKnown told root known = (t : Told) → told ≡ Some t → leads t root (components known) ≡ true
+IsKnown told root known = (t : Told) → told ≡ Some t → has_directories_only t root (components known) ≡ true

@@ -82,9 +82,9 @@ fn text_of(alloc: Global, comparison: &Comparison, rows: &[Row<'_>]) -> Result<B
 }
 
 /// How each path of an index changed in the work tree at `root`, by what is told of the node there,
-/// in the order of the index: what [`diff_files`] prints, row by row. Bytes are compared alone where
-/// a file may have changed unseen, since the index was not written later than it; so a file that was
-/// touched is told as changed.
+/// in the order of the index: what [`diff_files`] prints, row by row. Bytes are compared alone
+/// where a file may have changed unseen, since the index was not written later than it; so a file
+/// that was touched is told as changed.
 ///
 /// `index` and `details` are what the file of the index says, in its order. The path specs are from
 /// the top; without one, each path is taken. A path that is not merged has a row that says so, and

@@ -46,14 +46,15 @@ fn is_directory_at<S: Stats>(stats: &mut S, full: &[u8]) -> Result<bool, ReadErr
 }
 
 /// Whether directories alone lead along a path from a root, the last one among them.
-fn leads<S: Stats>(
+fn has_directories_only<S: Stats>(
     alloc: Global,
     stats: &mut S,
     root: &[u8],
     directory: &[u8],
 ) -> Result<bool, ReadError>
     ensures is { (t : Told) → S.told stats.old ≡ Some t
-        → IfOk result (λ is. is ≡ words.leads t root.now (components directory.now)) }
+        → IfOk result (λ is. is
+        ≡ words.has_directories_only t root.now (components directory.now)) }
     ensures kept { AsksStats S.Stats stats.old stats.new }
     ensures cause { IsErrOf result ReadError.Fault
         → Increased (S.faults stats.old) (S.faults stats.new) }
@@ -105,7 +106,7 @@ fn is_led<S: Stats>(
     if directory == known.as_bytes() {
         return Ok(true);
     }
-    if !leads(alloc, stats, root, directory)? {
+    if !has_directories_only(alloc, stats, root, directory)? {
         return Ok(false);
     }
     known.set(alloc, directory)?;

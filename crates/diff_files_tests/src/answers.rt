@@ -1,10 +1,12 @@
 //! What git prints; made by `scripts/ask-git-diff-files` with git version 2.39.5.
 //!
-//! A row has the number of the tree, the words, the path specs, and what git prints, with `$` in the place of each LF. A tree has the time of
-//! the index, and behind a `^` each its entries and its nodes, parted by `;`. Of an entry there are the mode, the stage, its marks (`a`
-//! assumed unchanged, `s` skipped, `n` to be added later), the id, and the mtime, the ctime, the user, the group, the number and the size
-//! that the index has; of a node its mode, its mtime, its size, its path and what it holds, `&` for each CR. What the index has of
-//! a ctime, an owner or a number is 1 where it is that of the node.
+//! A row has the number of the tree, the words, the path specs, and what git prints, with `$` in
+//! the place of each LF. A tree has the time of the index, and behind a `^` each its entries and
+//! its nodes, parted by `;`. Of an entry there are the mode, the stage, its marks (`a` assumed
+//! unchanged, `s` skipped, `n` to be added later), the id, and the mtime, the ctime, the user, the
+//! group, the number and the size that the index has; of a node its mode, its mtime, its size, its
+//! path and what it holds, `&` for each CR. What the index has of a ctime, an owner or a number is
+//! 1 where it is that of the node.
 
 /// The trees, one a line.
 pub const TREES: &[u8] = b"\
@@ -136,7 +138,8 @@ pub const ROWS: &[u8] = b"\
 20^submodule.a.ignore=all^^!IgnoredSubmodule\n\
 ";
 
-/// What `git ls-files` prints of the same trees to its output and to standard error, with path specs as they are told, `&`, and as they are from the top; behind `!` the form that is refused.
+/// What `git ls-files` prints of the same trees to its output and to standard error, with path
+/// specs as they are told, `&`, and as they are from the top; behind `!` the form that is refused.
 pub const LISTED: &[u8] = b"\
 0^-t|-d|-m^^R d$C d$C e$C f$C g$C h$R k/x$C k/x$C l$C m$C o$C p$^\n\
 0^-d^^d$k/x$^\n\

@@ -69,7 +69,8 @@ fn is_owned(stats: &mut DiskStats<'_>, path: &[u8], uid: u32, gid: u32) -> bool 
     }
 }
 
-/// Whether a file of the system is the root user's where it is the root user's or of the root group.
+/// Whether a file of the system is the root user's where it is the root user's or of the root
+/// group.
 fn is_of_root(stats: &mut DiskStats<'_>, path: &[u8]) -> bool {
     match told(stats, path) {
         Some(at) => at.uid == 0 || at.gid != 0,

@@ -6,7 +6,7 @@ use crate::tree::{index_of, meant, number, parted, tree_of};
 use crate::words::comparison_of;
 use bstr::ByteSlice;
 use diff_files::Comparison;
-use ls_files::{ChangedError, Listed, list_changed};
+use ls_files::{ChangeQuery, ChangedError, Listed, list_changed};
 use std::alloc::Global;
 
 /// What is answered of a tree.
@@ -36,20 +36,15 @@ fn answered_in(
     let specs = all_specs(alloc, specs)?;
     let mut tree = tree;
     let mut stats = stats;
-    Some(list_changed(
-        alloc,
-        &mut tree,
-        &mut stats,
-        b"/r",
-        &index,
-        &details,
+    let query = ChangeQuery {
+        root: b"/r",
         comparison,
-        standings_of(words),
-        &listing_of(words),
-        b"",
-        &named,
-        &specs,
-    ))
+        standings: standings_of(words),
+        listing: &listing_of(words),
+        named: &named,
+        specs: &specs,
+    };
+    Some(list_changed(alloc, &mut tree, &mut stats, &query, &index, &details, b""))
 }
 
 /// Whether a text is what a row has.

@@ -9,7 +9,7 @@ use Rattle.worktree_fs.specs.Paths.{is_nil, spelled}
 use Rattle.worktree_fs.specs.declared.worktree.Worktree.{Ghosts as WorktreeOf}
 use Rattle.std.proofs.lemmas.Slice.Eq.{bytes_eq-Decides}
 use Rattle.std.specs.Str.{bytes_eq}
-use Rattle.worktree_fs.proofs.Grown.{same_name}
+use Rattle.worktree_fs.proofs.Trees.Grown.{same_name}
 use Rattle.worktree_stack.specs.Reading.{Sources}
 use Rattle.worktree_stack.specs.Setup.{Made}
 use Rattle.worktree_stack.specs.Stacked.{Stacked}

@@ -7,7 +7,7 @@ use Rattle.std.proofs.lemmas.List.{append-nil, reverse-append}
 use Rattle.gitbase_core.specs.Path.{after_component, after_components, components, ends_in_slash, is_absolute, joined, normalized, path_of}
 use Rattle.gitbase_core.proofs.Names.{IsName, AreNames, AreNames-components}
 use Rattle.worktree_fs.specs.Paths.{is_dots, is_normal, spelled}
-use Rattle.worktree_fs.proofs.Spelled.{AreNames-reverse}
+use Rattle.worktree_fs.proofs.Paths.Spelled.{AreNames-reverse}
 
 -- ---- a path on the way to a normal one is normal
 

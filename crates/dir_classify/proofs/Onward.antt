@@ -10,7 +10,7 @@ use Rattle.worktree_fs.specs.Kept.{AsksStore}
 use Rattle.worktree_fs.specs.Paths.{IsComponent, is_normal, spelled}
 use Rattle.worktree_fs.specs.Tree.{none}
 use Rattle.worktree_fs.specs.declared.worktree.Worktree.{Ghosts as WorktreeOf}
-use Rattle.worktree_fs.proofs.Spelled.{grown-is, grown-components}
+use Rattle.worktree_fs.proofs.Paths.Spelled.{grown-is, grown-components}
 use Rattle.worktree_stack.specs.declared.error.AtPathError.{AtPathError}
 use Rattle.worktree_stack.specs.Reading.{Sources}
 use Rattle.worktree_stack.specs.Setup.{Made}

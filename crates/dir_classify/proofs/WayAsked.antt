@@ -7,7 +7,7 @@ use Rattle.gitbase_core.specs.Path.{components, is_empty}
 use Rattle.worktree_fs.specs.Causes.{Increased, next as one_more}
 use Rattle.worktree_fs.specs.Paths.{common_front, is_nil, spelled, all_but_last}
 use Rattle.worktree_fs.specs.PathStack.{IsOnWay}
-use Rattle.worktree_fs.proofs.Grown.{same_name}
+use Rattle.worktree_fs.proofs.Trees.Grown.{same_name}
 use Rattle.worktree_stack.specs.Lookups.{staying}
 use Rattle.worktree_stack.specs.Stacked.{Stacked, pushed}
 use Rattle.dir_classify.specs.declared.classify.RootOutcome.{RootOutcome}

@@ -5,7 +5,7 @@ use Rattle.std.specs.Prelude.{if◌then◌else◌}
 use Rattle.gitbase_core.specs.Path.{components, joined}
 use Rattle.gitbase_core.proofs.Names.{AreNames}
 use Rattle.worktree_fs.specs.Paths.{IsComponent, spelled}
-use Rattle.worktree_fs.proofs.Spelled.{component_from, grown-components, grown-is}
+use Rattle.worktree_fs.proofs.Paths.Spelled.{component_from, grown-components, grown-is}
 use Rattle.dir_classify.specs.declared.classify.Outcome.{Outcome}
 use Rattle.dir_classify.specs.declared.entry.Kind.{Kind}
 use Rattle.dir_classify.specs.Chosen.{Chosen}

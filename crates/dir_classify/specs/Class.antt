@@ -85,8 +85,8 @@ ruling_of o ev path kind = if ev.is_ruled && not (is_empty path) then ev.ruling 
 -- ---- the cases
 
 -- nothing is said of a path but its status
-abbrev pub plain_class : Status → Outcome
-plain_class status = record { status = status; property = None; disk_kind = None; index_kind = None; pathspec_match = None; origin = None }
+abbrev pub class_of_status : Status → Outcome
+class_of_status status = record { status = status; property = None; disk_kind = None; index_kind = None; pathspec_match = None; origin = None }
 
 -- with what the rules said, where they are what decided
 abbrev pub origin_if : Option IgnoredAs → Option Origin → Option Origin
@@ -105,7 +105,7 @@ dot_git_kind o path ruling = if is_some o.for_deletion && is_nested path then ru
 
 abbrev pub class_dot_git : Chosen → Evidence → List ℕ → Option Kind → Ruling → Outcome
 class_dot_git o ev path known ruling =
-    record (plain_class (status_or Pruned (dot_git_kind o path ruling))) {
+    record (class_of_status (status_or Pruned (dot_git_kind o path ruling))) {
       property = Some DotGit;
       disk_kind = known;
       pathspec_match = match_of ev path known;
@@ -114,16 +114,16 @@ class_dot_git o ev path known ruling =
 
 -- no path spec can match: pruned
 abbrev pub class_unmatched : Option Kind → Outcome
-class_unmatched known = record (plain_class Pruned) { disk_kind = known }
+class_unmatched known = record (class_of_status Pruned) { disk_kind = known }
 
 -- one of the worktree set: tracked, as a repository
 abbrev pub class_worktree : Evidence → List ℕ → Option Kind → Outcome
-class_worktree ev path kind = record (plain_class Tracked) { disk_kind = Some Repository; pathspec_match = match_of ev path kind }
+class_worktree ev path kind = record (class_of_status Tracked) { disk_kind = Some Repository; pathspec_match = match_of ev path kind }
 
 -- the index has the path in the shape that it has on disk: tracked, or pruned where a sparse checkout leaves it out
 abbrev pub class_in_index : InIndex → Option Kind → Option PathspecMatch → Outcome
 class_in_index entry kind found =
-    record (plain_class (if is_some entry.sparse then Pruned else Tracked)) {
+    record (class_of_status (if is_some entry.sparse then Pruned else Tracked)) {
       property = entry.sparse;
       disk_kind = kind;
       index_kind = entry.kind;
@@ -144,7 +144,7 @@ class_indexed o ev path kind =
 
 -- the rules exclude the path
 abbrev pub class_excluded : IgnoredAs → InIndex → Option Kind → Option PathspecMatch → Outcome
-class_excluded excluded entry kind found = record (plain_class (Ignored excluded)) { disk_kind = kind; index_kind = entry.kind; pathspec_match = found }
+class_excluded excluded entry kind found = record (class_of_status (Ignored excluded)) { disk_kind = kind; index_kind = entry.kind; pathspec_match = found }
 
 -- where ignored paths are shown, deletion that looks for repositories looks at it
 abbrev pub finds_in_ignored : Chosen → Bool
@@ -171,7 +171,7 @@ class_ignored o ev path kind excluded =
 
 -- neither the index nor the rules have the path
 abbrev pub class_free : Status → InIndex → Option Kind → Option PathspecMatch → Outcome
-class_free status entry kind found = record (plain_class status) { disk_kind = kind; index_kind = entry.kind; pathspec_match = found }
+class_free status entry kind found = record (class_of_status status) { disk_kind = kind; index_kind = entry.kind; pathspec_match = found }
 
 -- and looked at
 abbrev pub class_directory : Chosen → Evidence → List ℕ → Option Kind → Outcome

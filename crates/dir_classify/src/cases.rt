@@ -3,7 +3,7 @@ ghost use Rattle.std.specs.Prelude.{◌≡◌, Option, Some, None, true, if◌th
 ghost use Rattle.worktree_stack.specs.Reading.{Sources};
 ghost use Rattle.worktree_stack.specs.Setup.{Made};
 ghost use Rattle.dir_classify.specs.Chosen.{chosen, finds_bare_repositories};
-ghost use Rattle.dir_classify.specs.Class.{class_dot_git, class_unmatched, class_worktree, dot_git_kind, ignored_match, is_dot_git, is_indexed, is_nested, match_of, plain_class, status_or, class_free, class_in_index, class_seen, finds_in_ignored, seeks_indexed, is_above_wanted};
+ghost use Rattle.dir_classify.specs.Class.{class_dot_git, class_unmatched, class_worktree, dot_git_kind, ignored_match, is_dot_git, is_indexed, is_nested, match_of, class_of_status, status_or, class_free, class_in_index, class_seen, finds_in_ignored, seeks_indexed, is_above_wanted};
 ghost use Rattle.dir_classify.specs.Layers.{setting_of, evidence};
 
 use crate::classify::Outcome;
@@ -84,8 +84,8 @@ pub(crate) fn match_of<M: Matcher>(
 }
 
 /// A class of which nothing is known but its status.
-fn plain_class(status: Status) -> Outcome
-    ensures { result ≡ plain_class status }
+fn class_of_status(status: Status) -> Outcome
+    ensures { result ≡ class_of_status status }
 {
     Outcome {
         status,
@@ -143,7 +143,7 @@ pub(crate) fn class_dot_git<M: Matcher>(
         disk_kind: known,
         pathspec_match: match_of(shared, path, known),
         origin,
-        ..plain_class(status_or(Status::Pruned, excluded))
+        ..class_of_status(status_or(Status::Pruned, excluded))
     }
 }
 
@@ -153,7 +153,7 @@ pub(crate) fn class_unmatched(known: Option<Kind>) -> Outcome
 {
     Outcome {
         disk_kind: known,
-        ..plain_class(Status::Pruned)
+        ..class_of_status(Status::Pruned)
     }
 }
 
@@ -169,7 +169,7 @@ pub(crate) fn class_worktree<M: Matcher>(
     Outcome {
         disk_kind: Some(Kind::Repository),
         pathspec_match: match_of(shared, path, kind),
-        ..plain_class(Status::Tracked)
+        ..class_of_status(Status::Tracked)
     }
 }
 
@@ -193,7 +193,7 @@ pub(crate) fn class_in_index(
         disk_kind: kind,
         index_kind: entry.kind,
         pathspec_match: found,
-        ..plain_class(status)
+        ..class_of_status(status)
     }
 }
 
@@ -212,7 +212,7 @@ pub(crate) fn class_seen(
         disk_kind: seen,
         index_kind: entry.kind,
         pathspec_match: ignored_match(options, path, seen, found),
-        ..plain_class(Status::Ignored(excluded))
+        ..class_of_status(Status::Ignored(excluded))
     }
 }
 
@@ -228,7 +228,7 @@ pub(crate) fn class_free(
         disk_kind: kind,
         index_kind: entry.kind,
         pathspec_match: found,
-        ..plain_class(status)
+        ..class_of_status(status)
     }
 }
 

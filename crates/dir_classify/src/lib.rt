@@ -12,7 +12,7 @@ mod index;
 pub mod options;
 mod paths;
 pub mod repository;
-mod seeking;
+mod repository_cases;
 mod steps;
 
 pub use context::{Context, Shared};

@@ -26,7 +26,7 @@ use crate::error::Error;
 use crate::excludes::{Ruling, ruling_of};
 use crate::index::{InIndex, in_index};
 use crate::options::{is_deleting, is_worktree};
-use crate::seeking::{of_indexed, of_unindexed};
+use crate::repository_cases::{of_indexed, of_unindexed};
 use gitbase_core::{Beneath, Find, OutOfMemory};
 use glob_rules::pathspec::Matcher;
 use std::alloc::Global;

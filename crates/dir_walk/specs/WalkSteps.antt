@@ -37,7 +37,8 @@ abbrev pub step_path : Step → List ℕ
 step_path (at_directory path class) = path
 step_path (at_name directory name) = joined directory name
 
--- how deep it may go, where so many more levels of directories may be entered below a directory
+-- How deep it may go, where so many more levels of directories may be entered below a directory. A name that is entered takes one level
+-- and adds one component, so the limit stays the same.
 abbrev pub deepest : ℕ → Step → ℕ
 deepest levels (at_directory path class) = levels + depth_of path
 deepest levels (at_name directory name) = levels + depth_of directory
@@ -52,7 +53,8 @@ abbrev pub StepRefuses : Setting → Step → Option Made → Sources → ℕ �
 StepRefuses given (at_directory path class) = λ made s limit Failed. DirectoryRefuses given made s limit Failed path class
 StepRefuses given (at_name directory name) = λ made s limit Failed. Refuses given made s limit Failed (item_told given made s (joined directory name))
 
--- How the directories that a step opens are counted, from one moment to another; it is handed a bound on how many they are.
+-- How the directories that a step opens are counted, from one moment to another; it is handed a bound on how many they are. There are
+-- three: of a walk over the worktree itself, of one whose subtrees are walked over forks, and of one of these.
 abbrev pub Counting : Type 0 → Type 0 → Type 0 → Type 0 → Type 1
 Counting W F I D = Moment W F I D → Moment W F I D → Result Handed Stop → (ℕ → Type 0) → Type 0
 
@@ -78,13 +80,15 @@ pub record WalksTold {W F I D : Type 0} (w : WorktreeOf W) (f : FindOf F) (d : D
   pub gives : (made : Option Made) (s : Sources) → Stands given (w.told before.worktree) (f.holds before.objects) before.rules blocked made s → NotIncreased (w.faults before.worktree) (w.faults now.worktree)
       → d.is_default before.delegate ≡ true → (limit : ℕ) → deepest levels step ≡ limit
       → IfOk result (Gives given.options limit (evidence given made s) (walked_by given step made s) (d.given before.delegate) (d.given now.delegate) before.outcome now.outcome)
+  -- refused or broken off
   pub part : (made : Option Made) (s : Sources) → Stands given (w.told before.worktree) (f.holds before.objects) before.rules blocked made s → NotIncreased (w.faults before.worktree) (w.faults now.worktree)
       → d.is_default before.delegate ≡ true
       → OnErr result (IsPart given.options (walked_by given step made s) (d.given before.delegate) (d.given now.delegate) before.outcome now.outcome)
+  -- a fault of the worktree is a cause too
   pub refused : (made : Option Made) (s : Sources) → Stands given (w.told before.worktree) (f.holds before.objects) before.rules blocked made s → d.is_default before.delegate ≡ true → (limit : ℕ) → deepest levels step ≡ limit
       → IfErr result (OnRefused (StepRefuses given step made s limit (Increased (w.faults before.worktree) (w.faults now.worktree))))
 
--- no more directories are opened than are entered there
+-- no more directories are opened than are entered there, but for one where a listing was refused, or may have been, for want of memory
 abbrev pub EntersStep : {W F I D : Type 0} → WorktreeOf W → FindOf F → DelegateOf D → Moment W F I D → Moment W F I D → Setting → Option (List ℕ) → ℕ → Step → Result Handed Stop → ℕ → Type 0
 EntersStep w f d before now given blocked levels step result =
     EntersAtMost w f d before.worktree now.worktree before.objects before.rules before.delegate given blocked (deepest levels step) (walked_by given step) (unlisted_walk result)

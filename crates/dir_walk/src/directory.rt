@@ -70,8 +70,9 @@ pub(crate) fn class_of<W: Worktree, F: Find, M: Matcher>(
 }
 
 /// Walks a name in a directory that is entered, at `place`; so many more levels of directories may
-/// be entered below that. `beneath` are the entries of the index beneath the directory. The place
-/// is the directory's again when the name is done.
+/// be entered below that directory. `blocked` is the directory that must not go, if there is one.
+/// `beneath` are the entries of the index beneath the directory. The place is the directory's again
+/// when the name is done.
 #[cycle(walk)]
 fn walk_name<W: Worktree, F: Find, I: Interrupt, M: Matcher, D: Delegate>(
     alloc: Global,
@@ -84,22 +85,29 @@ fn walk_name<W: Worktree, F: Find, I: Interrupt, M: Matcher, D: Delegate>(
     parts: &mut Parts<'_, '_, '_, '_, '_, '_, W, F, I, D>,
 ) -> Result<Handed, Stop>
     requires name { IsName name.now }
+    // The entries are those of the place's directory, not those of the name.
     requires beneath { IsBeneath shared.now.index.now place.old.path beneath.now }
     requires root { place.old.root ≡ shared.now.worktree_root.now }
     requires lookup { IsLookupIf shared.now.index.now shared.now.ignore_case_index_lookup.now }
+    // Where rules are given, they tell which paths are excluded.
     requires excludes { tells_excludes (made_with parts.old.excludes.now) ≡ true }
-    // The parts are behind the same references.
+    // What the caller lent is what was changed: the parts are behind the same references.
     ensures same { AreSame parts.old parts.new }
-    // Over any worktree, each refusal has its cause; what stays, and what the delegate is given.
+    // Over any worktree: a refusal is about a path within the limit, and has its cause. The
+    // worktree, the store and the interrupt are only asked. The delegate gets paths at or beneath
+    // this name, each at most once, and none that the options hide.
     ensures walks { WalksAny W.Worktree F.Find I.Interrupt D.Delegate
         (moment parts.old) (moment parts.new)
         (setting_of M.Matcher shared.now) levels (at_name place.old.path name.now) result }
-    // Over what is told, it gives all that is there or a part, and is refused for what is there.
+    // Over what is told, for a delegate that recurses as by default: it gives all that is there, or
+    // a part where it ends before, unless the worktree failed in between; and it is refused for
+    // what is there, or because the worktree failed.
     ensures told { WalksTold W.Worktree F.Find D.Delegate
         (moment parts.old) (moment parts.new)
         (setting_of M.Matcher shared.now) blocked.now levels
         (at_name place.old.path name.now) result }
-    // How the directories that are opened are counted, and how many they are at most.
+    // How many directories are opened below this place, and how often rules files are read. The
+    // place's own directory was opened before, so it is not among them (0).
     ensures opens { over_worktree W.Worktree I.Interrupt (chosen shared.now.options)
         (components place.old.path) 0
         (moment parts.old) (moment parts.new)
@@ -110,10 +118,11 @@ fn walk_name<W: Worktree, F: Find, I: Interrupt, M: Matcher, D: Delegate>(
     // A store that no rules file is mapped to is not asked.
     ensures unmapped { maps_blobs (made_with parts.old.excludes.now) ≡ false
         → parts.new.objects.now ≡ parts.old.objects.now }
-    // The rules that were handed in stay in step.
+    // The rules that were handed in stay in step with what is told of the tree and the store.
     ensures rules { KeepsRules W.Worktree F.Find parts.old.worktree.now parts.new.worktree.now
         parts.old.objects.now parts.old.excludes.now parts.new.excludes.now }
-    // The place is the same when all is done.
+    // The place is the same when all is done. After a refusal or a break it is where the walk
+    // stood, and the caller is not to go on with it.
     ensures stays { OnOk result (place.new ≡ place.old) }
 {
     let cut = place.push(alloc, name)?;

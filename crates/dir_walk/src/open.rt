@@ -116,7 +116,7 @@ pub(crate) fn too_deep<I: Interrupt>(alloc: Global, place: &Place, interrupt: &m
 }
 
 /// Whether the walk enters a path of a class: the delegate is asked for what holds names.
-#[tactic(auto, using(crate::proofs::Entering::shut))]
+#[tactic(auto, using(crate::proofs::Opens::Entering::shut))]
 #[inline(never)]
 pub(crate) fn is_entered<D: Delegate>(
     options: &Options<'_>,

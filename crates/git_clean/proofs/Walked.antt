@@ -18,8 +18,8 @@ use Rattle.worktree_report.specs.Reported.{MakesReport}
 use Rattle.worktree_report.proofs.Answered.{told-blobs, Texts-refused}
 use Rattle.worktree_report.proofs.Refusing.{MakesFirst-is}
 use Rattle.worktree_report.proofs.ReportMade.{report_is}
-use Rattle.ls_files.specs.declared.listing.NamedSpec.{NamedSpec}
-use Rattle.git_clean.specs.declared.cleaning.Cleaning.{Cleaning}
+use Rattle.ls_files.specs.declared.options.NamedSpec.{NamedSpec}
+use Rattle.git_clean.specs.declared.options.Cleaning.{Cleaning}
 use Rattle.git_clean.specs.Cleaned as words
 
 asks-none : {W : Type 0} (w : WorktreeOf W) (x : W) → Asks w x x

@@ -12,8 +12,8 @@ use Rattle.worktree_report.specs.declared.setup.Setup.{Setup}
 use Rattle.worktree_report.specs.Asked.{read_in, report_of}
 use Rattle.worktree_report.specs.Behind.{MakesFirst, RefusesText}
 use Rattle.worktree_report.specs.Orderly.{IsOrderly}
-use Rattle.ls_files.specs.declared.listing.NamedSpec.{NamedSpec}
-use Rattle.git_clean.specs.declared.cleaning.Cleaning.{Cleaning}
+use Rattle.ls_files.specs.declared.options.NamedSpec.{NamedSpec}
+use Rattle.git_clean.specs.declared.options.Cleaning.{Cleaning}
 use Rattle.git_clean.specs.Lines.{text}
 use Rattle.git_clean.specs.Ruled.{all_ruled}
 use Rattle.git_clean.specs.Scenes.{scene}

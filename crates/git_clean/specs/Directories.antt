@@ -7,7 +7,7 @@ use Rattle.dir_classify.specs.Kinds.{is_marked_dot_git}
 use Rattle.ls_files.specs.Others.{above}
 use Rattle.worktree_report.specs.SetupMeant.{ordered_after}
 use Rattle.worktree_report.specs.declared.report.ReportEntry.{ReportEntry}
-use Rattle.git_clean.specs.declared.cleaning.Cleaning.{Cleaning}
+use Rattle.git_clean.specs.declared.options.Cleaning.{Cleaning}
 use Rattle.git_clean.specs.Going.{is_stay, marks}
 
 -- ---- what holds a `.git`

@@ -9,7 +9,7 @@ use Rattle.dir_classify.specs.declared.entry.Kind.TheVariants.{Untrackable, File
 use Rattle.dir_classify.specs.declared.entry.Status.{Status}
 use Rattle.dir_classify.specs.declared.entry.Status.TheVariants.{Pruned, Tracked, Ignored, Untracked}
 use Rattle.ls_files.specs.Others.{is_entry_matched, is_untracked}
-use Rattle.git_clean.specs.declared.cleaning.Cleaning.{Cleaning}
+use Rattle.git_clean.specs.declared.options.Cleaning.{Cleaning}
 
 -- "-X: Remove only files ignored by Git."
 abbrev pub is_wanted : Cleaning → Status → Bool

@@ -11,7 +11,7 @@ use Rattle.glob_rules.specs.PathSpecs.{can_match, common_directory, list_match}
 use Rattle.glob_rules.specs.declared.pathspec.Match.{Match}
 use Rattle.glob_rules.specs.declared.pathspec.MatchKind.{MatchKind}
 use Rattle.glob_rules.specs.declared.pathspec.MatchKind.TheVariants.{Always, Prefix, WildcardMatch, Verbatim}
-use Rattle.ls_files.specs.declared.listing.NamedSpec.{NamedSpec}
+use Rattle.ls_files.specs.declared.options.NamedSpec.{NamedSpec}
 use Rattle.ls_files.specs.Cached.{takes}
 use Rattle.ls_files.specs.Others.{ends_in_dots, is_out}
 

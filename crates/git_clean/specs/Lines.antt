@@ -6,7 +6,7 @@ use Rattle.gitbase_core.specs.Path.{ends_in_slash, without_slash}
 use Rattle.git_paths.specs.QuotedNames.{quoted}
 use Rattle.git_paths.specs.RelativeNames.{relative_from}
 use Rattle.worktree_report.specs.declared.report.ReportEntry.{ReportEntry}
-use Rattle.git_clean.specs.declared.cleaning.Cleaning.{Cleaning}
+use Rattle.git_clean.specs.declared.options.Cleaning.{Cleaning}
 use Rattle.git_clean.specs.Parts.{is_skipped, parts, refuses_here}
 use Rattle.git_clean.specs.Places.{names}
 use Rattle.git_clean.specs.Scenes.{Scene}

@@ -27,16 +27,16 @@ is_module_kind (Some index.Repository) = true
 is_module_kind (Some index.Directory) = false
 
 -- a directory is kept with all that it holds: it holds a `.git`, or is that of a submodule
-abbrev pub keeps : Scene → List ℕ → Bool
-keeps s d = is_among d s.guarded || is_module_kind (kinds s.index d).kind
+abbrev pub is_kept_directory : Scene → List ℕ → Bool
+is_kept_directory s d = is_among d s.guarded || is_module_kind (kinds s.index d).kind
 
 -- the directory that ends before a byte of a path is
-abbrev pub keeps_at : Scene → List ℕ → ℕ → Bool
-keeps_at s path at = is_slash (slice_index path at) && keeps s (take at path)
+abbrev pub is_kept_directory_at : Scene → List ℕ → ℕ → Bool
+is_kept_directory_at s path at = is_slash (slice_index path at) && is_kept_directory s (take at path)
 
 -- so is a path beneath one
 abbrev pub is_kept : Scene → List ℕ → Bool
-is_kept s path = list_any (keeps s) (above path)
+is_kept s path = list_any (is_kept_directory s) (above path)
 
 -- ---- directories
 

@@ -16,7 +16,7 @@ use Rattle.ls_files.specs.Others.{is_untracked, place_at}
 use Rattle.worktree_report.specs.Excluding.{rules_in}
 use Rattle.worktree_report.specs.declared.report.ReportEntry.{ReportEntry}
 use Rattle.worktree_report.specs.declared.setup.Setup.{Setup}
-use Rattle.git_clean.specs.declared.cleaning.Cleaning.{Cleaning}
+use Rattle.git_clean.specs.declared.options.Cleaning.{Cleaning}
 
 -- the patterns are the only rules
 abbrev pub are_alone : Cleaning → Bool

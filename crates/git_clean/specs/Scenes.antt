@@ -2,10 +2,10 @@
 use Rattle.std.specs.Prelude.{ℕ, List}
 use Rattle.gitbase_core.specs.declared.entry.IndexEntry.{IndexEntry}
 use Rattle.glob_rules.specs.PathSpec.{PathSpec}
-use Rattle.ls_files.specs.declared.listing.NamedSpec.{NamedSpec}
+use Rattle.ls_files.specs.declared.options.NamedSpec.{NamedSpec}
 use Rattle.worktree_report.specs.declared.report.ReportEntry.{ReportEntry}
 use Rattle.worktree_report.specs.declared.setup.Setup.{Setup}
-use Rattle.git_clean.specs.declared.cleaning.Cleaning.{Cleaning}
+use Rattle.git_clean.specs.declared.options.Cleaning.{Cleaning}
 use Rattle.git_clean.specs.declared.scene.Scene as declared
 use Rattle.git_clean.specs.Directories as directories
 

@@ -4,7 +4,7 @@ use Rattle.dir_classify.specs.declared.options.EmissionMode.TheVariants.{Matchin
 use Rattle.dir_classify.specs.declared.options.ForDeletionMode.{ForDeletionMode}
 use Rattle.dir_classify.specs.declared.options.ForDeletionMode.TheVariants.{FindNonBareRepositoriesInIgnoredDirectories, IgnoredDirectoriesCanHideNestedRepositories}
 use Rattle.worktree_report.specs.declared.setup.SetupOptions.{SetupOptions}
-use Rattle.git_clean.specs.declared.cleaning.Cleaning.{Cleaning}
+use Rattle.git_clean.specs.declared.options.Cleaning.{Cleaning}
 
 -- What lies in an ignored directory is asked for where that may go.
 abbrev pub deletion_for : Cleaning → ForDeletionMode

@@ -1,7 +1,7 @@
 -- Which cleanings there are not: in git, or not here.
 use Rattle.std.specs.Prelude.{ℕ, List, not, ◌&&◌, codes, Option, Some, None, if◌then◌else◌}
 use Rattle.worktree_report.specs.declared.setup.Setup.{Setup}
-use Rattle.git_clean.specs.declared.cleaning.Cleaning.{Cleaning}
+use Rattle.git_clean.specs.declared.options.Cleaning.{Cleaning}
 use Rattle.git_clean.specs.declared.wrong.WrongCleaning.{WrongCleaning}
 use Rattle.git_clean.specs.declared.wrong.WrongCleaning.TheVariants as wrong
 

@@ -4,7 +4,7 @@ ghost use Rattle.git_clean.specs.Cleaned as words;
 ghost use Rattle.git_clean.specs.Wrong.{wrong_in};
 
 use crate::cleaned::clean_found;
-use crate::cleaning::Cleaning;
+use crate::options::Cleaning;
 use gitbase_core::{Bytes, Find};
 use ls_files::NamedSpec;
 use std::alloc::Global;

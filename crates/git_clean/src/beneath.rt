@@ -4,7 +4,7 @@ ghost use Rattle.std.specs.Ordering.{is_eq, is_lt};
 ghost use Rattle.gitbase_core.specs.Index.{prefix_cmp};
 ghost use Rattle.git_clean.specs.Beneath as words;
 
-use crate::going::name;
+use crate::removable::name;
 use gitbase_core::{OutOfMemory, is_top};
 use ls_files::Place;
 use std::alloc::Global;

@@ -8,10 +8,10 @@ ghost use Rattle.git_clean.specs.Scenes.{scene_by};
 
 use crate::above::has;
 use crate::beneath::rise;
-use crate::cleaning::Cleaning;
 use crate::inside::add_inside;
 use crate::line::{add_line, removes};
 use crate::names::names;
+use crate::options::Cleaning;
 use crate::ruled::all_ruled;
 use crate::scene::Scene;
 use crate::sets::{guarded, held, marked};
@@ -49,7 +49,7 @@ fn is_held_name(alloc: Global, scene: &Scene<'_>, name: &[u8]) -> Result<bool, O
 }
 
 /// Adds the line of what goes.
-fn add_removed(
+fn add_removed_line(
     alloc: Global,
     text: &mut Vec<u8>,
     scene: &Scene<'_>,
@@ -77,7 +77,7 @@ fn add_lines(
     if is_held_name(alloc, scene, name)? {
         return add_inside(alloc, text, scene, rise, without_slash(name));
     }
-    add_removed(alloc, text, scene, name)
+    add_removed_line(alloc, text, scene, name)
 }
 
 /// The lines of all that goes; `rise` says that paths do not fall along the entries.

@@ -101,7 +101,11 @@ fn add_skips(
 }
 
 /// Adds the line of the current directory, if it is refused.
-fn add_refusal(text: &mut Vec<u8>, scene: &Scene<'_>, directory: &[u8]) -> Result<(), OutOfMemory>
+fn add_current_directory_refusal(
+    text: &mut Vec<u8>,
+    scene: &Scene<'_>,
+    directory: &[u8],
+) -> Result<(), OutOfMemory>
     ensures { OnOk result (text.new.items ≡ text.old.items
         ++ lines.refusal_line (scene_by scene.now) directory.now) }
 {
@@ -160,6 +164,6 @@ pub fn add_inside(
 {
     let narrow = narrowed(alloc, scene, rise, directory)?;
     add_skips(alloc, text, &narrow, directory)?;
-    add_refusal(text, scene, directory)?;
+    add_current_directory_refusal(text, scene, directory)?;
     add_parts(alloc, text, &narrow, directory)
 }

@@ -2,7 +2,7 @@
 ghost use Rattle.std.specs.Prelude.{◌≡◌, ◌++◌, OnOk};
 ghost use Rattle.git_clean.specs.Lines as lines;
 
-use crate::cleaning::Cleaning;
+use crate::options::Cleaning;
 use git_paths::add_quoted;
 use gitbase_core::OutOfMemory;
 

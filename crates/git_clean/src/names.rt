@@ -4,8 +4,8 @@ ghost use Rattle.ls_files.specs.Others as others;
 ghost use Rattle.git_clean.specs.Places as words;
 ghost use Rattle.git_clean.specs.Scenes.{scene_by};
 
-use crate::going::{is_entry_matched, is_removable, is_untracked, name, place_at};
 use crate::places::{is_hidden, is_kept, is_taken_by, top};
+use crate::removable::{is_entry_matched, is_removable, is_untracked, name, place_at};
 use crate::scene::Scene;
 use dir_classify::Entry;
 use dir_classify::entry::holds_names;

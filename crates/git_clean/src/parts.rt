@@ -4,8 +4,8 @@ ghost use Rattle.git_clean.specs.Parts as words;
 ghost use Rattle.git_clean.specs.Scenes.{scene_by};
 
 use crate::above::has;
-use crate::going::is_stay;
 use crate::places::is_kept;
+use crate::removable::is_stay;
 use crate::scene::Scene;
 use dir_classify::Entry;
 use dir_classify::entry::is_repository;

@@ -5,8 +5,8 @@ ghost use Rattle.git_clean.specs.Places as words;
 ghost use Rattle.git_clean.specs.Scenes.{scene_by};
 
 use crate::above::has;
-use crate::going::name;
-use crate::leading::is_taken;
+use crate::leading_pathspec::is_taken;
+use crate::removable::name;
 use crate::scene::Scene;
 use gitbase_core::{EntryKind, OutOfMemory, State};
 use ls_files::Place;
@@ -20,8 +20,13 @@ fn is_module_kind(kind: Option<EntryKind>) -> bool
 }
 
 /// Whether a directory is kept with all that it holds.
-fn keeps(alloc: Global, scene: &Scene<'_>, directory: &[u8]) -> Result<bool, OutOfMemory>
-    ensures { IfOk result (λ kept. kept ≡ words.keeps (scene_by scene.now) directory.now) }
+fn is_kept_directory(
+    alloc: Global,
+    scene: &Scene<'_>,
+    directory: &[u8],
+) -> Result<bool, OutOfMemory>
+    ensures { IfOk result (λ kept. kept
+        ≡ words.is_kept_directory (scene_by scene.now) directory.now) }
 {
     if has(alloc, scene.guarded, directory)? {
         return Ok(true);
@@ -30,14 +35,20 @@ fn keeps(alloc: Global, scene: &Scene<'_>, directory: &[u8]) -> Result<bool, Out
 }
 
 /// Whether the directory that ends before a byte of a path is kept.
-fn keeps_at(alloc: Global, scene: &Scene<'_>, path: &[u8], at: usize) -> Result<bool, OutOfMemory>
+fn is_kept_directory_at(
+    alloc: Global,
+    scene: &Scene<'_>,
+    path: &[u8],
+    at: usize,
+) -> Result<bool, OutOfMemory>
     requires { at < length path.now }
-    ensures { IfOk result (λ kept. kept ≡ words.keeps_at (scene_by scene.now) path.now at) }
+    ensures { IfOk result (λ kept. kept
+        ≡ words.is_kept_directory_at (scene_by scene.now) path.now at) }
 {
     if path[at] != b'/' {
         return Ok(false);
     }
-    keeps(alloc, scene, &path[..at])
+    is_kept_directory(alloc, scene, &path[..at])
 }
 
 /// Whether a path is kept: a directory above it is.
@@ -46,7 +57,7 @@ pub fn is_kept(alloc: Global, scene: &Scene<'_>, path: &[u8]) -> Result<bool, Ou
 {
     let mut at = 0;
     while at < path.len() {
-        if keeps_at(alloc, scene, path, at)? {
+        if is_kept_directory_at(alloc, scene, path, at)? {
             return Ok(true);
         }
         at += 1;

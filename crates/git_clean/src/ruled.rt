@@ -6,8 +6,8 @@ ghost use Rattle.ls_files.specs.Others as others;
 ghost use Rattle.worktree_report.specs.Excluding.{rules_in};
 ghost use Rattle.git_clean.specs.Ruled as words;
 
-use crate::cleaning::Cleaning;
-use crate::going::is_untracked;
+use crate::options::Cleaning;
+use crate::removable::is_untracked;
 use dir_classify::entry::holds_names;
 use dir_classify::{Entry, Kind as DiskKind, Status};
 use gitbase_core::{OutOfMemory, PathText};

@@ -1,7 +1,7 @@
 //! By what it is decided what may go.
 ghost use Rattle.std.specs.Prelude.{◌≡◌};
 
-use crate::cleaning::Cleaning;
+use crate::options::Cleaning;
 use gitbase_core::{Bytes, State};
 use glob_rules::pathspec::Search;
 use ls_files::NamedSpec;

@@ -4,8 +4,8 @@ ghost use Rattle.worktree_report.specs.SetupMeant.{ordered_after};
 ghost use Rattle.git_clean.specs.Directories as words;
 
 use crate::above::{add, add_above, lies_in_one};
-use crate::cleaning::Cleaning;
-use crate::going::{is_marked_dot_git, is_stay, marks};
+use crate::options::Cleaning;
+use crate::removable::{is_marked_dot_git, is_stay, marks};
 use gitbase_core::{Bytes, OutOfMemory, PathText};
 use std::alloc::Global;
 use std::collections::BTreeSet;

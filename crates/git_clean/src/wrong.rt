@@ -2,7 +2,7 @@
 ghost use Rattle.std.specs.Prelude.{◌≡◌};
 ghost use Rattle.git_clean.specs.Wrong as words;
 
-use crate::cleaning::Cleaning;
+use crate::options::Cleaning;
 use worktree_report::Setup;
 
 /// Why there is no such cleaning: in git, or not here.

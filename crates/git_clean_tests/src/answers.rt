@@ -1,9 +1,10 @@
 //! What git would remove; made by `scripts/ask-git-clean` with git version 2.39.5.
 //!
-//! A row has the number of the tree, the directory, the options, parted by `|`, the path specs, and what git prints to its output, with `$`
-//! in the place of each LF. Of a path spec there is how git tells it, `&`, and how it is from the top; specs are parted by `|`. A tree has
-//! its setup, and its steps, parted by `;`: `d` is a directory, `f` a file with its text, `x` one with its bytes in hexadecimal digits,
-//! `l` a link, and `p` a pipe.
+//! A row has the number of the tree, the directory, the options, parted by `|`, the path specs, and
+//! what git prints to its output, with `$` in the place of each LF. Of a path spec there is how git
+//! tells it, `&`, and how it is from the top; specs are parted by `|`. A tree has its setup, and
+//! its steps, parted by `;`: `d` is a directory, `f` a file with its text, `x` one with its bytes
+//! in hexadecimal digits, `l` a link, and `p` a pipe.
 
 /// The setups and the trees, one a line.
 pub const TREES: &[u8] = b"\

@@ -65,8 +65,8 @@ matches_some case pattern None = false
 matches_some case pattern (Some text) = matches_path case pattern text
 
 -- a pattern beneath a directory: an empty one, and one that ends in a slash, mean all that lies beneath
-abbrev pub beneath_pattern : List ℕ → List ℕ
-beneath_pattern rest = if is_empty rest || ends_with nat_eq rest (47 ∷ []) then rest ++ codes "**" else rest
+abbrev pub with_double_star : List ℕ → List ℕ
+with_double_star rest = if is_empty rest || ends_with nat_eq rest (47 ∷ []) then rest ++ codes "**" else rest
 
 -- either spelling of the git directory may match
 abbrev pub either : Repository → (List ℕ → Bool) → Bool
@@ -86,7 +86,7 @@ directory_of file = unwrap_or (parent file) [] ++ 47 ∷ []
 -- pattern
 abbrev pub matches_from : Repository → Case → List ℕ → List ℕ → Bool
 matches_from here case file rest =
-    matches_beneath here case (directory_of file) (beneath_pattern rest) (behind_same case (directory_of file) here.git)
+    matches_beneath here case (directory_of file) (with_double_star rest) (behind_same case (directory_of file) here.git)
 
 -- whether what stands behind a `~` is the name of a user
 abbrev pub is_user : Option (List ℕ) → Bool

@@ -135,8 +135,8 @@ fn means_beneath(rest: &[u8]) -> bool
 }
 
 /// A pattern beneath a directory.
-fn beneath_pattern(alloc: Global, rest: &[u8]) -> Result<Bytes, OutOfMemory>
-    ensures { IfOk result (λ made. made ≡ words.beneath_pattern rest.now) }
+fn with_double_star(alloc: Global, rest: &[u8]) -> Result<Bytes, OutOfMemory>
+    ensures { IfOk result (λ made. made ≡ words.with_double_star rest.now) }
 {
     let mut made = Bytes::from_slice(alloc, rest)?;
     if means_beneath(rest) {
@@ -155,7 +155,8 @@ fn directory_of(alloc: Global, file: &PathText) -> Result<Bytes, OutOfMemory>
     }
 }
 
-/// Whether a pattern beneath a directory matches the git directory, by what this has without links behind that directory.
+/// Whether a pattern beneath a directory matches the git directory, by what this has without links
+/// behind that directory.
 fn matches_beneath(
     here: &Repository,
     case: Case,
@@ -190,7 +191,7 @@ fn matches_from(
     ensures { IfOk result (λ is. is ≡ words.matches_from here.now case file.now rest.now) }
 {
     let front = directory_of(alloc, file)?;
-    let pattern = beneath_pattern(alloc, rest)?;
+    let pattern = with_double_star(alloc, rest)?;
     let front = front.as_bytes();
     let real = behind_same(case, front, here.git.as_bytes());
     Ok(matches_beneath(here, case, front, pattern.as_bytes(), real))
@@ -393,8 +394,8 @@ fn other_holds(
     Ok(false)
 }
 
-/// Whether a condition of the file `from` holds: the text behind `includeIf.` and before the last dot of the key. One that is not
-/// known does not hold.
+/// Whether a condition of the file `from` holds: the text behind `includeIf.` and before the last
+/// dot of the key. One that is not known does not hold.
 pub fn holds<W: Worktree>(
     alloc: Global,
     worktree: &mut W,

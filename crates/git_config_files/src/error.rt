@@ -3,8 +3,9 @@ use gitbase_core::{Bytes, OutOfMemory, PathText};
 use thiserror::Error;
 use worktree_fs::ReadError;
 
-/// Why the repository, its configurations, or the rules files that they name, are not read. `path` is the file in which the fault is; an
-/// optional one is told of each value but that of a variable of the environment and of `safe.directory`.
+/// Why the repository, its configurations, or the rules files that they name, are not read. `path`
+/// is the file in which the fault is; an optional one is told of each value but that of a variable
+/// of the environment and of `safe.directory`.
 #[derive(Debug, Drop, PartialEq, Eq, Error)]
 pub enum FilesError {
     /// A line of the file is outside the grammar of git-config(1).
@@ -23,14 +24,15 @@ pub enum FilesError {
     NoFile {
         path: PathText,
     },
-    /// A path of an include in the file begins with `~`, and there is no home; or with `~USER` or `%(prefix)/`, which are not expanded.
-    /// Or a condition on the git directory begins with one of these two, or with `~`, where the home is empty.
+    /// A path of an include in the file begins with `~`, and there is no home; or with `~USER` or
+    /// `%(prefix)/`, which are not expanded. Or a condition on the git directory begins with one of
+    /// these two, or with `~`, where the home is empty.
     #[error("Home")]
     Home {
         path: PathText,
     },
-    /// This value, the path that a key names, begins with `~`, and there is no home; or with `~USER` or `%(prefix)/`, which are not
-    /// expanded.
+    /// This value, the path that a key names, begins with `~`, and there is no home; or with
+    /// `~USER` or `%(prefix)/`, which are not expanded.
     #[error("UserDir")]
     UserDir {
         path: Option<PathText>,
@@ -57,7 +59,8 @@ pub enum FilesError {
     Elsewhere {
         name: Bytes,
     },
-    /// The repository of the work tree at `path` belongs to another user, and no `safe.directory` names it.
+    /// The repository of the work tree at `path` belongs to another user, and no `safe.directory`
+    /// names it.
     #[error("Foreign")]
     Foreign {
         path: PathText,

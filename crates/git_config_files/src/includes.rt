@@ -14,7 +14,8 @@ use gitbase_core::{Bytes, OutOfMemory, PathText};
 use std::alloc::Global;
 use worktree_fs::{ReadAnswer, Worktree};
 
-/// How many files may lie in one another: the one that is read, and ten that are included behind it.
+/// How many files may lie in one another: the one that is read, and ten that are included behind
+/// it.
 const LEVELS: usize = 11;
 
 /// Where a file is read.
@@ -140,7 +141,8 @@ fn all<W: Worktree>(
     Ok(done)
 }
 
-/// The keys of the file at a path, with what it includes, where so many files may lie in one another.
+/// The keys of the file at a path, with what it includes, where so many files may lie in one
+/// another.
 #[cycle(expand)]
 #[tactic(auto, unfolding(crate::specs::Includes::expanded))]
 fn expand<W: Worktree>(
@@ -166,7 +168,8 @@ fn expand<W: Worktree>(
     all(alloc, worktree, known, source, levels - 1, path, keys)
 }
 
-/// The keys of the file at a path, in order, with those of the files that it includes in their places.
+/// The keys of the file at a path, in order, with those of the files that it includes in their
+/// places.
 pub fn expanded<W: Worktree>(
     alloc: Global,
     worktree: &mut W,

@@ -8,7 +8,8 @@ use gitbase_core::{Bytes, OutOfMemory};
 use std::alloc::Global;
 use std::marker::Model;
 
-/// Keys in their order, each as a section that has it alone. Contracts see the list of these sections.
+/// Keys in their order, each as a section that has it alone. Contracts see the list of these
+/// sections.
 #[derive(Debug, Drop)]
 pub struct Keys {
     items: Vec<Section>,

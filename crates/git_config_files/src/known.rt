@@ -31,7 +31,8 @@ impl Model for Repository {
     ghost view = { λ here. record { git = here.git; spelled = here.spelled; branch = here.branch } };
 }
 
-/// By what the conditions of includes are judged, and what stands for a `~`. Contracts see a record of these.
+/// By what the conditions of includes are judged, and what stands for a `~`. Contracts see a record
+/// of these.
 #[derive(Debug, Drop)]
 pub struct Known {
     /// The repository, where one is known.

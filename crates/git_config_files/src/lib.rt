@@ -1,7 +1,7 @@
 //! The configurations that git reads for a repository, with what they include in place.
 #![tactic(auto)]
 
-mod appearing;
+mod appearance;
 mod conditions;
 mod config_files;
 mod error;

@@ -240,17 +240,19 @@ fn repository_rules<W: Worktree>(
     rules_at(alloc, worktree, path.as_bytes())
 }
 
-/// The ignore rules outside the work tree of a repository: those of the file that `core.excludesFile` names in `config`, which is what
-/// [`read_stack`](crate::read_stack) answers, and `info/exclude` of the repository. A path is taken from the top of the work tree where
-/// it is relative, and a `~` at its front is the home; an empty one names no file, nor does `~` where the home is empty. Where
-/// `core.excludesFile` does not stand, the user's rules are in `git/ignore` beneath `XDG_CONFIG_HOME`, or beneath `.config` in the home.
-/// What is not there has no rules.
+/// The ignore rules outside the work tree of a repository: those of the file that
+/// `core.excludesFile` names in `config`, which is what [`read_stack`](crate::read_stack) answers,
+/// and `info/exclude` of the repository. A path is taken from the top of the work tree where it is
+/// relative, and a `~` at its front is the home; an empty one names no file, nor does `~` where the
+/// home is empty. Where `core.excludesFile` does not stand, the user's rules are in `git/ignore`
+/// beneath `XDG_CONFIG_HOME`, or beneath `.config` in the home. What is not there has no rules.
 ///
 /// # Errors
 ///
 /// - `Value`: a `core.excludesFile` has no value, or the last one has a NUL.
 /// - `UserDir`: the last `core.excludesFile` begins with a home that is not known.
-/// - `NoFile`: what stands at the path of one of the files is no file, and not the null device, which is an empty one.
+/// - `NoFile`: what stands at the path of one of the files is no file, and not the null device,
+///   which is an empty one.
 /// - `Fault`: the worktree failed, which it counted. No fault reads as "nothing is there".
 /// - `OutOfMemory` for want of memory.
 ///

@@ -215,21 +215,25 @@ fn own_or_safe<W: Worktree, O: Owners>(
     safe_top(alloc, worktree, around, top)
 }
 
-/// The work tree `top`, which [`find_top`](git_places::find_top) answers, where it may be read: what stands at its `.git`, its directory,
-/// and the git directory that a file `.git` names belong to the user, or `safe.directory` names its directory. The user is the owner of
-/// `/proc/self`; for root what belongs to `SUDO_UID` is its own too.
+/// The work tree `top`, which [`find_top`](git_places::find_top) answers, where it may be read:
+/// what stands at its `.git`, its directory, and the git directory that a file `.git` names belong
+/// to the user, or `safe.directory` names its directory. The user is the owner of `/proc/self`; for
+/// root what belongs to `SUDO_UID` is its own too.
 ///
-/// `safe.directory` counts in the configurations of the system and of the user alone, with what they include; no condition of an include
-/// on a repository holds there. A `*` names each directory, an empty value takes all back that stand before it. No file is read where the
+/// `safe.directory` counts in the configurations of the system and of the user alone, with what
+/// they include; no condition of an include on a repository holds there. A `*` names each
+/// directory, an empty value takes all back that stand before it. No file is read where the
 /// repository is the user's.
 ///
 /// # Errors
 ///
 /// - `Foreign`: the repository is another user's, and no `safe.directory` names its directory.
 /// - `Elsewhere`: a variable of the environment points git elsewhere.
-/// - `Value`: `GIT_CONFIG_NOSYSTEM` is no boolean, or a `safe.directory` or the path of an include has a NUL.
+/// - `Value`: `GIT_CONFIG_NOSYSTEM` is no boolean, or a `safe.directory` or the path of an include
+///   has a NUL.
 /// - `UserDir`: a `safe.directory` begins with a home that is not known.
-/// - `Config`, `NoFile`, `Include`, `Home`, `Condition`, `Depth`: those of [`read_stack`](crate::read_stack) in these configurations.
+/// - `Config`, `NoFile`, `Include`, `Home`, `Condition`, `Depth`: those of
+///   [`read_stack`](crate::read_stack) in these configurations.
 /// - `Fault`: the worktree failed, or the owners, which counted it.
 /// - `OutOfMemory` for want of memory.
 ///

@@ -4,7 +4,7 @@ ghost use Rattle.git_config_files.specs.Files as joint;
 ghost use Rattle.git_config_files.specs.Finds.{Finds};
 ghost use Rattle.git_config_files.specs.Stack as words;
 
-use crate::appearing::appearing;
+use crate::appearance::appearing;
 use crate::config_files::{ConfigFiles, Configured};
 use crate::error::FilesError;
 use crate::includes::expanded;
@@ -21,10 +21,11 @@ use worktree_fs::Worktree;
 /// What all configurations of a work tree say. Contracts see a record of both parts.
 #[derive(Debug, Drop)]
 pub struct Stack {
-    /// What the files say, in git's order and with what they include in place. Each key is a section by itself, which says in which
-    /// file it stands.
+    /// What the files say, in git's order and with what they include in place. Each key is a
+    /// section by itself, which says in which file it stands.
     pub file: File,
-    /// The files in which these keys stand, in the order in which they first appear; a file without keys is none of them.
+    /// The files in which these keys stand, in the order in which they first appear; a file without
+    /// keys is none of them.
     pub files: ConfigFiles,
 }
 
@@ -103,9 +104,10 @@ pub fn elsewhere(alloc: Global, name: &[u8]) -> Result<FilesError, OutOfMemory>
     })
 }
 
-/// What git's configurations say for the work tree of a repository, in its order: that of the system, those of the user, that which all
-/// work trees share, and that of this one; each with the files that it includes right behind the key that names them, up to ten deep.
-/// `around` is what the caller's environment says.
+/// What git's configurations say for the work tree of a repository, in its order: that of the
+/// system, those of the user, that which all work trees share, and that of this one; each with the
+/// files that it includes right behind the key that names them, up to ten deep. `around` is what
+/// the caller's environment says.
 ///
 /// A key is found by [`File::string`], the last one counts; a file that is not there says nothing.
 ///
@@ -113,11 +115,12 @@ pub fn elsewhere(alloc: Global, name: &[u8]) -> Result<FilesError, OutOfMemory>
 ///
 /// - `Elsewhere`: a variable of the environment points git elsewhere.
 /// - `Config`: a line of a file is outside its grammar.
-/// - `NoFile`: what stands at the path of a configuration, or of an included file, is no file, and not the null device, which is an
-///   empty one.
+/// - `NoFile`: what stands at the path of a configuration, or of an included file, is no file, and
+///   not the null device, which is an empty one.
 /// - `Include`: a key that includes a file has no value.
-/// - `Home`: the path of an included file begins with `~`, and there is no home; it, or a condition on the git directory, begins with
-///   `~USER` or `%(prefix)/`; or such a condition begins with `~`, and the home is empty.
+/// - `Home`: the path of an included file begins with `~`, and there is no home; it, or a condition
+///   on the git directory, begins with `~USER` or `%(prefix)/`; or such a condition begins with
+///   `~`, and the home is empty.
 /// - `Condition`: an include asks for what the configuration says, by `hasconfig:remote.*.url:`.
 /// - `Depth`: a file that is there is included behind ten others.
 /// - `Value`: `GIT_CONFIG_NOSYSTEM` is no boolean, or the path of an included file has a NUL.

@@ -23,7 +23,8 @@ fn home_error(alloc: Global, from: &[u8]) -> Result<FilesError, OutOfMemory>
     })
 }
 
-/// A path that a key has as its value, with the home in the place of a `~` at its front; none where that home is not known.
+/// A path that a key has as its value, with the home in the place of a `~` at its front; none where
+/// that home is not known.
 fn expanded_path(
     alloc: Global,
     home: Option<&[u8]>,
@@ -68,7 +69,8 @@ fn expanded_or(
     }
 }
 
-/// The path that the value of a key in a file is; a NUL in it is refused by the key, and a home that is not known by the text.
+/// The path that the value of a key in a file is; a NUL in it is refused by the key, and a home
+/// that is not known by the text.
 #[tactic(auto, unfolding(crate::specs::Targets::path_of_value))]
 pub fn path_of_value(
     alloc: Global,

@@ -220,7 +220,11 @@ fn add_own(alloc: Global, files: &mut ConfigFiles, git: &[u8], has: bool) -> Res
 }
 
 /// Adds those of the repository.
-fn add_local(alloc: Global, files: &mut ConfigFiles, places: &Places) -> Result<(), OutOfMemory>
+fn add_repository_files(
+    alloc: Global,
+    files: &mut ConfigFiles,
+    places: &Places,
+) -> Result<(), OutOfMemory>
     ensures { OnOk result (files.new ≡ files.old ++ words.local_files places.now) }
 {
     files.push(local_file(alloc, b"config", places.common_dir.as_bytes())?)?;
@@ -248,7 +252,8 @@ fn add_outer(
     add_user(alloc, files, directory, around)
 }
 
-/// The configurations that have a say in what is safe: those that no repository has, in their order.
+/// The configurations that have a say in what is safe: those that no repository has, in their
+/// order.
 pub fn outer_files(alloc: Global, around: &Surroundings) -> Result<ConfigFiles, FilesError>
     ensures { Decides result (words.outer_files around.now) }
 {
@@ -275,6 +280,6 @@ pub fn files_of(
     let skips = skips_system(alloc, bytes_of(&around.no_system))?;
     let mut files = ConfigFiles::new(alloc);
     add_outer(alloc, &mut files, places.root.as_bytes(), around, skips)?;
-    add_local(alloc, &mut files, places)?;
+    add_repository_files(alloc, &mut files, places)?;
     Ok(files)
 }

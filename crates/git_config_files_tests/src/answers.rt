@@ -1,8 +1,9 @@
-//! What git's configurations say in a work tree `/w/r`; made by `scripts/ask-git-includes` with git version 2.39.5.
+//! What git's configurations say in a work tree `/w/r`; made by `scripts/ask-git-includes` with git
+//! version 2.39.5.
 //!
-//! A row has the answer, what is set in the environment, and the steps by which the tree is made, with `$` in the place of each LF. An
-//! answer has each key behind a `|`: what it belongs to, its file without links, its name and its value; or in a word behind a `!` why
-//! git refuses.
+//! A row has the answer, what is set in the environment, and the steps by which the tree is made,
+//! with `$` in the place of each LF. An answer has each key behind a `|`: what it belongs to, its
+//! file without links, its name and its value; or in a word behind a `!` why git refuses.
 
 /// The keys of work trees.
 pub const ANSWERS: &[u8] = b"\
@@ -367,7 +368,8 @@ pub const RULES: &[u8] = b"\
 ///
 /// - git ends a path at a NUL; here one with a NUL is refused
 /// - git passes over a link without an end; here it is refused
-/// - git reads of a device as many bytes as its size says, which is 0; here each but the null device is refused
+/// - git reads of a device as many bytes as its size says, which is 0; here each but the null
+///   device is refused
 /// - git expands each value of `core.excludesFile`; here the last one alone
 pub const RULES_DIFFERENCES: &[u8] = b"\
 /w/u /w/r/.git/info/exclude=>!value^home=/w/h;system=/w/etc^g /w/r/.git=main;f /w/r/.git/config=[core]$excludesFile=/w/u\x00$;f /w/r/.git/info/exclude=r$;f /w/u=u$\n\

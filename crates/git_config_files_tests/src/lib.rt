@@ -1,4 +1,5 @@
-//! What git's configurations say in a work tree, and which files of ignore rules they name: stacks, as git reads them.
+//! What git's configurations say in a work tree, and which files of ignore rules they name: stacks,
+//! as git reads them.
 #![tactic(auto)]
 
 #[cfg(test)]

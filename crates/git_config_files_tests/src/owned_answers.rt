@@ -1,4 +1,5 @@
-//! Whose repositories are read, and where borders are, as git version 2.39.5 answers; made by `scripts/ask-git-owners`.
+//! Whose repositories are read, and where borders are, as git version 2.39.5 answers; made by
+//! `scripts/ask-git-owners`.
 
 /// What git answers, what is set, who owns what, and the steps of a tree.
 pub const ANSWERS: &[u8] = b"\
@@ -110,7 +111,8 @@ no-repository^user=0;dir=/w/r/a;home=/w/h;ceilings=/w;across=1^/proc/self=0,9@0,
 
 /// The same where git answers otherwise, with the answer of the definitions:
 ///
-/// - git reads `SUDO_UID` as a number, in any spelling; here it is the number as it is written shortest
+/// - git reads `SUDO_UID` as a number, in any spelling; here it is the number as it is written
+///   shortest
 /// - git asks whose a bare repository is too; here it is refused as bare
 /// - git takes `hasconfig:remote.*.url:` for a condition of what the files say; here it is refused
 pub const DIFFERENCES: &[u8] = b"\

@@ -8,7 +8,8 @@ use std::alloc::Global;
 use test_cases::{parted, tree_of};
 use worktree_fs::{MemoryWorktree, Worktree};
 
-/// Rows: the file in which stands what is refused, or `-`; what is set in the environment; and the tree.
+/// Rows: the file in which stands what is refused, or `-`; what is set in the environment; and the
+/// tree.
 const FILES: &[u8] = b"\
 /w/r/.git/i^home=/w/h^g /w/r/.git=main;f /w/r/.git/config=[include]$path=i$[core]$excludesfile=x$;f /w/r/.git/i=[core]$excludesfile$\n\
 /w/r/.git/i^home=/w/h^g /w/r/.git=main;f /w/r/.git/config=[core]$excludesfile=x$[include]$path=i$;f /w/r/.git/i=[core]$excludesfile=~nobody-here/x$\n\
@@ -17,7 +18,8 @@ const FILES: &[u8] = b"\
 -^home=/w/h;nosystem=x^g /w/r/.git=main\n\
 ";
 
-/// Whether a file is at the path that is wanted, without links, and has this text; `-` wants no rule.
+/// Whether a file is at the path that is wanted, without links, and has this text; `-` wants no
+/// rule.
 fn is_file(
     alloc: Global,
     tree: &mut MemoryWorktree,

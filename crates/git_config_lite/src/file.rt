@@ -5,13 +5,13 @@ ghost use Rattle.git_config_lite.specs.Writers as writers;
 ghost use Rattle.git_config_lite.specs.Gives.{ParseGives, truth_seen};
 ghost use Rattle.git_config_lite.specs.Seen as seen;
 
+use crate::draft::read;
 use crate::entry::Entry;
 use crate::error::{ParseError, ValueError};
 use crate::found::FoundValue;
 use crate::iterators::{Sections, Values};
 use crate::lookup::{text_of, truth_found};
 use crate::metadata::{Metadata, Source};
-use crate::reading::read;
 use crate::run::Run;
 use crate::runs::{last_in_runs, runs_of};
 use crate::section::{Section, add_entry};

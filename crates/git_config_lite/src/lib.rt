@@ -2,6 +2,7 @@
 #![tactic(auto)]
 
 mod boolean;
+mod draft;
 mod element;
 mod entry;
 mod error;
@@ -14,7 +15,6 @@ mod key;
 mod left;
 mod lookup;
 mod metadata;
-mod reading;
 mod run;
 mod runs;
 mod section;

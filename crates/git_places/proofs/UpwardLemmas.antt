@@ -7,7 +7,7 @@ use Rattle.std.specs.Prelude.{is_some, unwrap_or}
 use Rattle.git_places.specs.GitDirectory.{git_at}
 use Rattle.gitbase_core.proofs.ClosedPaths.{parent-path_of}
 use Rattle.worktree_fs.specs.Tree.{Names}
-use Rattle.worktree_fs.proofs.Spelled.{AreNames-reverse, components-spelled}
+use Rattle.worktree_fs.proofs.Paths.Spelled.{AreNames-reverse, components-spelled}
 use Rattle.git_places.specs.Limits.{absolute, unless_stop}
 use Rattle.git_places.specs.Upward.{Top, top, added, below, here_or, or_stop, top_from, top_by}
 use Rattle.git_places.specs.declared.error.PlacesError.{PlacesError}

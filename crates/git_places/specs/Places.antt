@@ -79,12 +79,12 @@ unless_bare_by t top sections true = Err (errors.Bare top.git)
 unless_bare_by t top sections false =
     work_tree_by t top (file_of (codes "core") (codes "worktree") sections) (string (codes "core") None (codes "worktree") sections)
 
-abbrev pub work_tree_asked : Names → Top → Configuration → Result (List ℕ) PlacesError
-work_tree_asked t top asked = and_then (unless_bare_by t top asked.sections) (truth_of (codes "core") (codes "bare") asked.sections)
+abbrev pub configured_work_tree : Names → Top → Configuration → Result (List ℕ) PlacesError
+configured_work_tree t top asked = and_then (unless_bare_by t top asked.sections) (truth_of (codes "core") (codes "bare") asked.sections)
 
 -- by whether each work tree has a configuration of its own
 abbrev pub work_tree_of : Names → Top → Configuration → Bool → Result (List ℕ) PlacesError
-work_tree_of t top config own = and_then (work_tree_asked t top) (asked_of t top.git config own)
+work_tree_of t top config own = and_then (configured_work_tree t top) (asked_of t top.git config own)
 
 -- whether each work tree has a configuration of its own, by the version of the format: where none is said, the configuration has no say
 abbrev pub has_own_config : List Section → Option Version → Result Bool PlacesError

@@ -11,7 +11,8 @@ use std::alloc::Global;
 use std::marker::Model;
 use worktree_fs::Worktree;
 
-/// Directories into which the search for a work tree does not go up. Contracts see the list of their paths, without their first slash.
+/// Directories into which the search for a work tree does not go up. Contracts see the list of
+/// their paths, without their first slash.
 #[derive(Debug, Drop)]
 pub struct Ceilings {
     items: Vec<Bytes>,
@@ -145,10 +146,12 @@ fn split_entry(entries: &[u8]) -> (&[u8], Option<&[u8]>)
     }
 }
 
-/// The ceilings that `text` names, as git(1) has them for `GIT_CEILING_DIRECTORIES`: paths between colons.
+/// The ceilings that `text` names, as git(1) has them for `GIT_CEILING_DIRECTORIES`: paths between
+/// colons.
 ///
-/// A path that is not absolute is none. Links in a path are followed, and one at which nothing is is none; but behind an empty entry
-/// each path is taken as it stands, without one slash at its end.
+/// A path that is not absolute is none. Links in a path are followed, and one at which nothing is
+/// is none; but behind an empty entry each path is taken as it stands, without one slash at its
+/// end.
 ///
 /// # Errors
 ///

@@ -3,14 +3,15 @@ use gitbase_core::{Bytes, OutOfMemory, PathText};
 use thiserror::Error;
 use worktree_fs::ReadError;
 
-/// Why no work tree is found, or why it is not read. An optional `path` is that of the configuration in which the fault is; none is told
-/// of a variable of the environment.
+/// Why no work tree is found, or why it is not read. An optional `path` is that of the
+/// configuration in which the fault is; none is told of a variable of the environment.
 #[derive(Debug, Drop, PartialEq, Eq, Error)]
 pub enum PlacesError {
     /// Neither the directory nor one above it, up to a ceiling, is the top of a work tree.
     #[error("NoRepository")]
     NoRepository,
-    /// The same, up to the border of the file system: the directory at `path`, above those that were looked at, lies on another one.
+    /// The same, up to the border of the file system: the directory at `path`, above those that
+    /// were looked at, lies on another one.
     #[error("Border")]
     Border {
         path: PathText,
@@ -35,8 +36,8 @@ pub enum PlacesError {
     GitFileTarget {
         path: PathText,
     },
-    /// Git and the walk would not agree on whether the directory with the `HEAD` at `path` is a git directory, or whether they would is not
-    /// known.
+    /// Git and the walk would not agree on whether the directory with the `HEAD` at `path` is a git
+    /// directory, or whether they would is not known.
     #[error("OddHead")]
     OddHead {
         path: PathText,
@@ -52,7 +53,8 @@ pub enum PlacesError {
         path: Option<PathText>,
         value: Bytes,
     },
-    /// The repository's format asks for this key behind `extensions.`, with its subsection, which is not known.
+    /// The repository's format asks for this key behind `extensions.`, with its subsection, which
+    /// is not known.
     #[error("Extension")]
     Extension {
         path: Option<PathText>,
@@ -63,8 +65,8 @@ pub enum PlacesError {
     Sha256 {
         path: Option<PathText>,
     },
-    /// The value of this key of the repository's configuration, as `core.bare` is one, or of this variable of the environment, cannot be
-    /// read.
+    /// The value of this key of the repository's configuration, as `core.bare` is one, or of this
+    /// variable of the environment, cannot be read.
     #[error("Value")]
     Value {
         path: Option<PathText>,

@@ -12,7 +12,8 @@ use std::alloc::Global;
 /// The version of a repository's format.
 #[derive(Clone, Copy, Debug, PartialEq, Eq)]
 pub enum Version {
-    /// The keys of `[extensions]` have no say, but for `worktreeConfig`; `objectFormat` and `noop-v1` may not stand there.
+    /// The keys of `[extensions]` have no say, but for `worktreeConfig`; `objectFormat` and
+    /// `noop-v1` may not stand there.
     Zero,
     /// Each key of `[extensions]` has to be known.
     One,
@@ -44,8 +45,8 @@ fn file_at<'a>(
     found
 }
 
-/// The file in which the last value of a key stands, in the sections of a name that have no subsection. None where no value does, or
-/// where it stands in no file.
+/// The file in which the last value of a key stands, in the sections of a name that have no
+/// subsection. None where no value does, or where it stands in no file.
 pub fn file_of<'a>(config: &'a File, name: &[u8], key: &[u8]) -> Option<&'a PathText>
     ensures { option_copied result ≡ words.file_of name.now key.now config.now.sections }
 {
@@ -86,7 +87,8 @@ fn version_of(
     }
 }
 
-/// The version of a repository's format, by `core.repositoryFormatVersion`; none where nothing says so.
+/// The version of a repository's format, by `core.repositoryFormatVersion`; none where nothing says
+/// so.
 pub fn version_in(alloc: Global, config: &File) -> Result<Option<Version>, PlacesError>
     ensures { Decides result (words.version_in config.now.sections) }
 {
@@ -325,7 +327,8 @@ fn refusal_in(
     refusal_of_dotted(alloc, version, section, behind_dot(section.name()))
 }
 
-/// Whether the sections of extensions leave the repository readable; the first key that does not is refused.
+/// Whether the sections of extensions leave the repository readable; the first key that does not is
+/// refused.
 pub fn readable_in(alloc: Global, version: Version, config: &File) -> Result<bool, PlacesError>
     ensures { Decides result (words.readable_in version config.now.sections) }
 {

@@ -109,8 +109,9 @@ fn head_of(bytes: &[u8]) -> Head
     }
 }
 
-/// What git says of the `HEAD` at a path. It has to be a file that begins with `ref:`, any blanks and `refs/`, or with the 40 digits
-/// of an id, as in the function `validate_headref` of git 2.39.5.
+/// What git says of the `HEAD` at a path. It has to be a file that begins with `ref:`, any blanks
+/// and `refs/`, or with the 40 digits of an id, as in the function `validate_headref` of git
+/// 2.39.5.
 ///
 /// # Errors
 ///

@@ -1,4 +1,5 @@
-//! Where git keeps things: the work tree of a directory, its git directory, and what is common to all its work trees.
+//! Where git keeps things: the work tree of a directory, its git directory, and what is common to
+//! all its work trees.
 #![tactic(auto)]
 
 mod ceilings;

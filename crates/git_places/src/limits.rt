@@ -162,9 +162,9 @@ fn ceilings_by<W: Worktree>(
     }
 }
 
-/// Where the search for a work tree from the current directory upward ends, as git(1) has it: it goes up into no directory that
-/// `GIT_CEILING_DIRECTORIES` names, and into none on another file system than the current directory, unless
-/// `GIT_DISCOVERY_ACROSS_FILESYSTEM` is true.
+/// Where the search for a work tree from the current directory upward ends, as git(1) has it: it
+/// goes up into no directory that `GIT_CEILING_DIRECTORIES` names, and into none on another file
+/// system than the current directory, unless `GIT_DISCOVERY_ACROSS_FILESYSTEM` is true.
 ///
 /// # Errors
 ///

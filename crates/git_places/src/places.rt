@@ -20,17 +20,20 @@ use worktree_fs::{Worktree, common_of, from_directory, read_file};
 /// Where a work tree and its repository lie; absolute paths. Contracts see a record of them.
 #[derive(Debug, Drop)]
 pub struct Places {
-    /// The top of the work tree: the directory that has the `.git`, or what `core.worktree` names, without links.
+    /// The top of the work tree: the directory that has the `.git`, or what `core.worktree` names,
+    /// without links.
     pub root: PathText,
     /// The git directory of this work tree, as it is spelled; its `index` is there.
     pub git_dir: PathText,
-    /// What all work trees of the repository share, as it is spelled: its `config`, `info/exclude`, objects and refs.
+    /// What all work trees of the repository share, as it is spelled: its `config`, `info/exclude`,
+    /// objects and refs.
     pub common_dir: PathText,
-    /// By what the repository is told from others: the path, without links, of `.git` in the root, a directory or a file; where
-    /// `core.worktree` names another root, of the git directory.
+    /// By what the repository is told from others: the path, without links, of `.git` in the root,
+    /// a directory or a file; where `core.worktree` names another root, of the git directory.
     pub own_git: PathText,
-    /// Whether this work tree has a configuration of its own, `config.worktree` of the git directory, behind that of the common
-    /// directory: where `extensions.worktreeConfig` says so, and the format has a version.
+    /// Whether this work tree has a configuration of its own, `config.worktree` of the git
+    /// directory, behind that of the common directory: where `extensions.worktreeConfig` says so,
+    /// and the format has a version.
     pub has_own_config: bool,
 }
 
@@ -227,14 +230,14 @@ fn work_tree_by<W: Worktree>(
 }
 
 /// The work tree, by the configurations that are asked for it.
-fn work_tree_asked<W: Worktree>(
+fn configured_work_tree<W: Worktree>(
     alloc: Global,
     worktree: &mut W,
     top: &Top,
     asked: &File,
 ) -> Result<PathText, PlacesError>
     ensures { Finds W.Worktree worktree.old worktree.new
-        (λ t. words.work_tree_asked t top.now asked.now) result }
+        (λ t. words.configured_work_tree t top.now asked.now) result }
 {
     if truth_of(alloc, asked, b"core", b"bare")? {
         return Err(PlacesError::Bare {
@@ -262,7 +265,7 @@ fn work_tree_of<W: Worktree>(
         (λ t. words.work_tree_of t top.now config own) result }
 {
     let asked = asked_of(alloc, worktree, top.git.as_bytes(), config, own)?;
-    work_tree_asked(alloc, worktree, top, &asked)
+    configured_work_tree(alloc, worktree, top, &asked)
 }
 
 /// Whether each work tree has a configuration of its own, by the version of the format.
@@ -366,12 +369,14 @@ fn layout_said<W: Worktree>(
     layout(alloc, worktree, top, common, own, root)
 }
 
-/// Where the repository of a work tree lies, as git(1) finds it: `top` is what [`find_top`](crate::find_top) answers.
+/// Where the repository of a work tree lies, as git(1) finds it: `top` is what
+/// [`find_top`](crate::find_top) answers.
 ///
-/// The repository's format is read from its own configuration alone, in which no include is followed: `config` of the common directory,
-/// and `config.worktree` of the git directory behind it where `extensions.worktreeConfig` is set. Where
-/// `core.repositoryFormatVersion` says nothing, that configuration has no say; `core.bare` and `core.worktree` have none where the
-/// git directory shares another one's, and has no configuration of its own.
+/// The repository's format is read from its own configuration alone, in which no include is
+/// followed: `config` of the common directory, and `config.worktree` of the git directory behind it
+/// where `extensions.worktreeConfig` is set. Where `core.repositoryFormatVersion` says nothing,
+/// that configuration has no say; `core.bare` and `core.worktree` have none where the git directory
+/// shares another one's, and has no configuration of its own.
 ///
 /// Nothing here looks at the owner: a program asks for that before this call.
 ///
@@ -380,8 +385,10 @@ fn layout_said<W: Worktree>(
 /// - `Bare`: `core.bare` says so.
 /// - `Config`: a line of a configuration is outside its grammar.
 /// - `Version`: the format has a version that is neither 0 nor 1.
-/// - `Extension`, `Sha256`: the format asks for what is not known; `objectFormat` and `noop-v1` in version 0 are such keys, too.
-/// - `Value`: `extensions.worktreeConfig` or `core.bare` is no boolean, or `core.worktree` is empty.
+/// - `Extension`, `Sha256`: the format asks for what is not known; `objectFormat` and `noop-v1` in
+///   version 0 are such keys, too.
+/// - `Value`: `extensions.worktreeConfig` or `core.bare` is no boolean, or `core.worktree` is
+///   empty.
 /// - `NoWorkTree`: no directory is at the path that `core.worktree` names.
 /// - `Fault`: the worktree failed, which it counted. No fault reads as "nothing is there".
 /// - `OutOfMemory` for want of memory.

@@ -2,8 +2,8 @@
 use gitbase_core::{Bytes, PathText};
 use std::marker::Model;
 
-/// What git heeds besides the files, read once and before them. A variable that is not set is none; one that is set to nothing is an
-/// empty text. Contracts see a record of these.
+/// What git heeds besides the files, read once and before them. A variable that is not set is none;
+/// one that is set to nothing is an empty text. Contracts see a record of these.
 #[derive(Debug, Drop)]
 pub struct Surroundings {
     /// The current directory: an absolute path without links.
@@ -24,7 +24,8 @@ pub struct Surroundings {
     pub across: Option<Bytes>,
     /// `SUDO_UID`.
     pub sudo_user: Option<Bytes>,
-    /// The name of the first variable that points git elsewhere, if one is set. No answer is given then.
+    /// The name of the first variable that points git elsewhere, if one is set. No answer is given
+    /// then.
     pub elsewhere: Option<Bytes>,
 }
 

@@ -27,7 +27,8 @@ fn with_value(alloc: Global, text: &[u8]) -> Result<File, OutOfMemory>
     Ok(File::from_sections(alloc, meta, sections))
 }
 
-/// What a text says as a boolean, as the value of a key of a configuration does; none where it is no boolean.
+/// What a text says as a boolean, as the value of a key of a configuration does; none where it is
+/// no boolean.
 ///
 /// # Errors
 ///

@@ -72,19 +72,22 @@ fn top_above<W: Worktree, O: Owners>(
     }
 }
 
-/// The nearest work tree at or above `current`, an absolute path without links, `.` and `..`, as git(1) finds it: the first directory,
-/// from `current` upward, whose `.git` is a git directory, a link to one, or a file that names one. The search goes up into no ceiling, and into no directory
+/// The nearest work tree at or above `current`, an absolute path without links, `.` and `..`, as
+/// git(1) finds it: the first directory, from `current` upward, whose `.git` is a git directory, a
+/// link to one, or a file that names one. The search goes up into no ceiling, and into no directory
 /// on another file system than the one that is not left.
 ///
 /// # Errors
 ///
-/// - `GitFileForm`, `GitFileTarget`: a file `.git` on the way names no git directory. No work tree further up is taken in its place.
-/// - `OddHead`: the `HEAD` of a directory on the way, where a git directory may be, is one that git and the walk do not read alike, a
-///   link, or a device, a pipe or a socket.
+/// - `GitFileForm`, `GitFileTarget`: a file `.git` on the way names no git directory. No work tree
+///   further up is taken in its place.
+/// - `OddHead`: the `HEAD` of a directory on the way, where a git directory may be, is one that git
+///   and the walk do not read alike, a link, or a device, a pipe or a socket.
 /// - `CommonDir`: the `commondir` of one is no file, is empty, or names no directory.
 /// - `Bare`: a directory on the way is itself a git directory.
 /// - `NoRepository`: no directory up to the top, or up to a ceiling, is the top of a work tree.
-/// - `Border`: none up to the border of the file system is, above which the directory at `path` lies.
+/// - `Border`: none up to the border of the file system is, above which the directory at `path`
+///   lies.
 /// - `Fault`: the worktree failed, or the owners, which counted it. No fault reads as "none".
 /// - `OutOfMemory` for want of memory.
 #[tactic(auto, using(crate::proofs::Nearest::nearest))]

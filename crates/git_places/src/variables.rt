@@ -87,11 +87,13 @@ fn elsewhere(alloc: Global, variables: &[Variable]) -> Result<Option<Bytes>, Out
     }
 }
 
-/// What git heeds of the variables of the environment, in the directory `current`, an absolute path without links.
+/// What git heeds of the variables of the environment, in the directory `current`, an absolute path
+/// without links.
 ///
-/// Of two variables of one name the first counts. These point git elsewhere: `GIT_DIR`, `GIT_WORK_TREE`, `GIT_INDEX_FILE`,
-/// `GIT_COMMON_DIR`, `GIT_OBJECT_DIRECTORY`, `GIT_CONFIG`, `GIT_CONFIG_PARAMETERS`, `GIT_CONFIG_COUNT` (but `0`), and the four
-/// `GIT_*_PATHSPECS`; see git(1), git-config(1).
+/// Of two variables of one name the first counts. These point git elsewhere: `GIT_DIR`,
+/// `GIT_WORK_TREE`, `GIT_INDEX_FILE`, `GIT_COMMON_DIR`, `GIT_OBJECT_DIRECTORY`, `GIT_CONFIG`,
+/// `GIT_CONFIG_PARAMETERS`, `GIT_CONFIG_COUNT` (but `0`), and the four `GIT_*_PATHSPECS`; see
+/// git(1), git-config(1).
 pub fn surroundings_of(
     alloc: Global,
     current: &[u8],

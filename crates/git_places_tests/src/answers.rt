@@ -1,8 +1,10 @@
-//! Where git finds work trees and their repositories; made by `scripts/ask-git-places` with git version 2.39.5.
+//! Where git finds work trees and their repositories; made by `scripts/ask-git-places` with git
+//! version 2.39.5.
 //!
-//! A row has the answer, the directory, the ceilings or `-`, and the steps by which the tree is made, with `~` in the place of each LF.
-//! An answer has `found`, whether a configuration of the work tree is read, or `-` where nothing tells, the top of the work tree, its
-//! git directory and the common one; or in words why git refuses.
+//! A row has the answer, the directory, the ceilings or `-`, and the steps by which the tree is
+//! made, with `~` in the place of each LF. An answer has `found`, whether a configuration of the
+//! work tree is read, or `-` where nothing tells, the top of the work tree, its git directory and
+//! the common one; or in words why git refuses.
 
 /// The places of directories.
 pub const ANSWERS: &[u8] = b"\
@@ -324,23 +326,31 @@ no-repository^/w/r/a/b^/w/r^g /w/r;d /w/r/a/b\n\
 
 /// Where git answers otherwise, its answer before the one of the definitions:
 ///
-/// - git and the walk do not agree on what `HEAD` of a git directory has to be; here that is refused
+/// - git and the walk do not agree on what `HEAD` of a git directory has to be; here that is
+///   refused
 /// - git asks for the target of a link at `HEAD`, which is not known here; so that is refused
 /// - git passes over a git directory whose common directory is not there; here that is refused
-/// - git says of a `.git` file whose common directory is not there that it names no git directory; here `commondir` is refused
+/// - git says of a `.git` file whose common directory is not there that it names no git directory;
+///   here `commondir` is refused
 /// - git takes a path up to a NUL; here no path has one
 /// - git reads the version as a number, in any spelling; here it is `0` or `1`
 /// - git takes a version below 0 as none; here it is refused
-/// - git reads each value of the keys that it looks for; here the last one of those that have a say is read
-/// - git reads all values before it looks at the version and the extensions; here they are looked at first
-/// - git reads a value before a line outside the grammar behind it; here the whole file is read first
+/// - git reads each value of the keys that it looks for; here the last one of those that have a say
+///   is read
+/// - git reads all values before it looks at the version and the extensions; here they are looked
+///   at first
+/// - git reads a value before a line outside the grammar behind it; here the whole file is read
+///   first
 /// - git reads `core.bare` of a repository whose ids are of SHA-256; here that is not read
 /// - git names unknown extensions before it says that ids are of SHA-256; here the first key counts
 /// - git 2.39 does not know this extension; here, where no ref is read, it has no say
-/// - git says of an empty `core.worktree` that no work tree is there; here it is a value that cannot be read
-/// - git takes the work tree that `core.worktree` names in a git directory too; here a directory in it is refused as bare
+/// - git says of an empty `core.worktree` that no work tree is there; here it is a value that
+///   cannot be read
+/// - git takes the work tree that `core.worktree` names in a git directory too; here a directory in
+///   it is refused as bare
 /// - git reads the format of a bare repository too; here it is refused as bare
-/// - git takes `..` behind a file for the directory that the file is in; here nothing is behind a file
+/// - git takes `..` behind a file for the directory that the file is in; here nothing is behind a
+///   file
 /// - git ends a path at a NUL; here no path has one
 pub const DIFFERENCES: &[u8] = b"\
 found - /w/r /w/r/.git /w/r/.git=>odd-head^/w/r/a/b^-^g /w/.git;d /w/r/a/b;d /w/r/.git/objects;d /w/r/.git/refs;f /w/r/.git/HEAD=ref:refs/heads/x~\n\

@@ -4,8 +4,8 @@ use git_places::{Ceilings, Limits, PlacesError};
 use std::alloc::Global;
 use test_cases::{parted, tree_of};
 
-/// Rows: the word of the refusal and the file in which its cause stands, and the tree, in whose directory `/w/t` is asked. A file of
-/// the common directory is spelled as `commondir` leads to it.
+/// Rows: the word of the refusal and the file in which its cause stands, and the tree, in whose
+/// directory `/w/t` is asked. A file of the common directory is spelled as `commondir` leads to it.
 const ROWS: &[u8] = b"\
 version /w/t/.git/config^g /w/t/.git;f /w/t/.git/config=[core]~repositoryformatversion=2~\n\
 version /w/m/.git/worktrees/t/../../config^g /w/m/.git;d /w/t/a;f /w/t/.git=gitdir: /w/m/.git/worktrees/t~;f /w/m/.git/worktrees/t/HEAD=ref: refs/heads/x~;f /w/m/.git/worktrees/t/commondir=../..~;f /w/m/.git/config=[core]~repositoryformatversion=x~\n\

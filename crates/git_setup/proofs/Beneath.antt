@@ -12,7 +12,7 @@ use Rattle.gitbase_core.specs.Path.{components, directory_prefix, is_slash, is_t
 use Rattle.gitbase_core.proofs.DirectoryPrefix.{front-and-rest, joined-front}
 use Rattle.worktree_fs.specs.Answers.{kind_of}
 use Rattle.worktree_fs.specs.Tree.{Names, Node, Place, Jump, Spot, reached, missing, nowhere, endless, look_at, file, link, directory, other, child, is_text, is_dot, is_dot_dot, enter, parent_place, start, onward, walking, along, behind, resolve, spot}
-use Rattle.worktree_fs.proofs.Texts.{pieces-join}
+use Rattle.worktree_fs.proofs.Paths.Texts.{pieces-join}
 use Rattle.git_setup.specs.Present.{is_present}
 
 -- ---- along a path

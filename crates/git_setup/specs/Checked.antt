@@ -19,7 +19,7 @@ use Rattle.git_setup.specs.declared.checked.NamedFile.{NamedFile}
 use Rattle.git_setup.specs.declared.checked.OuterFiles.{OuterFiles}
 use Rattle.git_setup.specs.GlobalRules.{ended, marked}
 use Rattle.git_setup.specs.declared.error.GitRefusal.{GitRefusal}
-use Rattle.git_setup.specs.declared.reading.Read.{Read}
+use Rattle.git_setup.specs.declared.read_here.Read.{Read}
 
 -- ---- the rules outside the work tree, by the names that git prints
 

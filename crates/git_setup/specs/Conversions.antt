@@ -59,8 +59,8 @@ in_home t directory = is_present_below t directory (codes ".config/git/attribute
 
 -- "$XDG_CONFIG_HOME/git/attributes. If $XDG_CONFIG_HOME is either not set or empty, $HOME/.config/git/attributes is used": one at either
 -- place counts
-abbrev pub attributes_of_user : Names → Surroundings → Bool
-attributes_of_user t around =
+abbrev pub has_user_attributes : Names → Surroundings → Bool
+has_user_attributes t around =
     in_config_home t around.config_home || in_home t around.home
 
 -- that of the repository, and that of the system
@@ -73,7 +73,7 @@ in_system t = is_present t (codes "/etc") (codes "gitattributes")
 -- these, and that of the user
 abbrev pub attributes_outside : Names → Layout → Surroundings → Bool
 attributes_outside t places around =
-    in_repository t places.common || (in_system t || attributes_of_user t around)
+    in_repository t places.common || (in_system t || has_user_attributes t around)
 
 abbrev pub attributes_anywhere : Names → Layout → Surroundings → List IndexEntry → Bool
 attributes_anywhere t places around entries =

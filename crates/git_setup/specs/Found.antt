@@ -34,7 +34,7 @@ use Rattle.git_setup.specs.declared.error.GitRefusal.TheVariants as errors
 use Rattle.git_setup.specs.declared.found.Found.{Found}
 use Rattle.git_setup.specs.declared.parts.Parts.{Parts}
 use Rattle.git_setup.specs.declared.parts.Pieces.{Pieces}
-use Rattle.git_setup.specs.declared.reading.Read.{Read}
+use Rattle.git_setup.specs.declared.read_here.Read.{Read}
 use Rattle.git_setup.specs.declared.switches.Switches.{Switches}
 
 -- ---- where

@@ -26,8 +26,8 @@ abbrev pub compared_with : Layout → List IndexEntry → List Detail → List P
 compared_with places index details specs settings = record { root = places.root; index = index; details = details; specs = specs; settings = settings }
 
 -- with the path specs that are asked for, and the directory from the top
-unfoldable pub called : Layout → Surroundings → Bool → List (List ℕ) → List IndexEntry → List Detail → Settings → Result ComparedFrom GitRefusal
-called places around prefers paths index details settings = do
+unfoldable pub compared_from_parts : Layout → Surroundings → Bool → List (List ℕ) → List IndexEntry → List Detail → Settings → Result ComparedFrom GitRefusal
+compared_from_parts places around prefers paths index details settings = do
   specs ← specs_in prefers false places.root around.directory paths
   Ok (record {
     compared = compared_with places index details specs.all settings;
@@ -41,4 +41,4 @@ compared_from t places around prefers paths = do
   indexed ← indexed_here t places.git
   settings ← settings_by t places around indexed.entries
   index ← seen_here t places settings.looks_for_skipped indexed.entries
-  called places around prefers paths index indexed.details settings
+  compared_from_parts places around prefers paths index indexed.details settings

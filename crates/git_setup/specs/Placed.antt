@@ -20,8 +20,8 @@ abbrev pub plain : List ℕ → SpecText
 plain path = record { front = codes "::"; path = path; is_top = false; is_literal = false; folds = false; excludes = false }
 
 -- a text that is left as it is
-abbrev pub as_it_is : List ℕ → SpecText
-as_it_is text = record { front = []; path = text; is_top = true; is_literal = false; folds = false; excludes = false }
+abbrev pub literal_from_top : List ℕ → SpecText
+literal_from_top text = record { front = []; path = text; is_top = true; is_literal = false; folds = false; excludes = false }
 
 abbrev pub by_words : List ℕ → List ℕ → SpecText
 by_words inside path =
@@ -36,7 +36,7 @@ by_words inside path =
 
 -- by what stands behind `:(`
 abbrev pub long_parted : List ℕ → SpecText
-long_parted rest = if list_any is_close rest then by_words (before_first is_close rest) (after_first is_close rest) else as_it_is (codes ":(" ++ rest)
+long_parted rest = if list_any is_close rest then by_words (before_first is_close rest) (after_first is_close rest) else literal_from_top (codes ":(" ++ rest)
 
 abbrev pub by_marks : List ℕ → List ℕ → SpecText
 by_marks marks path =
@@ -59,7 +59,7 @@ colon_parted (b ∷ rest) = if b == open_parenthesis then long_parted rest else 
 
 -- the empty text is none of a path spec, and is left as it is
 abbrev pub parted : List ℕ → SpecText
-parted [] = as_it_is []
+parted [] = literal_from_top []
 parted (b ∷ rest) = if b == colon then colon_parted rest else plain (b ∷ rest)
 
 -- ---- from the top

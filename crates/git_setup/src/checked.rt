@@ -8,7 +8,7 @@ use crate::error::GitRefusal;
 use crate::found::prefix_in;
 use crate::globals::{ended, marked};
 use crate::parts::real_or_same;
-use crate::reading::{Read, read_here};
+use crate::read_here::{Read, read_here};
 use crate::switches::switches_in;
 use git_config_files::{Rules, RulesFile, read_stack, rules_files};
 use git_config_lite::File;
@@ -22,12 +22,14 @@ use worktree_fs::{Worktree, from_directory};
 pub struct NamedFile {
     /// The file, as git names it.
     pub name: Bytes,
-    /// Its rules as a search takes them, which skips a byte order mark at their front: without that of the file, if it has one; with
-    /// another in front where a second one follows it, which belongs to the first rule; and with a line feed behind the last line.
+    /// Its rules as a search takes them, which skips a byte order mark at their front: without that
+    /// of the file, if it has one; with another in front where a second one follows it, which
+    /// belongs to the first rule; and with a line feed behind the last line.
     pub bytes: Bytes,
 }
 
-/// The files of ignore rules outside the work tree; those of the repository come before those of the user.
+/// The files of ignore rules outside the work tree; those of the repository come before those of
+/// the user.
 #[derive(Debug, Drop)]
 pub struct OuterFiles {
     /// The file that `core.excludesFile` names, or the user's `ignore`, if it is there.
@@ -41,7 +43,8 @@ pub struct OuterFiles {
 pub struct Checked {
     /// The top of the work tree.
     pub root: PathText,
-    /// The current directory, from the top; no bytes where it is the top, or is not in the work tree.
+    /// The current directory, from the top; no bytes where it is the top, or is not in the work
+    /// tree.
     pub prefix: Bytes,
     /// The entries of the index as they are seen in the work tree; none where it is left aside.
     pub index: State,
@@ -231,19 +234,23 @@ fn checked_with<W: Worktree>(
     })
 }
 
-/// What paths of the work tree at these places, which [`crate::places_here`] answers, are checked by: the rules outside the work tree, each
-/// by the name that git prints; the entries of the index, each as it is seen in the work tree, or none where it is left aside; and what the
-/// configuration says of how letters compare and of how paths are written.
+/// What paths of the work tree at these places, which [`crate::places_here`] answers, are checked
+/// by: the rules outside the work tree, each by the name that git prints; the entries of the index,
+/// each as it is seen in the work tree, or none where it is left aside; and what the configuration
+/// says of how letters compare and of how paths are written.
 ///
 /// # Errors
 ///
 /// The first refusal, in this order:
 ///
-/// - `IndexNode`, `IndexFile`: what stands in the place of the index is no file, or is outside the grammar of one.
+/// - `IndexNode`, `IndexFile`: what stands in the place of the index is no file, or is outside the
+///   grammar of one.
 /// - `Files`: a configuration is not read, as [`git_config_files::read_stack`] says.
-/// - `Boolean`: `core.ignoreCase`, `core.sparseCheckout`, `sparse.expectFilesOutsideOfPatterns` or `core.quotePath` is no boolean.
+/// - `Boolean`: `core.ignoreCase`, `core.sparseCheckout`, `sparse.expectFilesOutsideOfPatterns` or
+///   `core.quotePath` is no boolean.
 /// - `SparseDirectory`, `IndexEntry`: as [`crate::setup_here`] has them.
-/// - `Files`: a rules file that the configuration names is not read, as [`git_config_files::rules_files`] says.
+/// - `Files`: a rules file that the configuration names is not read, as
+///   [`git_config_files::rules_files`] says.
 ///
 /// Besides, wherever it comes:
 ///

@@ -8,11 +8,11 @@ use crate::conversions::converts_here;
 use crate::details::Details;
 use crate::error::GitRefusal;
 use crate::found::top_found;
-use crate::ignoring::ignores_here;
+use crate::ignores_here::ignores_here;
 use crate::index::index_path;
 use crate::indexed::{Indexed, indexed_here};
 use crate::pathspecs::{AskedSpecs, specs_in};
-use crate::present::ordered;
+use crate::present::index_from_entries;
 use crate::settings::{Settings, unwatched};
 use crate::switches::switches_in;
 use git_config_files::read_stack;
@@ -46,7 +46,8 @@ fn places_at<W: Worktree>(alloc: Global, worktree: &mut W, top: Top) -> Result<P
     Ok(places_of(alloc, worktree, top)?)
 }
 
-/// The work tree around the current directory, and where its repository lies; the first step of [`crate::setup_here`].
+/// The work tree around the current directory, and where its repository lies; the first step of
+/// [`crate::setup_here`].
 ///
 /// # Errors
 ///
@@ -141,7 +142,7 @@ fn compared_by(
     let specs = specs_of(alloc, places, around, paths)?;
     let root = PathText::from_bytes(alloc, places.root.as_bytes())?;
     let Indexed { entries, details } = indexed;
-    let index = ordered(alloc, path.as_bytes(), entries)?;
+    let index = index_from_entries(alloc, path.as_bytes(), entries)?;
     Ok(Compared {
         root,
         index,
@@ -151,15 +152,17 @@ fn compared_by(
     })
 }
 
-/// What the work tree at these places, which [`places_here`] answers, and its index are compared by: the index as it stands in its file,
-/// with what the file says of each entry besides; what the configuration and the files say of how both are compared; and the path specs
-/// that are asked for, as they are from the top, where none means all.
+/// What the work tree at these places, which [`places_here`] answers, and its index are compared
+/// by: the index as it stands in its file, with what the file says of each entry besides; what the
+/// configuration and the files say of how both are compared; and the path specs that are asked for,
+/// as they are from the top, where none means all.
 ///
 /// # Errors
 ///
 /// The first refusal, in this order:
 ///
-/// - `IndexNode`, `IndexFile`: what stands in the place of the index is no file, or is outside the grammar of one.
+/// - `IndexNode`, `IndexFile`: what stands in the place of the index is no file, or is outside the
+///   grammar of one.
 /// - `Files`: a configuration is not read, as [`git_config_files::read_stack`] says.
 /// - `Boolean`: a value of `core` or `sparse` is no boolean, or none that is known.
 /// - `Elsewhere`: `core.fsmonitor` is set, so that a program tells which files changed.

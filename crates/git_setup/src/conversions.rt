@@ -86,7 +86,8 @@ fn leads_past<W: Worktree>(
     attributes_along(alloc, worktree, root, holder(entry))
 }
 
-/// The same where none is in a directory that leads to the entry before it: of entries in one directory the first is asked for.
+/// The same where none is in a directory that leads to the entry before it: of entries in one
+/// directory the first is asked for.
 fn leads_past_next<W: Worktree>(
     alloc: Global,
     worktree: &mut W,
@@ -201,13 +202,13 @@ fn in_home<W: Worktree>(
 }
 
 /// Whether a file of attributes is at one of the places at which the user may have one.
-fn attributes_of_user<W: Worktree>(
+fn has_user_attributes<W: Worktree>(
     alloc: Global,
     worktree: &mut W,
     around: &Surroundings,
 ) -> Result<bool, GitRefusal>
     ensures { Finds W.Worktree worktree.old worktree.new
-        (λ t. Ok (words.attributes_of_user t around.now)) result }
+        (λ t. Ok (words.has_user_attributes t around.now)) result }
 {
     if in_config_home(alloc, worktree, &around.config_home)? {
         return Ok(true);
@@ -253,7 +254,7 @@ fn attributes_outside<W: Worktree>(
     if in_system(alloc, worktree)? {
         return Ok(true);
     }
-    attributes_of_user(alloc, worktree, around)
+    has_user_attributes(alloc, worktree, around)
 }
 
 /// Whether there is a file of attributes anywhere.
@@ -276,8 +277,8 @@ fn attributes_anywhere<W: Worktree>(
     attributes_below(alloc, worktree, places.root.as_bytes(), entries)
 }
 
-/// Whether the bytes of some file may be converted on their way into the index: the configuration has line ends converted, or there are
-/// attributes anywhere.
+/// Whether the bytes of some file may be converted on their way into the index: the configuration
+/// has line ends converted, or there are attributes anywhere.
 ///
 /// See docs/DIFFERENCES.md#diff-conversion.
 pub fn converts_here<W: Worktree>(

@@ -6,7 +6,8 @@ use gitbase_core::{Bytes, IndexError, OutOfMemory, PathText};
 use thiserror::Error;
 use worktree_fs::ReadError;
 
-/// Why no setup is found for the current directory: the first refusal, in the order of the steps of [`crate::setup_here`].
+/// Why no setup is found for the current directory: the first refusal, in the order of the steps of
+/// [`crate::setup_here`].
 #[derive(Debug, Drop, PartialEq, Eq, Error)]
 pub enum GitRefusal {
     /// This variable of the environment points git elsewhere.
@@ -14,10 +15,12 @@ pub enum GitRefusal {
     Elsewhere {
         name: Bytes,
     },
-    /// There is no work tree, or its repository is not read here. Never a fault, and never want of memory.
+    /// There is no work tree, or its repository is not read here. Never a fault, and never want of
+    /// memory.
     #[error("Places")]
     Places(PlacesError),
-    /// The repository of the work tree at `path` belongs to another user, and no `safe.directory` names it.
+    /// The repository of the work tree at `path` belongs to another user, and no `safe.directory`
+    /// names it.
     #[error("Foreign")]
     Foreign {
         path: PathText,
@@ -39,8 +42,8 @@ pub enum GitRefusal {
         path: PathText,
         error: IndexError,
     },
-    /// A configuration, or a rules file that one names, is not read. Never a fault, never want of memory, and none of those that have
-    /// a variant here.
+    /// A configuration, or a rules file that one names, is not read. Never a fault, never want of
+    /// memory, and none of those that have a variant here.
     #[error("Files")]
     Files(FilesError),
     /// The value of this key of the configuration, in the file at `path`, is no boolean.
@@ -49,13 +52,14 @@ pub enum GitRefusal {
         path: Option<PathText>,
         key: Bytes,
     },
-    /// The index has one entry for all that is beneath this directory, and something is in its place.
+    /// The index has one entry for all that is beneath this directory, and something is in its
+    /// place.
     #[error("SparseDirectory")]
     SparseDirectory {
         path: PathText,
     },
-    /// The current directory, `directory`, is not in the work tree, whose top is `root`, and paths are asked for, or the directory itself
-    /// is meant where none are.
+    /// The current directory, `directory`, is not in the work tree, whose top is `root`, and paths
+    /// are asked for, or the directory itself is meant where none are.
     #[error("OutsideRoot")]
     OutsideRoot {
         directory: PathText,
@@ -71,13 +75,15 @@ pub enum GitRefusal {
     OutsidePath {
         text: Bytes,
     },
-    /// The path of this path spec is from a directory of the work tree, `prefix`, whose bytes would mean something else in front of it.
+    /// The path of this path spec is from a directory of the work tree, `prefix`, whose bytes would
+    /// mean something else in front of it.
     #[error("Prefix")]
     Prefix {
         text: Bytes,
         prefix: Bytes,
     },
-    /// Paths are to be deleted, names compare without regard to case, and there is a submodule, at `path`.
+    /// Paths are to be deleted, names compare without regard to case, and there is a submodule, at
+    /// `path`.
     #[error("SubmoduleCase")]
     SubmoduleCase {
         path: PathText,

@@ -13,7 +13,7 @@ use crate::error::GitRefusal;
 use crate::parts::{Parts, is_for_deletion, parts_here};
 use crate::pathspecs::AskedSpecs;
 use crate::placed::beneath;
-use crate::reading::read_here;
+use crate::read_here::read_here;
 use git_config_files::{FilesError, own_top};
 use git_config_lite::File;
 use git_places::{Limits, Places, PlacesError, Surroundings, Top, find_top, limits_of, places_of};
@@ -29,7 +29,8 @@ pub struct Found {
     pub root: PathText,
     /// The setup.
     pub setup: Setup,
-    /// The current directory, from the top; no bytes where it is the top, or is not in the work tree.
+    /// The current directory, from the top; no bytes where it is the top, or is not in the work
+    /// tree.
     pub prefix: Bytes,
     /// The path specs of the setup, each by itself.
     pub each: EachSpec,
@@ -249,13 +250,16 @@ fn found_at<W: Worktree>(
     Ok(found_with(alloc, places, around, asked, parts)?)
 }
 
-/// The work tree around the current directory, and the setup of it that git's files give, for what is asked.
+/// The work tree around the current directory, and the setup of it that git's files give, for what
+/// is asked.
 ///
-/// The setup has the entries of the index, each as it is seen in the work tree; the rules of the user and those of the repository behind
-/// them; the path specs that are asked for, as they are from the top; and the git directory by which the repository is told from others.
-/// Where the options are for deletion, the submodules of the index are work trees of their own, and the current directory stays. Where
-/// submodules are asked for, it has the configurations in which keys stand. Objects are not read: a rules file that is skipped, and would
-/// be needed, is told by the walk as a blob that is missing.
+/// The setup has the entries of the index, each as it is seen in the work tree; the rules of the
+/// user and those of the repository behind them; the path specs that are asked for, as they are
+/// from the top; and the git directory by which the repository is told from others. Where the
+/// options are for deletion, the submodules of the index are work trees of their own, and the
+/// current directory stays. Where submodules are asked for, it has the configurations in which keys
+/// stand. Objects are not read: a rules file that is skipped, and would be needed, is told by the
+/// walk as a blob that is missing.
 ///
 /// # Errors
 ///
@@ -263,22 +267,30 @@ fn found_at<W: Worktree>(
 ///
 /// - `Elsewhere`: a variable of the environment points git elsewhere.
 /// - `Places`: there is no work tree, as [`limits_of`] and [`find_top`] say.
-/// - `Foreign`, `Files`: it is another user's, or a configuration that would say so is not read, as [`own_top`] says.
+/// - `Foreign`, `Files`: it is another user's, or a configuration that would say so is not read, as
+///   [`own_top`] says.
 /// - `Places`: its repository is not read here, as [`places_of`] says.
-/// - `IndexNode`, `IndexFile`: what stands in the place of the index is no file, or is outside the grammar of one.
+/// - `IndexNode`, `IndexFile`: what stands in the place of the index is no file, or is outside the
+///   grammar of one.
 /// - `Files`: a configuration is not read, as [`git_config_files::read_stack`] says.
-/// - `Boolean`: `core.ignoreCase`, `core.sparseCheckout`, `sparse.expectFilesOutsideOfPatterns` or `core.quotePath` is no boolean.
-/// - `SparseDirectory`: an entry of the index stands for all that is beneath a directory, and something is in its place.
+/// - `Boolean`: `core.ignoreCase`, `core.sparseCheckout`, `sparse.expectFilesOutsideOfPatterns` or
+///   `core.quotePath` is no boolean.
+/// - `SparseDirectory`: an entry of the index stands for all that is beneath a directory, and
+///   something is in its place.
 /// - `IndexEntry`: an entry breaks a rule of [`gitbase_core::State`].
-/// - `Files`: a rules file that the configuration names is not read, as [`git_config_files::rules_files`] says.
-/// - `OutsideRoot`: the current directory is not in the work tree, and paths are asked for, or the directory is meant where none are.
-/// - `PathSpec`, `OutsidePath`, `Prefix`: the first path that is no path spec, leads out of the work tree, or is from a directory whose
-///   bytes would mean something else in front of it.
-/// - `SubmoduleCase`: the options are for deletion, names compare without regard to case, and there is a submodule.
+/// - `Files`: a rules file that the configuration names is not read, as
+///   [`git_config_files::rules_files`] says.
+/// - `OutsideRoot`: the current directory is not in the work tree, and paths are asked for, or the
+///   directory is meant where none are.
+/// - `PathSpec`, `OutsidePath`, `Prefix`: the first path that is no path spec, leads out of the
+///   work tree, or is from a directory whose bytes would mean something else in front of it.
+/// - `SubmoduleCase`: the options are for deletion, names compare without regard to case, and there
+///   is a submodule.
 ///
 /// Besides, wherever it comes:
 ///
-/// - `Fault`: the worktree failed, or the owners, which they counted. No fault reads as "nothing is there".
+/// - `Fault`: the worktree failed, or the owners, which they counted. No fault reads as "nothing is
+///   there".
 /// - `OutOfMemory` for want of memory.
 ///
 /// See docs/DECISIONS.md#setup-of-git.

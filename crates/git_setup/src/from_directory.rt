@@ -47,8 +47,8 @@ fn seen_here<W: Worktree>(
 }
 
 /// What is compared, with the path specs and the directory.
-#[tactic(auto, unfolding(crate::specs::FromDirectory::called))]
-fn called(
+#[tactic(auto, unfolding(crate::specs::FromDirectory::compared_from_parts))]
+fn compared_from_parts(
     alloc: Global,
     places: &Places,
     around: &Surroundings,
@@ -59,7 +59,7 @@ fn called(
     settings: Settings,
 ) -> Result<ComparedFrom, GitRefusal>
     ensures { Decides result
-        (words.called places.now around.now prefers paths.now index details settings) }
+        (words.compared_from_parts places.now around.now prefers paths.now index details settings) }
 {
     let top = places.root.as_bytes();
     let directory = around.directory.as_bytes();
@@ -80,16 +80,20 @@ fn called(
     })
 }
 
-/// What the work tree at these places and its index are compared by, as [`compared_at`](crate::compared_at) reads it: but each entry
-/// of the index is as it is seen in the work tree, as [`crate::setup_here`] has it; with each path spec by itself, and the current
-/// directory from the top. Where `prefers` says so, that directory is meant if there are no path specs, and if each excludes.
+/// What the work tree at these places and its index are compared by, as
+/// [`compared_at`](crate::compared_at) reads it: but each entry of the index is as it is seen in
+/// the work tree, as [`crate::setup_here`] has it; with each path spec by itself, and the current
+/// directory from the top. Where `prefers` says so, that directory is meant if there are no path
+/// specs, and if each excludes.
 ///
 /// # Errors
 ///
 /// The first refusal, in this order:
 ///
-/// - `IndexNode`, `IndexFile`, `Files`, `Boolean`, `Elsewhere`: as [`compared_at`](crate::compared_at) has them.
-/// - `SparseDirectory`: an entry of the index stands for all that is beneath a directory, and something is in its place.
+/// - `IndexNode`, `IndexFile`, `Files`, `Boolean`, `Elsewhere`: as
+///   [`compared_at`](crate::compared_at) has them.
+/// - `SparseDirectory`: an entry of the index stands for all that is beneath a directory, and
+///   something is in its place.
 /// - `IndexEntry`: an entry breaks a rule of [`gitbase_core::State`].
 /// - `OutsideRoot`, `PathSpec`, `OutsidePath`, `Prefix`: as [`crate::setup_here`] has them.
 ///
@@ -114,7 +118,7 @@ pub fn compared_from<W: Worktree>(
     let Indexed { entries, details } = indexed;
     let looks = settings.looks_for_skipped;
     let index = seen_here(alloc, worktree, places, looks, entries)?;
-    called(
+    compared_from_parts(
         alloc, places, around, prefers, paths, index, details, settings,
     )
 }

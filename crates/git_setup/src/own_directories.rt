@@ -11,8 +11,8 @@ use gitbase_core::{OutOfMemory, PathText, basename, is_dot_git};
 use std::alloc::Global;
 use worktree_fs::Worktree;
 
-/// The git directories of a work tree that lie in it under another name than `.git`, by their paths from the top: as where
-/// `.git` is a link to a directory beside it, or a file that names one.
+/// The git directories of a work tree that lie in it under another name than `.git`, by their paths
+/// from the top: as where `.git` is a link to a directory beside it, or a file that names one.
 #[derive(Debug, Drop)]
 pub struct OwnDirectories {
     /// The git directory of the work tree.

@@ -9,7 +9,7 @@ use crate::error::GitRefusal;
 use crate::globals::globals_of;
 use crate::pathspecs::{AskedSpecs, specs_in};
 use crate::protected::{Protected, protected_here};
-use crate::reading::Read;
+use crate::read_here::Read;
 use git_config_files::{Configured, Rules, Stack, rules_files};
 use git_config_lite::{File, Source};
 use git_places::{Places, Surroundings};

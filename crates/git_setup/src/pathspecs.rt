@@ -180,8 +180,8 @@ fn specs_within(
     specs_from(alloc, ignore_case, root, prefix, &written)
 }
 
-/// The path specs of some texts, asked for from a directory of the work tree at `root`. Where `prefers` says so, the directory is meant if
-/// there are none, and if each excludes.
+/// The path specs of some texts, asked for from a directory of the work tree at `root`. Where
+/// `prefers` says so, the directory is meant if there are none, and if each excludes.
 pub fn specs_in(
     alloc: Global,
     prefers: bool,

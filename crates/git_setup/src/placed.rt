@@ -56,8 +56,8 @@ fn plain(alloc: Global, path: &[u8]) -> Result<SpecText, OutOfMemory>
 }
 
 /// A text that is left as it is.
-fn as_it_is(alloc: Global, text: &[u8]) -> Result<SpecText, OutOfMemory>
-    ensures { IfOk result (λ parted. parted ≡ texts.as_it_is text.now) }
+fn literal_from_top(alloc: Global, text: &[u8]) -> Result<SpecText, OutOfMemory>
+    ensures { IfOk result (λ parted. parted ≡ texts.literal_from_top text.now) }
 {
     Ok(SpecText {
         front: Bytes::new(alloc),
@@ -147,7 +147,7 @@ fn long_parted(alloc: Global, rest: &[u8]) -> Result<SpecText, OutOfMemory>
         Some((inside, path)) => by_words(alloc, inside, path),
         None => {
             let text = joined(alloc, b":(", rest)?;
-            as_it_is(alloc, text.as_bytes())
+            literal_from_top(alloc, text.as_bytes())
         }
     }
 }
@@ -230,7 +230,7 @@ pub fn parted(alloc: Global, text: &[u8]) -> Result<SpecText, OutOfMemory>
     ensures { IfOk result (λ parted. parted ≡ texts.parted text.now) }
 {
     match text {
-        [] => as_it_is(alloc, text),
+        [] => literal_from_top(alloc, text),
         [b':', b'(', rest @ ..] => long_parted(alloc, rest),
         [b':', rest @ ..] => short_parted(alloc, rest),
         _ => plain(alloc, text),
@@ -339,7 +339,8 @@ fn with_slash(alloc: Global, path: PathText) -> Result<Bytes, OutOfMemory>
     Ok(whole)
 }
 
-/// An absolute path without empty components, `.` and `..`, as git looks at it; a slash at its end stays.
+/// An absolute path without empty components, `.` and `..`, as git looks at it; a slash at its end
+/// stays.
 fn normal_path(alloc: Global, path: &[u8]) -> Result<Bytes, OutOfMemory>
     ensures { IfOk result (λ normal. normal ≡ texts.normal_path path.now) }
 {
@@ -385,7 +386,8 @@ fn from_top(
     from_prefix(alloc, text, prefix, parted)
 }
 
-/// The text of a path spec from the top of the work tree at `root`, where `text` is asked for from the directory `prefix` in it.
+/// The text of a path spec from the top of the work tree at `root`, where `text` is asked for from
+/// the directory `prefix` in it.
 ///
 /// See docs/DECISIONS.md#prefixed-spec.
 #[tactic(auto, unfolding(crate::specs::Placed::placed))]

@@ -290,7 +290,7 @@ fn entry_error(alloc: Global, path: &[u8], error: IndexError) -> Result<GitRefus
 }
 
 /// Entries of the index file at a path, as an index.
-pub fn ordered(alloc: Global, path: &[u8], entries: Entries) -> Result<State, GitRefusal>
+pub fn index_from_entries(alloc: Global, path: &[u8], entries: Entries) -> Result<State, GitRefusal>
     ensures { Decides result (as_ordered path.now (index_of entries)) }
 {
     match State::from_entries(entries.into_vec()) {
@@ -301,10 +301,12 @@ pub fn ordered(alloc: Global, path: &[u8], entries: Entries) -> Result<State, Gi
 
 /// The index of the entries of the file at `path`, each as it is seen in the work tree.
 ///
-/// An entry that stands for all that is beneath a directory is refused where something is in its place. Where `looks` says so, a skipped
-/// entry with something in its place is taken as one that is not skipped. Of each such entry there are at most two looks: one at the
-/// directory above it, unless that is the top or is known to be there, and one at the entry, unless that directory is gone. Beneath the
-/// last directory that was looked at there is none, if that is gone. Only what was looked at last is known.
+/// An entry that stands for all that is beneath a directory is refused where something is in its
+/// place. Where `looks` says so, a skipped entry with something in its place is taken as one that
+/// is not skipped. Of each such entry there are at most two looks: one at the directory above it,
+/// unless that is the top or is known to be there, and one at the entry, unless that directory is
+/// gone. Beneath the last directory that was looked at there is none, if that is gone. Only what
+/// was looked at last is known.
 ///
 /// See docs/DIFFERENCES.md#sparse-index and docs/DECISIONS.md#look-at-skipped.
 pub fn index_seen<W: Worktree>(
@@ -319,5 +321,5 @@ pub fn index_seen<W: Worktree>(
         (λ t. words.index_seen t root.now path.now looks entries) result }
 {
     let entries = all_seen(alloc, worktree, root, looks, entries)?;
-    ordered(alloc, path, entries)
+    index_from_entries(alloc, path, entries)
 }

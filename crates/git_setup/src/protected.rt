@@ -1,4 +1,5 @@
-//! What a deletion leaves alone as a work tree of its own: submodules, and git directories of this one.
+//! What a deletion leaves alone as a work tree of its own: submodules, and git directories of this
+//! one.
 ghost use Rattle.std.specs.Prelude.{◌≡◌, [], IfOk, OnOk, find, option_copied};
 ghost use Rattle.git_setup.specs.Finds.{Decides, Finds};
 ghost use Rattle.git_setup.specs.OwnDirectories.{own_for};
@@ -115,7 +116,8 @@ fn protected_in(
     }
 }
 
-/// What a deletion leaves alone in a work tree: its git directories, and the submodules of its index.
+/// What a deletion leaves alone in a work tree: its git directories, and the submodules of its
+/// index.
 pub fn protected_here<W: Worktree>(
     alloc: Global,
     worktree: &mut W,

@@ -102,7 +102,8 @@ fn not_heeded(alloc: Global, key: &[u8]) -> Result<GitRefusal, OutOfMemory>
     })
 }
 
-/// Whether a program tells which files changed: any value of `core.fsmonitor` but one that is false.
+/// Whether a program tells which files changed: any value of `core.fsmonitor` but one that is
+/// false.
 fn is_watched(config: &File) -> bool
     ensures { result ≡ words.is_watched config.now.sections }
 {
@@ -112,7 +113,8 @@ fn is_watched(config: &File) -> bool
     )
 }
 
-/// What the configuration says of how nodes are compared, unless a program tells which files changed.
+/// What the configuration says of how nodes are compared, unless a program tells which files
+/// changed.
 ///
 /// See docs/DIFFERENCES.md#diff-watched.
 pub fn unwatched(alloc: Global, config: &File) -> Result<NodeSettings, GitRefusal>

@@ -1,4 +1,5 @@
-//! What the configuration says of how names compare, of a sparse work tree, and of how paths are written.
+//! What the configuration says of how names compare, of a sparse work tree, and of how paths are
+//! written.
 ghost use Rattle.std.specs.Prelude.{◌≡◌, IfOk, option_copied};
 ghost use Rattle.git_setup.specs.Finds.{Decides};
 ghost use Rattle.git_setup.specs.Switches as words;
@@ -9,7 +10,8 @@ use git_places::{file_of, path_copied};
 use gitbase_core::{Bytes, OutOfMemory, PathText};
 use std::alloc::Global;
 
-/// What the configuration says of how names compare, of a sparse work tree, and of how paths are written.
+/// What the configuration says of how names compare, of a sparse work tree, and of how paths are
+/// written.
 #[derive(Clone, Copy, Debug, PartialEq, Eq)]
 pub struct Switches {
     /// Whether names compare without regard to the case of ASCII letters.
@@ -34,7 +36,8 @@ pub fn boolean_error(
     })
 }
 
-/// What a key says as a boolean, and the usual answer where it says nothing; `name` is what it is called where it is refused.
+/// What a key says as a boolean, and the usual answer where it says nothing; `name` is what it is
+/// called where it is refused.
 pub fn truth_in(
     alloc: Global,
     config: &File,

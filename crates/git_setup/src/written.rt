@@ -117,8 +117,9 @@ fn takes_here(
     means_here(alloc, prefix, texts)
 }
 
-/// Some texts as they are asked for in the directory `prefix` of a work tree. Where `prefers` says so, the directory itself stands behind
-/// them if there are none, unless it is the top, and if each excludes.
+/// Some texts as they are asked for in the directory `prefix` of a work tree. Where `prefers` says
+/// so, the directory itself stands behind them if there are none, unless it is the top, and if each
+/// excludes.
 #[tactic(auto, unfolding(crate::specs::AskedSpecs::written_in))]
 pub fn written_in(
     alloc: Global,

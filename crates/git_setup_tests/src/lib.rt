@@ -1,4 +1,5 @@
-//! The setups of work trees in memory, each with a whole `.git` that git wrote, by what git says of them.
+//! The setups of work trees in memory, each with a whole `.git` that git wrote, by what git says of
+//! them.
 #![tactic(auto)]
 
 #[cfg(test)]

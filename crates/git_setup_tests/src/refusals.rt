@@ -1,6 +1,6 @@
-//! Refusals, of trees that are made by hand: each row has the word, letters for what is asked, the directory, the path spec, if there is
-//! one, and the steps behind those of a repository without entries. The letter `d` is for deletion, `e` for a variable that points
-//! elsewhere.
+//! Refusals, of trees that are made by hand: each row has the word, letters for what is asked, the
+//! directory, the path spec, if there is one, and the steps behind those of a repository without
+//! entries. The letter `d` is for deletion, `e` for a variable that points elsewhere.
 use crate::asked::{asked_alone, asked_for, owners_of, surroundings_in, usual_options};
 use bstr::ByteSlice;
 use dir_classify::ForDeletionMode;

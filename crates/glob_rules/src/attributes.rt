@@ -11,11 +11,11 @@ mod line;
 mod list;
 mod outcome;
 mod quoted;
-mod saying;
 mod search;
 mod selected;
 mod sources;
 mod standing;
+mod standing_at;
 mod word;
 
 pub use collection::MetadataCollection;

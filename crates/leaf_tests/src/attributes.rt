@@ -1,6 +1,6 @@
 //! The attributes of paths.
 use crate::attribute_answers as git;
-use crate::rows::replaced;
+use crate::rows::{parted_by, replaced};
 use bstr::ByteSlice;
 use gitbase_core::{Bytes, PathText};
 use glob_rules::Case;
@@ -96,16 +96,12 @@ struct Row<'a> {
     directory: &'a [u8],
 }
 
-fn parted(row: &[u8]) -> (&[u8], &[u8]) {
-    row.split_once_str(b";").unwrap_or((row, b""))
-}
-
 fn row_of(row: &[u8]) -> Row<'_> {
-    let (found, rest) = parted(row);
-    let (path, rest) = parted(rest);
-    let (user, rest) = parted(rest);
-    let (root, rest) = parted(rest);
-    let (info, directory) = parted(rest);
+    let (found, rest) = parted_by(row, b";");
+    let (path, rest) = parted_by(rest, b";");
+    let (user, rest) = parted_by(rest, b";");
+    let (root, rest) = parted_by(rest, b";");
+    let (info, directory) = parted_by(rest, b";");
     Row {
         found,
         path,

@@ -1,7 +1,6 @@
 //! Configuration files.
 use crate::config_answers as git;
-use crate::rows::{is_shown, parted, replaced, wanted};
-use bstr::ByteSlice;
+use crate::rows::{is_shown, parted, parted_by, replaced, wanted};
 use git_config_lite::{File, Metadata, ParseError, Source};
 use gitbase_core::PathText;
 use std::alloc::Global;
@@ -72,10 +71,6 @@ fn is_boolean(alloc: Global, text: &[u8], asked: Asked<'_>, want: &[u8]) -> bool
     }
 }
 
-fn parted_by_caret(row: &[u8]) -> (&[u8], &[u8]) {
-    row.split_once_str(b"^").unwrap_or((row, b""))
-}
-
 fn subsection_of(word: &[u8]) -> Option<&[u8]> {
     word.strip_prefix(b"\"")
 }
@@ -83,10 +78,10 @@ fn subsection_of(word: &[u8]) -> Option<&[u8]> {
 /// Whether a row of git's answers holds: the answer, the section, the subsection, the key and the
 /// text.
 fn is_answered(alloc: Global, row: &[u8], asks_boolean: bool) -> bool {
-    let (answer, rest) = parted_by_caret(row);
-    let (section, rest) = parted_by_caret(rest);
-    let (subsection, rest) = parted_by_caret(rest);
-    let (key, text) = parted_by_caret(rest);
+    let (answer, rest) = parted_by(row, b"^");
+    let (section, rest) = parted_by(rest, b"^");
+    let (subsection, rest) = parted_by(rest, b"^");
+    let (key, text) = parted_by(rest, b"^");
     let asked = Asked {
         section,
         subsection: subsection_of(subsection),

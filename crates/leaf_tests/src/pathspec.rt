@@ -1,6 +1,6 @@
 //! Path specs.
 use crate::pathspec_answers as git;
-use crate::rows::{is_shown, parted};
+use crate::rows::{is_shown, parted, parted_by};
 use bstr::ByteSlice;
 use glob_rules::pathspec::{Defaults, Error, Match, MatchKind, Matcher, Search, Spec};
 use std::alloc::Global;
@@ -44,16 +44,12 @@ fn said_of(search: &Search, path: &[u8], is_dir: bool) -> u8 {
     }
 }
 
-fn parted_by_semicolon(row: &[u8]) -> (&[u8], &[u8]) {
-    row.split_once_str(b";").unwrap_or((row, b""))
-}
-
 /// Whether a row of git's answers holds: the answers, of which the last is ours, the kind, the path
 /// and the specs.
 fn is_answered(alloc: Global, row: &[u8], defaults: Defaults) -> bool {
-    let (answers, rest) = parted_by_semicolon(row);
-    let (kind, rest) = parted_by_semicolon(rest);
-    let (path, specs) = parted_by_semicolon(rest);
+    let (answers, rest) = parted_by(row, b";");
+    let (kind, rest) = parted_by(rest, b";");
+    let (path, specs) = parted_by(rest, b";");
     match (
         answers.last(),
         answer(alloc, specs, path, kind.starts_with(b"d"), defaults),

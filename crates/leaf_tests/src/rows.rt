@@ -3,9 +3,15 @@ use bstr::ByteSlice;
 use std::alloc::Global;
 use std::fmt::Display;
 
-/// What stands before the first backquote, and behind it.
+/// What stands before the first of these marks, and behind it: the whole row and nothing where
+/// there is none.
+pub fn parted_by<'a>(row: &'a [u8], mark: &[u8]) -> (&'a [u8], &'a [u8]) {
+    row.split_once_str(mark).unwrap_or((row, b""))
+}
+
+/// The same of the first backquote.
 pub fn parted(row: &[u8]) -> (&[u8], &[u8]) {
-    row.split_once_str(b"`").unwrap_or((row, b""))
+    parted_by(row, b"`")
 }
 
 /// A text with one byte in the place of another.

@@ -1,7 +1,6 @@
 //! Globs and the rules of ignore files.
-use crate::rows::{joined, replaced};
+use crate::rows::{joined, parted_by, replaced};
 use crate::rule_answers as git;
-use bstr::ByteSlice;
 use gitbase_core::PathText;
 use glob_rules::ignore::{Kind, List, Match, ParseIgnore, Search};
 use glob_rules::{Case, Pattern, WildMode, wildmatch};
@@ -76,14 +75,10 @@ struct Row<'a> {
     rules: &'a [u8],
 }
 
-fn parted(row: &[u8]) -> (&[u8], &[u8]) {
-    row.split_once_str(b";").unwrap_or((row, b""))
-}
-
 fn row_of(row: &[u8]) -> Row<'_> {
-    let (line, rest) = parted(row);
-    let (kind, rest) = parted(rest);
-    let (path, rules) = parted(rest);
+    let (line, rest) = parted_by(row, b";");
+    let (kind, rest) = parted_by(rest, b";");
+    let (path, rules) = parted_by(rest, b";");
     Row {
         line,
         kind,
@@ -163,8 +158,8 @@ fn is_rule(found: &Match<'_>, want: &[u8]) -> bool {
 }
 
 fn is_asked(search: &Search, row: &[u8]) -> bool {
-    let (path, rest) = parted(row);
-    let (kind, want) = parted(rest);
+    let (path, rest) = parted_by(row, b";");
+    let (kind, want) = parted_by(rest, b";");
     let is_dir = if kind == b"d".as_slice() {
         Some(true)
     } else {
@@ -295,8 +290,8 @@ fn long_search(alloc: Global) -> Option<Search> {
 
 /// Whether the line of a row decides about its path.
 fn is_decided_by(search: &Search, row: &[u8]) -> bool {
-    let (path, rest) = parted(row);
-    let (kind, want) = parted(rest);
+    let (path, rest) = parted_by(row, b";");
+    let (kind, want) = parted_by(rest, b";");
     let line = line_of(search, path, kind == b"d".as_slice(), Case::Sensitive);
     match want.first() {
         Some(b'-') => line == 0,

@@ -9,8 +9,8 @@ use Rattle.diff_files.specs.declared.comparison.Comparison.{Comparison}
 use Rattle.diff_files.specs.declared.stats.Stats.{Ghosts as StatsOf}
 use Rattle.diff_files.specs.KeptStats.{AsksStats, FailsNot, Outside, Tells}
 use Rattle.ls_files.specs.declared.standings.Standings.{Standings}
-use Rattle.ls_files.specs.declared.listing.Listing.{Listing}
-use Rattle.ls_files.specs.declared.listing.NamedSpec.{NamedSpec}
+use Rattle.ls_files.specs.declared.options.Listing.{Listing}
+use Rattle.ls_files.specs.declared.options.NamedSpec.{NamedSpec}
 use Rattle.ls_files.specs.Changed.{shown_from}
 use Rattle.ls_files.specs.Places.{Shown}
 

@@ -19,8 +19,8 @@ use Rattle.worktree_report.proofs.Answered.{told-blobs, Texts-refused}
 use Rattle.worktree_report.proofs.Refusing.{MakesFirst-is}
 use Rattle.worktree_report.proofs.ReportMade.{report_is}
 use Rattle.ls_files.specs.declared.listed.Listed.{Listed}
-use Rattle.ls_files.specs.declared.listing.Listing.{Listing}
-use Rattle.ls_files.specs.declared.listing.NamedSpec.{NamedSpec}
+use Rattle.ls_files.specs.declared.options.Listing.{Listing}
+use Rattle.ls_files.specs.declared.options.NamedSpec.{NamedSpec}
 use Rattle.ls_files.specs.Listed as words
 
 asks-none : {W : Type 0} (w : WorktreeOf W) (x : W) → Asks w x x

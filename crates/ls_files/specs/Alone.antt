@@ -7,7 +7,7 @@ use Rattle.glob_rules.specs.declared.Case.{Case}
 use Rattle.worktree_report.specs.Excluding.{rules_in}
 use Rattle.worktree_report.specs.declared.setup.Setup.{Setup}
 use Rattle.worktree_stack.specs.Mappings.{case_of}
-use Rattle.ls_files.specs.declared.listing.Listing.{Listing}
+use Rattle.ls_files.specs.declared.options.Listing.{Listing}
 use Rattle.ls_files.specs.Choices.{asks_rules}
 use Rattle.ls_files.specs.Others.{above, as_directory}
 use Rattle.ls_files.specs.Places.{Place}

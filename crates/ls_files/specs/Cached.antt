@@ -6,7 +6,7 @@ use Rattle.gitbase_core.specs.declared.entry.IndexEntry.{IndexEntry}
 use Rattle.glob_rules.specs.PathSpec.{PathSpec}
 use Rattle.glob_rules.specs.PathSpecs.{list_match}
 use Rattle.glob_rules.specs.declared.pathspec.Match.{Match}
-use Rattle.ls_files.specs.declared.listing.Listing.{Listing}
+use Rattle.ls_files.specs.declared.options.Listing.{Listing}
 use Rattle.ls_files.specs.Choices.{chosen}
 use Rattle.ls_files.specs.Lines.{entry_line}
 

@@ -20,11 +20,12 @@ use Rattle.diff_files.specs.Standing.{is_skipped_in, presence_in, standing_in}
 use Rattle.ls_files.specs.declared.changed_error.ChangedError.{ChangedError}
 use Rattle.ls_files.specs.declared.changed_error.ChangedError.TheVariants as errors
 use Rattle.ls_files.specs.ChangedErrors.{Answers, UnlessFault}
+use Rattle.ls_files.specs.declared.standings.ChangeQuery.{ChangeQuery}
 use Rattle.ls_files.specs.declared.standings.Standings.{Standings}
 use Rattle.ls_files.specs.declared.standings.Standings.TheVariants as standings
 use Rattle.ls_files.specs.declared.listed.Listed.{Listed}
-use Rattle.ls_files.specs.declared.listing.Listing.{Listing}
-use Rattle.ls_files.specs.declared.listing.NamedSpec.{NamedSpec}
+use Rattle.ls_files.specs.declared.options.Listing.{Listing}
+use Rattle.ls_files.specs.declared.options.NamedSpec.{NamedSpec}
 use Rattle.ls_files.specs.declared.shown.Sign.{Sign}
 use Rattle.ls_files.specs.declared.shown.Sign.TheVariants as signs
 use Rattle.ls_files.specs.Cached.{is_entry_matched}
@@ -65,6 +66,9 @@ is_candidate l named specs e = not (is_settled l e) && is_asked l named specs e
 abbrev pub is_looked_at : Outside → List ℕ → Comparison → Listing → List NamedSpec → List PathSpec → IndexEntry → Bool
 is_looked_at s root o l named specs e = is_candidate l named specs e && not (is_skipped_in s.stats root o e)
 
+abbrev pub is_looked_at_by : Outside → ChangeQuery → IndexEntry → Bool
+is_looked_at_by s q e = is_looked_at s q.root.now q.comparison.now q.listing.now q.named.now q.specs.now e
+
 -- ---- how they stand
 
 -- where only what is gone is asked for, nothing else is looked at
@@ -75,6 +79,9 @@ looked_at s root o standings.Both e d = standing_in s root o e d
 
 unfoldable pub change_of : Outside → List ℕ → Comparison → Standings → Listing → List NamedSpec → List PathSpec → IndexEntry → Detail → Result PathChange Unsupported
 change_of s root o w l named specs e d = if is_looked_at s root o l named specs e then looked_at s root o w e d else Ok changes.Same
+
+abbrev pub change_by : Outside → ChangeQuery → IndexEntry → Detail → Result PathChange Unsupported
+change_by s q e d = change_of s q.root.now q.comparison.now q.standings q.listing.now q.named.now q.specs.now e d
 
 abbrev pub is_deleted : PathChange → Bool
 is_deleted changes.Same = false
@@ -127,6 +134,9 @@ shown_from s root o w l named specs shown last (e ∷ entries) (d ∷ details) =
     if is_again l last e then shown_from s root o w l named specs shown last entries details
     else and_then (λ (change : PathChange). shown_from s root o w l named specs (shown ++ shown_of w l e change) (last_after last w l e change) entries details)
     (change_of s root o w l named specs e d)
+
+abbrev pub shown_by : Outside → ChangeQuery → List IndexEntry → List Detail → Result (List Shown) Unsupported
+shown_by s q entries details = shown_from s q.root.now q.comparison.now q.standings q.listing.now q.named.now q.specs.now [] None entries details
 
 -- what is shown of an entry is added, or the form that is not answered is refused; want of memory stands apart
 abbrev pub AddsShown : Standings → Listing → IndexEntry → Result PathChange Unsupported → List Shown → List Shown → Result PathChange ChangedError → Type 0

@@ -1,7 +1,7 @@
 -- What the options choose of an index: git-ls-files(1), "OPTIONS".
 use Rattle.std.specs.Prelude.{ℕ, List, [], ◌∷◌, Bool, false, not, ◌&&◌, ◌||◌, ◌==◌, bytes_eq, Option, Some, None, if◌then◌else◌}
 use Rattle.gitbase_core.specs.declared.entry.IndexEntry.{IndexEntry}
-use Rattle.ls_files.specs.declared.listing.Listing.{Listing}
+use Rattle.ls_files.specs.declared.options.Listing.{Listing}
 
 -- "-u .. forces --stage"
 abbrev pub shows_stages : Listing → Bool

@@ -28,8 +28,8 @@ use Rattle.worktree_stack.specs.declared.error.RulesWhy.TheVariants as rules
 use Rattle.ls_files.specs.declared.excluded_error.ExcludedError.{ExcludedError}
 use Rattle.ls_files.specs.declared.excluded_error.ExcludedError.TheVariants as errors
 use Rattle.ls_files.specs.declared.listed.Listed.{Listed}
-use Rattle.ls_files.specs.declared.listing.Listing.{Listing}
-use Rattle.ls_files.specs.declared.listing.NamedSpec.{NamedSpec}
+use Rattle.ls_files.specs.declared.options.Listing.{Listing}
+use Rattle.ls_files.specs.declared.options.NamedSpec.{NamedSpec}
 use Rattle.ls_files.specs.declared.wrong.WrongListing.{WrongListing}
 use Rattle.ls_files.specs.declared.wrong.WrongListing.TheVariants as wrong
 use Rattle.ls_files.specs.Alone.{are_alone, is_excluded, patterns_of}

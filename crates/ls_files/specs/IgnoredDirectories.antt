@@ -15,7 +15,7 @@ use Rattle.worktree_report.specs.SetupMeant.{ordered_after}
 use Rattle.worktree_report.specs.declared.report.ReportEntry.{ReportEntry}
 use Rattle.worktree_report.specs.declared.setup.Setup.{Setup}
 use Rattle.worktree_stack.specs.Mappings.{case_of}
-use Rattle.ls_files.specs.declared.listing.Listing.{Listing}
+use Rattle.ls_files.specs.declared.options.Listing.{Listing}
 use Rattle.ls_files.specs.Alone.{are_alone, is_excluded, patterns_of}
 use Rattle.ls_files.specs.Others.{above, as_directory, has_beneath, is_plain, is_untracked, name, name_unless, place_at, shows_empty, with_name}
 use Rattle.ls_files.specs.Places.{Judged, Place}

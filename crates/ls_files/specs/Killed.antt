@@ -9,8 +9,8 @@ use Rattle.glob_rules.specs.PathSpec.{PathSpec}
 use Rattle.dir_classify.specs.declared.entry.Entry.{Entry}
 use Rattle.worktree_report.specs.SetupMeant.{ordered_after}
 use Rattle.worktree_report.specs.declared.report.ReportEntry.{ReportEntry}
-use Rattle.ls_files.specs.declared.listing.Listing.{Listing}
-use Rattle.ls_files.specs.declared.listing.NamedSpec.{NamedSpec}
+use Rattle.ls_files.specs.declared.options.Listing.{Listing}
+use Rattle.ls_files.specs.declared.options.NamedSpec.{NamedSpec}
 use Rattle.ls_files.specs.Choices.{is_of_a_merge}
 use Rattle.ls_files.specs.Lines.{killed_line}
 use Rattle.ls_files.specs.Others.{above, as_directory, has_beneath, has_entry, name, place_at, place_of, shows_empty, with_name}

@@ -6,7 +6,7 @@ use Rattle.gitbase_core.specs.Kinds.{has_flag}
 use Rattle.gitbase_core.specs.declared.entry.IndexEntry.{IndexEntry}
 use Rattle.git_paths.specs.QuotedNames.{quoted}
 use Rattle.git_paths.specs.RelativeNames.{relative_from}
-use Rattle.ls_files.specs.declared.listing.Listing.{Listing}
+use Rattle.ls_files.specs.declared.options.Listing.{Listing}
 use Rattle.ls_files.specs.declared.shown.Sign.{Sign}
 use Rattle.ls_files.specs.declared.shown.Sign.TheVariants as signs
 use Rattle.ls_files.specs.Places.{Shown}

@@ -18,8 +18,8 @@ use Rattle.worktree_report.specs.Asked.{read_in, report_of}
 use Rattle.worktree_report.specs.Behind.{MakesFirst, RefusesText}
 use Rattle.worktree_report.specs.Orderly.{IsOrderly}
 use Rattle.ls_files.specs.declared.listed.Listed.{Listed}
-use Rattle.ls_files.specs.declared.listing.Listing.{Listing}
-use Rattle.ls_files.specs.declared.listing.NamedSpec.{NamedSpec}
+use Rattle.ls_files.specs.declared.options.Listing.{Listing}
+use Rattle.ls_files.specs.declared.options.NamedSpec.{NamedSpec}
 use Rattle.ls_files.specs.Alone.{sifted, unsifted}
 use Rattle.ls_files.specs.Cached.{index_text}
 use Rattle.ls_files.specs.Choices.{chosen, walks}

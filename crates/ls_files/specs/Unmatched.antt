@@ -6,7 +6,7 @@ use Rattle.gitbase_core.specs.Path.{ends_in_slash, is_empty, without_slash}
 use Rattle.gitbase_core.specs.declared.entry.IndexEntry.{IndexEntry}
 use Rattle.glob_rules.specs.PathSpecs.{list_match}
 use Rattle.glob_rules.specs.declared.pathspec.Match.{Match}
-use Rattle.ls_files.specs.declared.listing.NamedSpec.{NamedSpec}
+use Rattle.ls_files.specs.declared.options.NamedSpec.{NamedSpec}
 use Rattle.ls_files.specs.Cached.{is_directory}
 use Rattle.ls_files.specs.Places.{Place}
 

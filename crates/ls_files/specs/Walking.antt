@@ -5,7 +5,7 @@ use Rattle.dir_classify.specs.declared.options.EmissionMode.TheVariants.{Matchin
 use Rattle.dir_classify.specs.declared.options.ForDeletionMode.{ForDeletionMode}
 use Rattle.dir_classify.specs.declared.options.ForDeletionMode.TheVariants.{FindNonBareRepositoriesInIgnoredDirectories}
 use Rattle.worktree_report.specs.declared.setup.SetupOptions.{SetupOptions}
-use Rattle.ls_files.specs.declared.listing.Listing.{Listing}
+use Rattle.ls_files.specs.declared.options.Listing.{Listing}
 use Rattle.ls_files.specs.Choices.{asks_rules}
 use Rattle.ls_files.specs.Others.{shows_empty}
 

@@ -5,7 +5,7 @@ ghost use Rattle.worktree_stack.specs.Mappings.{case_of};
 ghost use Rattle.ls_files.specs.Alone as words;
 
 use crate::cached::asks_rules;
-use crate::listing::Listing;
+use crate::options::Listing;
 use crate::place::{Place, place_of_name};
 use gitbase_core::{Bytes, OutOfMemory, PathText};
 use glob_rules::Case;

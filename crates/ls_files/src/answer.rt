@@ -5,7 +5,7 @@ ghost use Rattle.ls_files.specs.Wrong.{wrong_in};
 
 use crate::cached::walks;
 use crate::listed::{Listed, list_found};
-use crate::listing::{Listing, NamedSpec};
+use crate::options::{Listing, NamedSpec};
 use gitbase_core::Find;
 use std::alloc::Global;
 use worktree_fs::Interrupt;
@@ -41,8 +41,8 @@ fn list_walked<W: CountsFaults, I: Interrupt>(
 }
 
 /// What `git ls-files` lists of the work tree at `root`, called in its directory `prefix`: what the
-/// index does not have and what lies in its way, where these are asked for, and behind them what the
-/// index has. A report is made for the first two, and nothing is asked of the worktree without.
+/// index does not have and what lies in its way, where these are asked for, and behind them what
+/// the index has. A report is made for the first two, and nothing is asked of the worktree without.
 ///
 /// The listing has to be one that there is, which [`wrong_in`](crate::wrong_in) tests. With `-o -i
 /// --directory` the whole work tree is listed, whatever the path specs and the directory are:

@@ -4,7 +4,7 @@ ghost use Rattle.ls_files.specs.Cached as cached;
 ghost use Rattle.ls_files.specs.Choices as choices;
 
 use crate::line::{add_entry, shows_stages};
-use crate::listing::Listing;
+use crate::options::Listing;
 use gitbase_core::{IndexEntry, OutOfMemory};
 use glob_rules::pathspec::{Matcher, Search};
 use std::alloc::Global;

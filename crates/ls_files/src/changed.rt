@@ -12,10 +12,10 @@ use crate::cached::{is_again, is_entry_matched, is_once};
 use crate::changed_error::ChangedError;
 use crate::line::add_shown;
 use crate::listed::{Listed, place_of_entry};
-use crate::listing::{Listing, NamedSpec};
+use crate::options::{Listing, NamedSpec};
 use crate::place::Place;
 use crate::shown::{Shown, Sign};
-use crate::standings::{Standings, change_of, is_gone, is_kept, is_modified};
+use crate::standings::{ChangeQuery, Standings, change_of, is_gone, is_kept, is_modified};
 use crate::unmatched::complaint;
 use diff_files::{Comparison, PathChange, Stats, Unsupported};
 use git_index::Detail;
@@ -147,21 +147,16 @@ fn shown_of<'a, W: Worktree, S: Stats>(
     alloc: Global,
     worktree: &mut W,
     stats: &mut S,
-    root: &[u8],
+    query: &ChangeQuery<'_>,
     entries: &'a [IndexEntry],
     details: &[Detail],
-    comparison: &Comparison,
-    asked: Standings,
-    listing: &Listing,
-    named: &[NamedSpec],
-    specs: &Search,
 ) -> Result<Vec<Shown<'a>>, ChangedError>
     ensures gives { (o : Outside) → Tells (W.told worktree.old) (S.told stats.old) o
-        → IfOk result (λ shown. words.shown_from o root.now comparison.now asked listing.now
-        named.now specs.now [] None entries.now details.now ≡ Ok shown.items) }
+        → IfOk result (λ shown. words.shown_by o query.now entries.now details.now
+        ≡ Ok shown.items) }
     ensures refused { (o : Outside) → Tells (W.told worktree.old) (S.told stats.old) o
-        → IfErr result (refusals.RefusesBy (words.shown_from o root.now comparison.now asked
-        listing.now named.now specs.now [] None entries.now details.now)) }
+        → IfErr result (refusals.RefusesBy
+        (words.shown_by o query.now entries.now details.now)) }
     ensures cause { IsErrOf result fault
         → Fails W.Worktree S.Stats worktree.old worktree.new stats.old stats.new }
     ensures unfaulted { refusals.UnlessFault result
@@ -177,13 +172,10 @@ fn shown_of<'a, W: Worktree, S: Stats>(
             return Err(ChangedError::Unsupported(Unsupported::Details));
         };
         left = rest;
-        if !is_again(listing, last, entry) {
-            let change = change_of(
-                alloc, worktree, stats, root, comparison, asked, listing, named, specs, entry,
-                detail,
-            )?;
-            let change = add_unless(&mut shown, asked, listing, entry, change)?;
-            last = last_after(last, asked, listing, entry, change);
+        if !is_again(query.listing, last, entry) {
+            let change = change_of(alloc, worktree, stats, query, entry, detail)?;
+            let change = add_unless(&mut shown, query.standings, query.listing, entry, change)?;
+            last = last_after(last, query.standings, query.listing, entry, change);
         }
     }
     Ok(shown)
@@ -307,15 +299,14 @@ fn has_sparse(entries: &[IndexEntry]) -> bool
     entries.iter().any(|entry| is_sparse(entry))
 }
 
-/// What `git ls-files -d` and `-m` list of the work tree at `root`, called in its directory
-/// `prefix`: the paths of the index of which nothing is there, or something else, by what is told
+/// What `git ls-files -d` and `-m` list of a work tree, called in its directory `prefix`: the
+/// paths of the index of which nothing is there, or something else, by what is told
 /// of the nodes; and beside them what the index has, where that is asked for. Bytes are compared
 /// where neither the mode nor the size of a file tells.
 ///
-/// `index` and `details` are what the file of the index says, in its order; where a skipped entry counts
-/// as one that is not since something is there, its flag is taken away. The listing has to be one
-/// that [`wrong_beside`](crate::wrong_beside) does not refuse. `named` has each of the path specs
-/// alone, as it was written.
+/// `index` and `details` are what the file of the index says, in its order; where a skipped entry
+/// counts as one that is not since something is there, its flag is taken away. The listing has to
+/// be one that [`wrong_beside`](crate::wrong_beside) does not refuse.
 ///
 /// # Errors
 ///
@@ -327,26 +318,27 @@ pub fn list_changed<W: Worktree, S: Stats>(
     alloc: Global,
     worktree: &mut W,
     stats: &mut S,
-    root: &[u8],
+    query: &ChangeQuery<'_>,
     index: &State,
     details: &[Detail],
-    comparison: &Comparison,
-    asked: Standings,
-    listing: &Listing,
     prefix: &[u8],
-    named: &[NamedSpec],
-    specs: &Search,
 ) -> Result<Listed, ChangedError>
     ensures { words.ListsChanged W.Worktree S.Stats worktree.old worktree.new stats.old
-        stats.new root.now index.now details.now comparison.now asked listing.now prefix.now
-        named.now specs.now result }
+        stats.new query.now.root.now index.now details.now query.now.comparison.now
+        query.now.standings query.now.listing.now prefix.now query.now.named.now
+        query.now.specs.now result }
 {
     let entries = index.entries();
     if has_sparse(entries) {
         return Err(ChangedError::Unsupported(Unsupported::SparseIndex));
     }
-    let shown = shown_of(
-        alloc, worktree, stats, root, entries, details, comparison, asked, listing, named, specs,
-    )?;
-    Ok(listed_with(alloc, listing, prefix, named, specs, &shown)?)
+    let shown = shown_of(alloc, worktree, stats, query, entries, details)?;
+    Ok(listed_with(
+        alloc,
+        query.listing,
+        prefix,
+        query.named,
+        query.specs,
+        &shown,
+    )?)
 }

@@ -44,6 +44,7 @@ impl Entries {
         }
     }
 
+    /// The entries, in their order.
     pub fn as_slice(&self) -> &[IndexEntry]
         ensures { result.now ≡ self.now }
     {

@@ -9,10 +9,10 @@ use crate::alone::{are_alone, case_of, is_path_excluded, patterns_of};
 use crate::cached::walks;
 use crate::entries::Entries;
 use crate::excluded_error::ExcludedError;
-use crate::excluding::ruled_out;
+use crate::is_directory_at::is_directory_at;
 use crate::listed::{Listed, list_entries};
-use crate::listing::{Listing, NamedSpec};
-use crate::standing::is_directory_at;
+use crate::options::{Listing, NamedSpec};
+use crate::ruled_out::ruled_out;
 use crate::wrong::{WrongListing, has_rules, has_sparse};
 use gitbase_core::{IndexEntry, OutOfMemory, State};
 use glob_rules::Case;
@@ -28,8 +28,8 @@ pub fn lists_excluded(listing: &Listing) -> bool
     listing.ignored && listing.cached && !walks(listing)
 }
 
-/// Why there is no such listing of an index, the first reason that git asks for; none where there is
-/// one.
+/// Why there is no such listing of an index, the first reason that git asks for; none where there
+/// is one.
 ///
 /// See docs/DIFFERENCES.md#list-sparse-index.
 pub fn wrong_excluded(listing: &Listing, index: &State) -> Option<WrongListing>
@@ -136,12 +136,13 @@ fn listed_of(
     )
 }
 
-/// What `git ls-files -i -c` lists of the work tree at `root`, called in its directory `prefix`: the
-/// entries of the index that the rules of the setup exclude, each as an index is listed that has
-/// these alone. That rule decides about an entry which would decide about its path if the index did not
-/// have it: patterns of the setup come first, then those of the directories above, the nearest first,
-/// and then those outside the work tree; and a directory that is excluded keeps all beneath it
-/// excluded. Whether a path is that of a directory says what stands there, and not the index.
+/// What `git ls-files -i -c` lists of the work tree at `root`, called in its directory `prefix`:
+/// the entries of the index that the rules of the setup exclude, each as an index is listed that
+/// has these alone. That rule decides about an entry which would decide about its path if the index
+/// did not have it: patterns of the setup come first, then those of the directories above, the
+/// nearest first, and then those outside the work tree; and a directory that is excluded keeps all
+/// beneath it excluded. Whether a path is that of a directory says what stands there, and not the
+/// index.
 ///
 /// See docs/DECISIONS.md#excluded-by-what-stands-there.
 ///

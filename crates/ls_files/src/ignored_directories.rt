@@ -7,11 +7,11 @@ ghost use Rattle.ls_files.specs.Others.{above, as_directory, has_beneath, name};
 
 use crate::alone::case_of;
 use crate::judged::{Judged, all_judged, patterns_for};
-use crate::listing::Listing;
+use crate::options::Listing;
 use crate::others::{has_beneath, in_order, name, name_unless};
 use crate::place::Place;
 use crate::unseen::name_to;
-use crate::walking::shows_empty;
+use crate::walk_request::shows_empty;
 use gitbase_core::{Bytes, OutOfMemory, State};
 use std::alloc::Global;
 use std::collections::BTreeSet;
@@ -25,7 +25,11 @@ pub fn shows_ignored_directories(listing: &Listing) -> bool
 }
 
 /// Adds the directories above a path.
-fn add_above(alloc: Global, mixed: &mut BTreeSet<Bytes>, path: &[u8]) -> Result<(), OutOfMemory>
+fn add_leading_directories(
+    alloc: Global,
+    mixed: &mut BTreeSet<Bytes>,
+    path: &[u8],
+) -> Result<(), OutOfMemory>
     ensures { OnOk result (mixed.new.keys ≡ ordered_after mixed.old.keys (above path.now)) }
 {
     let mut at = 0;
@@ -49,7 +53,7 @@ fn add_mixed(
     if judged.is_ignored() {
         return Ok(());
     }
-    add_above(alloc, mixed, judged.place().path())
+    add_leading_directories(alloc, mixed, judged.place().path())
 }
 
 /// The directories in which something is not ignored.

@@ -5,11 +5,11 @@ ghost use Rattle.worktree_stack.specs.Mappings.{case_of};
 ghost use Rattle.ls_files.specs.IgnoredDirectories as words;
 
 use crate::alone::{are_alone, is_path_excluded, patterns_of};
-use crate::listing::Listing;
+use crate::options::Listing;
 use crate::others::{has_beneath, is_plain, is_untracked, place_at};
 use crate::place::Place;
 use crate::unseen::name_to;
-use crate::walking::shows_empty;
+use crate::walk_request::shows_empty;
 use dir_classify::{Entry, Status};
 use gitbase_core::{OutOfMemory, State};
 use glob_rules::Case;

@@ -3,10 +3,10 @@ ghost use Rattle.std.specs.Prelude.{◌≡◌, ◌++◌, ◌<◌, IfOk, OnOk, le
 ghost use Rattle.ls_files.specs.Killed as words;
 
 use crate::line::add_killed;
-use crate::listing::{Listing, NamedSpec};
+use crate::options::{Listing, NamedSpec};
 use crate::others::{has_beneath, has_entry, in_order, name, place_at, place_for};
 use crate::place::{Place, ends_in_slash};
-use crate::walking::shows_empty;
+use crate::walk_request::shows_empty;
 use dir_classify::Entry;
 use gitbase_core::{Bytes, IndexEntry, OutOfMemory, State};
 use glob_rules::pathspec::Search;

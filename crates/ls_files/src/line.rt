@@ -4,8 +4,8 @@ ghost use Rattle.gitbase_core.specs.Entry.{mode_bits};
 ghost use Rattle.ls_files.specs.Choices as choices;
 ghost use Rattle.ls_files.specs.Lines as lines;
 
-use crate::listing::Listing;
-use crate::naming::add_name;
+use crate::names::add_name;
+use crate::options::Listing;
 use crate::shown::{Shown, Sign};
 use gitbase_core::{Flags, IndexEntry, Mode, OutOfMemory};
 use std::alloc::Global;

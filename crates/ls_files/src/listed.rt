@@ -8,7 +8,7 @@ use crate::alone::{sifted, unsifted};
 use crate::cached::{add_index, is_directory, is_next};
 use crate::ignored_directories::{ignored_names, shows_ignored_directories};
 use crate::killed::{add_all_killed, killed};
-use crate::listing::{Listing, NamedSpec};
+use crate::options::{Listing, NamedSpec};
 use crate::others::{add_others, others};
 use crate::place::{Place, place_of_name};
 use crate::unmatched::complaint;

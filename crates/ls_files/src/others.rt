@@ -4,7 +4,7 @@ ghost use Rattle.ls_files.specs.Others as words;
 
 use crate::cached::{asks_rules, is_matched};
 use crate::line::add_other;
-use crate::listing::{Listing, NamedSpec};
+use crate::options::{Listing, NamedSpec};
 use crate::place::Place;
 use crate::unseen::is_unseen;
 use dir_classify::entry::holds_names;

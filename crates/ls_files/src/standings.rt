@@ -10,7 +10,7 @@ ghost use Rattle.ls_files.specs.Changed as words;
 use crate::cached::{is_entry_matched, is_of_kind, is_once};
 use crate::line::shows_stages;
 use crate::listed::place_of_entry;
-use crate::listing::{Listing, NamedSpec};
+use crate::options::{Listing, NamedSpec};
 use crate::unmatched::is_named;
 use diff_files::{
     Comparison, PathChange, Stats, Unsupported, is_skipped_in, presence_of, standing_of,
@@ -30,6 +30,23 @@ pub enum Standings {
     Modified,
     /// `-d` and `-m`: the first are shown twice.
     Both,
+}
+
+/// What `-d` and `-m` ask of a work tree.
+#[derive(Drop)]
+pub struct ChangeQuery<'a> {
+    /// The work tree's absolute path.
+    pub root: &'a [u8],
+    /// What its files are compared by.
+    pub comparison: &'a Comparison,
+    /// Which of the two options is given.
+    pub standings: Standings,
+    /// What is listed, and how.
+    pub listing: &'a Listing,
+    /// Each of the path specs alone, as it was written.
+    pub named: &'a [NamedSpec],
+    /// All of them.
+    pub specs: &'a Search,
 }
 
 fn shows_deleted(asked: Standings) -> bool
@@ -80,38 +97,34 @@ fn is_asked(listing: &Listing, named: &[NamedSpec], specs: &Search, entry: &Inde
 }
 
 /// Whether an entry is looked at, if it is not skipped.
-fn is_candidate(listing: &Listing, named: &[NamedSpec], specs: &Search, entry: &IndexEntry) -> bool
-    ensures { result ≡ words.is_candidate listing.now named.now specs.now entry.now }
+fn is_candidate(query: &ChangeQuery<'_>, entry: &IndexEntry) -> bool
+    ensures { result ≡ words.is_candidate query.now.listing.now query.now.named.now
+        query.now.specs.now entry.now }
 {
-    if is_settled(listing, entry) {
+    if is_settled(query.listing, entry) {
         return false;
     }
-    is_asked(listing, named, specs, entry)
+    is_asked(query.listing, query.named, query.specs, entry)
 }
 
 /// Whether an entry is looked at.
 fn is_looked_at<S: Stats>(
     alloc: Global,
     stats: &mut S,
-    root: &[u8],
-    comparison: &Comparison,
-    listing: &Listing,
-    named: &[NamedSpec],
-    specs: &Search,
+    query: &ChangeQuery<'_>,
     entry: &IndexEntry,
 ) -> Result<bool, ReadError>
-    ensures is { (o : Outside) → S.told stats.old ≡ Some o.stats → IfOk result (λ is. is
-        ≡ words.is_looked_at o root.now comparison.now listing.now named.now specs.now
-        entry.now) }
+    ensures is { (o : Outside) → S.told stats.old ≡ Some o.stats
+        → IfOk result (λ is. is ≡ words.is_looked_at_by o query.now entry.now) }
     ensures kept { AsksStats S.Stats stats.old stats.new }
     ensures cause { IsErrOf result ReadError.Fault
         → Increased (S.faults stats.old) (S.faults stats.new) }
     ensures unfaulted { UnlessFault result (S.faults stats.new ≡ S.faults stats.old) }
 {
-    if !is_candidate(listing, named, specs, entry) {
+    if !is_candidate(query, entry) {
         return Ok(false);
     }
-    Ok(!is_skipped_in(alloc, stats, root, comparison, entry)?)
+    Ok(!is_skipped_in(alloc, stats, query.root, query.comparison, entry)?)
 }
 
 /// How an entry stands that is looked at.
@@ -119,15 +132,13 @@ fn looked_at<W: Worktree, S: Stats>(
     alloc: Global,
     worktree: &mut W,
     stats: &mut S,
-    root: &[u8],
-    comparison: &Comparison,
-    asked: Standings,
+    query: &ChangeQuery<'_>,
     entry: &IndexEntry,
     detail: &Detail,
 ) -> Result<Result<PathChange, Unsupported>, ReadError>
     ensures standing { (o : Outside) → Tells (W.told worktree.old) (S.told stats.old) o
-        → IfOk result (λ change. change
-        ≡ words.looked_at o root.now comparison.now asked entry.now detail.now) }
+        → IfOk result (λ change. change ≡ words.looked_at o query.now.root.now
+        query.now.comparison.now query.now.standings entry.now detail.now) }
     ensures worktree { Asks W.Worktree worktree.old worktree.new }
     ensures stats { AsksStats S.Stats stats.old stats.new }
     ensures cause { IsErrOf result ReadError.Fault
@@ -135,7 +146,9 @@ fn looked_at<W: Worktree, S: Stats>(
     ensures unfaulted { UnlessFault result
         (FailsNot W.Worktree S.Stats worktree.old worktree.new stats.old stats.new) }
 {
-    match asked {
+    let root = query.root;
+    let comparison = query.comparison;
+    match query.standings {
         Standings::Deleted => Ok(Ok(presence_of(alloc, stats, root, entry)?)),
         Standings::Modified => standing_of(alloc, worktree, stats, root, comparison, entry, detail),
         Standings::Both => standing_of(alloc, worktree, stats, root, comparison, entry, detail),
@@ -148,18 +161,12 @@ pub fn change_of<W: Worktree, S: Stats>(
     alloc: Global,
     worktree: &mut W,
     stats: &mut S,
-    root: &[u8],
-    comparison: &Comparison,
-    asked: Standings,
-    listing: &Listing,
-    named: &[NamedSpec],
-    specs: &Search,
+    query: &ChangeQuery<'_>,
     entry: &IndexEntry,
     detail: &Detail,
 ) -> Result<Result<PathChange, Unsupported>, ReadError>
     ensures change { (o : Outside) → Tells (W.told worktree.old) (S.told stats.old) o
-        → IfOk result (λ change. change ≡ words.change_of o root.now comparison.now asked
-        listing.now named.now specs.now entry.now detail.now) }
+        → IfOk result (λ change. change ≡ words.change_by o query.now entry.now detail.now) }
     ensures worktree { Asks W.Worktree worktree.old worktree.new }
     ensures stats { AsksStats S.Stats stats.old stats.new }
     ensures cause { IsErrOf result ReadError.Fault
@@ -167,12 +174,10 @@ pub fn change_of<W: Worktree, S: Stats>(
     ensures unfaulted { UnlessFault result
         (FailsNot W.Worktree S.Stats worktree.old worktree.new stats.old stats.new) }
 {
-    if !is_looked_at(alloc, stats, root, comparison, listing, named, specs, entry)? {
+    if !is_looked_at(alloc, stats, query, entry)? {
         return Ok(Ok(PathChange::Same));
     }
-    looked_at(
-        alloc, worktree, stats, root, comparison, asked, entry, detail,
-    )
+    looked_at(alloc, worktree, stats, query, entry, detail)
 }
 
 /// Whether nothing stands at a path.

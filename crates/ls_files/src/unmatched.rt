@@ -2,7 +2,7 @@
 ghost use Rattle.std.specs.Prelude.{◌≡◌, ◌++◌, map, IfOk, OnOk};
 ghost use Rattle.ls_files.specs.Unmatched as words;
 
-use crate::listing::NamedSpec;
+use crate::options::NamedSpec;
 use crate::place::Place;
 use gitbase_core::{Bytes, OutOfMemory};
 use glob_rules::pathspec::{Match, Matcher};

@@ -4,7 +4,7 @@ ghost use Rattle.std.specs.List.{list_any};
 ghost use Rattle.gitbase_core.specs.Path.{is_slash};
 ghost use Rattle.ls_files.specs.Others as words;
 
-use crate::listing::NamedSpec;
+use crate::options::NamedSpec;
 use crate::others::has_beneath;
 use gitbase_core::{State, basename};
 use glob_rules::pathspec::{Match, Matcher};

@@ -5,7 +5,7 @@ ghost use Rattle.ls_files.specs.Wrong as words;
 
 use crate::alone::are_alone;
 use crate::cached::{asks_rules, shows_index, walks};
-use crate::listing::Listing;
+use crate::options::Listing;
 use diff_files::Unsupported;
 use gitbase_core::{IndexEntry, State};
 
@@ -18,16 +18,19 @@ pub enum WrongListing {
     IgnoredWithoutRules,
     /// `-i` of what the index has, which is not answered here.
     IgnoredIndex,
-    /// `-i` with `--directory` and `-k`, with path specs, or in a directory, which is not answered here.
+    /// `-i` with `--directory` and `-k`, with path specs, or in a directory, which is not answered
+    /// here.
     IgnoredDirectories,
-    /// What a sparse index has, where an entry stands for all that is beneath a directory: git reads
-    /// that from objects.
+    /// What a sparse index has, where an entry stands for all that is beneath a directory: git
+    /// reads that from objects.
     SparseIndex,
-    /// `-x` or `-X` alone with `-k`, or with `--directory` and not `-i`, which is not answered here.
+    /// `-x` or `-X` alone with `-k`, or with `--directory` and not `-i`, which is not answered
+    /// here.
     PatternsAlone,
     /// `--error-unmatch` with `-d` or `-m` and with `-o` or `-k`, which is not answered here.
     UnmatchedOfBoth,
-    /// A rules file above an entry is not read, which is not answered here; only with `-i` and `-c`.
+    /// A rules file above an entry is not read, which is not answered here; only with `-i` and
+    /// `-c`.
     UnreadRules,
     /// What stands at a path has a form that is not answered here; only with `-d` and `-m`.
     Unsupported(Unsupported),
@@ -156,8 +159,8 @@ fn wrong_index(listing: &Listing, index: &State) -> Option<WrongListing>
     None
 }
 
-/// Why there is no such listing of an index, the first reason that git asks for; none where there is
-/// one.
+/// Why there is no such listing of an index, the first reason that git asks for; none where there
+/// is one.
 ///
 /// See docs/DIFFERENCES.md#list-ignored-forms.
 /// See docs/DIFFERENCES.md#list-sparse-index.

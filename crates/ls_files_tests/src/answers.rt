@@ -1,9 +1,11 @@
 //! What git lists; made by `scripts/ask-git-ls-files` with git version 2.39.5.
 //!
-//! A row has the number of the tree, one byte, `:` for ten, the directory, the options, parted by `|`, the path specs, what git prints to its
-//! output, and what it prints to standard error, with `$` in the place of each LF. Of a path spec there is how git tells it, `&`, and how it
-//! is from the top; specs are parted by `|`. A tree has its setup, and its steps, parted by `;`: `d` is a directory, `f` a file with its
-//! text, `x` one with its bytes in hexadecimal digits, `l` a link, and `p` a pipe.
+//! A row has the number of the tree, one byte, `:` for ten, the directory, the options, parted by
+//! `|`, the path specs, what git prints to its output, and what it prints to standard error, with
+//! `$` in the place of each LF. Of a path spec there is how git tells it, `&`, and how it is from
+//! the top; specs are parted by `|`. A tree has its setup, and its steps, parted by `;`: `d` is a
+//! directory, `f` a file with its text, `x` one with its bytes in hexadecimal digits, `l` a link,
+//! and `p` a pipe.
 
 /// The setups and the trees, one a line.
 pub const TREES: &[u8] = b"\

@@ -100,8 +100,8 @@ fn is_text(alloc: Global, text: &[u8], want: &[u8]) -> bool {
     }
 }
 
-/// Whether what is listed is what git prints: to its output, and to standard error, where its status
-/// is 1.
+/// Whether what is listed is what git prints: to its output, and to standard error, where its
+/// status is 1.
 fn is_printed(alloc: Global, listed: &Listed, out: &[u8], err: &[u8]) -> bool {
     is_text(alloc, listed.out.as_bytes(), out)
         && is_text(alloc, listed.err.as_bytes(), err)

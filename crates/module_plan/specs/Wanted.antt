@@ -13,7 +13,7 @@ use Rattle.submodule.specs.declared.update.Update.{Update}
 use Rattle.submodule.specs.declared.update.Update.TheVariants as updates
 use Rattle.submodule.specs.declared.update.Error.{Error as UpdateError}
 use Rattle.submodule.specs.declared.update.Error.TheVariants as update_errors
-use Rattle.module_plan.specs.declared.asking.Asking.{Asking}
+use Rattle.module_plan.specs.declared.inputs.Asking.{Asking}
 use Rattle.module_plan.specs.declared.step.StepKind.{StepKind}
 use Rattle.module_plan.specs.declared.step.StepKind.TheVariants as kinds
 use Rattle.module_plan.specs.declared.step.Why.{Why}

@@ -8,8 +8,8 @@ ghost use Rattle.module_plan.specs.Verdicts as verdicts;
 ghost use Rattle.module_plan.specs.Judged as judged;
 ghost use Rattle.module_plan.specs.Ways as ways;
 
-use crate::asking::Asking;
 use crate::error::ModuleError;
+use crate::inputs::Asking;
 use crate::seen::Seen;
 use crate::step::{ModulePlan, Skipped, Step, Verdict, Why};
 use crate::taken::TakenPaths;

@@ -2,8 +2,8 @@
 //! them.
 #![tactic(auto)]
 
-mod asking;
 mod error;
+mod inputs;
 mod judge;
 mod lines;
 mod planned;

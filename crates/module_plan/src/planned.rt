@@ -10,8 +10,8 @@ ghost use Rattle.module_plan.specs.Plans as plans;
 ghost use Rattle.module_plan.specs.Wanted.{asked_of};
 ghost use Rattle.module_plan.specs.Ways as ways;
 
-use crate::asking::Asking;
 use crate::error::ModuleError;
+use crate::inputs::Asking;
 use crate::judge::judged;
 use crate::step::{ModulePlan, Step};
 use git_config_lite as config;

@@ -8,7 +8,7 @@ ghost use Rattle.submodule.specs.Active as active;
 ghost use Rattle.module_plan.specs.Wanted as wanted;
 ghost use Rattle.module_plan.specs.Gives.{Gives};
 
-use crate::asking::Asking;
+use crate::inputs::Asking;
 use crate::step::{StepKind, Why};
 use git_config_lite as config;
 use gitbase_core::{OutOfMemory, PathText, is_dot_git};

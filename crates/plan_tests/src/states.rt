@@ -13,8 +13,9 @@ const IDS: &[u8] = b"\
 x`c1b0730e0133447badcfd47fd144e254807b06e1|\
 hello\n`ce013625030ba8dba906f756967f9e9ca394464a";
 
-/// Cases, each behind an `@`: the nodes, the entries of the index and what is wanted. An entry is its
-/// path, its mode, its stage, its flag and the id of its blob, where `E` is that of the empty one.
+/// Cases, each behind an `@`: the nodes, the entries of the index and what is wanted. An entry is
+/// its path, its mode, its stage, its flag and the id of its blob, where `E` is that of the empty
+/// one.
 const ROWS: &[u8] = b"\
 @
 nodes:

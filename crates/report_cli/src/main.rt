@@ -37,8 +37,8 @@ fn words<R: Env>(rt: &R, alloc: Global) -> Result<Vec<Bytes>, OutOfMemory> {
     Ok(words)
 }
 
-/// The path of the current directory with a slash at its end; nothing where the system tells none that
-/// is UTF-8.
+/// The path of the current directory with a slash at its end; nothing where the system tells none
+/// that is UTF-8.
 fn current<R: Env>(rt: &R, alloc: Global) -> Result<String, OutOfMemory> {
     let mut buffer = vec![in alloc; 0u8; PATH_LIMIT]?;
     let Ok(length) = rt.current_dir(&mut buffer) else {

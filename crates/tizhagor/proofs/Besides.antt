@@ -1,7 +1,7 @@
 -- One step behind another, over a worktree and what is asked for stats, and over owners before them.
 use Rattle.std.proofs.Common.{◌≡◌, inl, inr, ℕ, List, Result, Ok, Err, IfErr, refl, sym, ap, ◌∙◌, subst, arith}
 use Rattle.gitbase_core.specs.declared.entry.IndexEntry.{IndexEntry}
-use Rattle.command_line.specs.declared.comparing.Comparing.{Comparing}
+use Rattle.command_line.specs.declared.compare_options.Comparing.{Comparing}
 use Rattle.diff_files.specs.Differences.{FindsDifferences, differences_in, out_of}
 use Rattle.diff_files.specs.KeptStats.{AsksStats}
 use Rattle.diff_files.specs.Stats.{Told}
@@ -22,7 +22,7 @@ use Rattle.worktree_fs.specs.Owners.{Owned}
 use Rattle.worktree_fs.specs.Tree.{Names}
 use Rattle.tizhagor.specs.declared.refusal.HereRefusal.{HereRefusal}
 use Rattle.tizhagor.specs.declared.reply.Reply.{Reply}
-use Rattle.tizhagor.specs.declared.writing.Writing.{Writing}
+use Rattle.tizhagor.specs.declared.written.Writing.{Writing}
 use Rattle.tizhagor.specs.Compares.{Beside, Compares}
 use Rattle.tizhagor.specs.Comparing.{as_reply, as_said, as_stated, as_states}
 use Rattle.tizhagor.specs.Finds.{FindsHereWith}

@@ -21,7 +21,7 @@ use Rattle.tizhagor.specs.ComparedHere.{Answers, AnswersAny, ComparesTo, IsCompa
 use Rattle.tizhagor.specs.Compares.{Compares, SomeFails}
 use Rattle.tizhagor.specs.Ends.{EndsHere, IsFatal, IsReplied, IsTold, IsToldOf}
 use Rattle.tizhagor.specs.Output as output
-use Rattle.tizhagor.specs.OwnWords.{OwnWord, said_for}
+use Rattle.tizhagor.specs.TreeWords.{TreeWord, said_for}
 use Rattle.tizhagor.specs.Parts.{memory_line}
 use Rattle.tizhagor.specs.Refusals.{memory, status_of}
 use Rattle.tizhagor.proofs.ComparedEnds as alone
@@ -34,7 +34,7 @@ same_some : {a b : Reply} → ◌≡◌ {A = Option Reply} (Some a) (Some b) →
 same_some e = cc
 
 -- a first reply is one alone
-same_first : (composes : Bool) (t : Names) (found : Result Found HereRefusal) (word : OwnWord) (a b : Reply) → output.IsSaidOf composes t found word a → output.IsSaidOf composes t found word b → a ≡ b
+same_first : (composes : Bool) (t : Names) (found : Result Found HereRefusal) (word : TreeWord) (a b : Reply) → output.IsSaidOf composes t found word a → output.IsSaidOf composes t found word b → a ≡ b
 same_first composes t found word a b x y =
     let same : x.here ≡ y.here = ended.same_found (sym x.found_is ∙ y.found_is) in
     same_some (sym x.reply_is ∙ ap (λ (here : Found). said_for composes t here word) same ∙ y.reply_is)
@@ -45,7 +45,7 @@ memory_not e n is status = sym status ∙ ap status_of is
 -- ---- two words, the second behind the first
 
 module _ {W I O D : Type 0} (w : WorktreeOf W) (i : InterruptOf I) (o : OwnersOf O) (d : StatsOf D) (w0 w1 : W) (i0 i1 : I) (o0 o1 : O) (d0 d1 : D)
-    (walked : Names → Owned → Result Found HereRefusal) (word : OwnWord) (join : Reply → Reply → Reply) (changed : Names → Owned → Told → Result Reply HereRefusal) where
+    (walked : Names → Owned → Result Found HereRefusal) (word : TreeWord) (join : Reply → Reply → Reply) (changed : Names → Owned → Told → Result Reply HereRefusal) where
   -- both have a reply
   record Gave (reply : Reply) : Type 0 where
     middle : W

@@ -10,8 +10,8 @@ use Rattle.git_index.specs.declared.stat.Detail.{Detail}
 use Rattle.glob_rules.specs.PathSpec.{PathSpec}
 use Rattle.ls_files.specs.Changed.{ListsChanged, changed_in}
 use Rattle.ls_files.specs.declared.listed.Listed.{Listed}
-use Rattle.ls_files.specs.declared.listing.Listing.{Listing}
-use Rattle.ls_files.specs.declared.listing.NamedSpec.{NamedSpec}
+use Rattle.ls_files.specs.declared.options.Listing.{Listing}
+use Rattle.ls_files.specs.declared.options.NamedSpec.{NamedSpec}
 use Rattle.ls_files.specs.declared.standings.Standings.{Standings}
 use Rattle.worktree_fs.specs.declared.worktree.Worktree.{Ghosts as WorktreeOf}
 use Rattle.worktree_fs.specs.Tree.{Names}

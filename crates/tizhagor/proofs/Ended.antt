@@ -18,13 +18,13 @@ use Rattle.tizhagor.specs.declared.call.Call.{Call}
 use Rattle.tizhagor.specs.declared.refusal.HereRefusal.{HereRefusal}
 use Rattle.tizhagor.specs.declared.refusal.HereRefusal.TheVariants as errors
 use Rattle.tizhagor.specs.declared.reply.Reply.{Reply}
-use Rattle.tizhagor.specs.declared.writing.Writing.{Writing}
+use Rattle.tizhagor.specs.declared.written.Writing.{Writing}
 use Rattle.tizhagor.specs.Answers as answers
 use Rattle.tizhagor.specs.Answers.{AnswersCall, AnswersHere, AnswersTask, AnswersWord, ByFound, IsMisuse, NotFound, Place, Refused, RefusesSaying, Task, ThenSays, Writes, answered_at, both_of, call_of, check_of, compare_of, found_at, offer_of, task_of, word_at, word_of}
 use Rattle.tizhagor.specs.Checks.{Checks, IsReply}
 use Rattle.tizhagor.specs.Ends.{EndsHere, IsFatal, IsReplied, IsTold, IsToldOf}
 use Rattle.tizhagor.specs.Output as output
-use Rattle.tizhagor.specs.OwnWords.{IsSayable, OwnWord, RefusesWord, said_for}
+use Rattle.tizhagor.specs.TreeWords.{IsSayable, TreeWord, RefusesWord, said_for}
 use Rattle.tizhagor.specs.Parts.{memory_line}
 use Rattle.tizhagor.specs.ProgramLines.{program_status}
 use Rattle.tizhagor.specs.Refusals.{IsOfFinding, fault, line_of, memory, status_of}
@@ -202,10 +202,10 @@ module _ {W I O : Type 0} (w : WorktreeOf W) (i : InterruptOf I) (o : OwnersOf O
         same = λ path read. calls.joins call (w.precomposes w0) t a.by.here.root path a.by.here.setup a.text read text_is;
       }
 
-  pub word_unfaulted : (found : Names → Owned → Result Found HereRefusal) (word : OwnWord) (reply : Reply) → AnswersWord w i o w0 w1 i0 i1 o0 o1 found word (Ok reply) → w.faults w1 ≡ w.faults w0
+  pub word_unfaulted : (found : Names → Owned → Result Found HereRefusal) (word : TreeWord) (reply : Reply) → AnswersWord w i o w0 w1 i0 i1 o0 o1 found word (Ok reply) → w.faults w1 ≡ w.faults w0
   word_unfaulted found word reply a = said.unfaulted w i a.loaded w1 i0 i1 a.here word reply a.made ∙ a.unfaulted
 
-  pub word_reply : (found : Names → Owned → Result Found HereRefusal) (word : OwnWord) (reply : Reply) → AnswersWord w i o w0 w1 i0 i1 o0 o1 found word (Ok reply)
+  pub word_reply : (found : Names → Owned → Result Found HereRefusal) (word : TreeWord) (reply : Reply) → AnswersWord w i o w0 w1 i0 i1 o0 o1 found word (Ok reply)
       → (t : Names) (owned : Owned) → w.told w0 ≡ Some t → o.told o0 ≡ Some owned → output.IsSaidOf (w.precomposes w0) t (found t owned) word reply
   word_reply found word reply a t owned told tells =
       record {
@@ -215,7 +215,7 @@ module _ {W I O : Type 0} (w : WorktreeOf W) (i : InterruptOf I) (o : OwnersOf O
       }
 
   -- and the tree stays told
-  pub word_tree : (found : Names → Owned → Result Found HereRefusal) (word : OwnWord) (reply : Reply) → AnswersWord w i o w0 w1 i0 i1 o0 o1 found word (Ok reply) → w.told w1 ≡ w.told w0
+  pub word_tree : (found : Names → Owned → Result Found HereRefusal) (word : TreeWord) (reply : Reply) → AnswersWord w i o w0 w1 i0 i1 o0 o1 found word (Ok reply) → w.told w1 ≡ w.told w0
   word_tree found word reply a = said.tree w i a.loaded w1 i0 i1 a.here word reply a.made ∙ a.asks.tree
 
   task_unfaulted : (place : Place) (directory : Option (List ℕ)) (task : Task) (reply : Reply) → AnswersTask w i o w0 w1 i0 i1 o0 o1 place directory (Ok reply) task → output.IsUnfaultedFor (w.faults w0) (w.faults w1) task
@@ -257,7 +257,7 @@ module _ {W I O : Type 0} (w : WorktreeOf W) (i : InterruptOf I) (o : OwnersOf O
         | inr unwritten ↦ absurd (let same = memory_not e 129 unwritten.e_is is in omega (arith, same))
       ]
 
-  pub word_not_misuse : (found : Names → Owned → Result Found HereRefusal) (word : OwnWord) (e : HereRefusal) → AnswersWord w i o w0 w1 i0 i1 o0 o1 found word (Err e) → status_of e ≡ 129 → ⊥
+  pub word_not_misuse : (found : Names → Owned → Result Found HereRefusal) (word : TreeWord) (e : HereRefusal) → AnswersWord w i o w0 w1 i0 i1 o0 o1 found word (Err e) → status_of e ≡ 129 → ⊥
   word_not_misuse found word e a is =
       elim a [
         | inl none ↦ finding_not_misuse e none.of is
@@ -282,7 +282,7 @@ module _ {W I O : Type 0} (w : WorktreeOf W) (i : InterruptOf I) (o : OwnersOf O
         | inr unwritten ↦ absurd (let same = memory_not e 130 unwritten.e_is is in omega (arith, same))
       ]
 
-  pub word_interrupted : (found : Names → Owned → Result Found HereRefusal) (word : OwnWord) (e : HereRefusal) → AnswersWord w i o w0 w1 i0 i1 o0 o1 found word (Err e) → status_of e ≡ 130 → Increased (i.raised i0) (i.raised i1)
+  pub word_interrupted : (found : Names → Owned → Result Found HereRefusal) (word : TreeWord) (e : HereRefusal) → AnswersWord w i o w0 w1 i0 i1 o0 o1 found word (Err e) → status_of e ≡ 130 → Increased (i.raised i0) (i.raised i1)
   word_interrupted found word e a is =
       elim a [
         | inl none ↦ absurd (finding_not_interrupted e none.of is)
@@ -329,7 +329,7 @@ module _ {W I O : Type 0} (w : WorktreeOf W) (i : InterruptOf I) (o : OwnersOf O
         | inr unwritten ↦ inl unwritten.e_is
       ]
 
-  word_refused : (found : Names → Owned → Result Found HereRefusal) (word : OwnWord) (e : HereRefusal) → RefusesSaying w i o w0 w1 i0 i1 o0 o1 found word e
+  word_refused : (found : Names → Owned → Result Found HereRefusal) (word : TreeWord) (e : HereRefusal) → RefusesSaying w i o w0 w1 i0 i1 o0 o1 found word e
       → (t : Names) (owned : Owned) → w.told w0 ≡ Some t → o.told o0 ≡ Some owned → NotIncreased (w.faults w0) (w.faults w1) → status_of e ≡ 128
       → (e ≡ memory) ⊎ output.RefusesSaid (w.precomposes w0) t (found t owned) word e
   word_refused found word e refused t owned told tells quiet is =
@@ -365,7 +365,7 @@ module _ {W I O : Type 0} (w : WorktreeOf W) (i : InterruptOf I) (o : OwnersOf O
         | inr (inr wants) ↦ inl wants
       ]
 
-  pub word_refuses : (found : Names → Owned → Result Found HereRefusal) (word : OwnWord) (e : HereRefusal) → AnswersWord w i o w0 w1 i0 i1 o0 o1 found word (Err e)
+  pub word_refuses : (found : Names → Owned → Result Found HereRefusal) (word : TreeWord) (e : HereRefusal) → AnswersWord w i o w0 w1 i0 i1 o0 o1 found word (Err e)
       → (t : Names) (owned : Owned) → w.told w0 ≡ Some t → o.told o0 ≡ Some owned → NotIncreased (w.faults w0) (w.faults w1) → NotIncreased (o.faults o0) (o.faults o1) → status_of e ≡ 128
       → (e ≡ memory) ⊎ output.RefusesWordOf (w.precomposes w0) t (found t owned) word e
   word_refuses found word e a t owned told tells quiet owners_quiet is =
@@ -402,7 +402,7 @@ module _ {W I O : Type 0} (w : WorktreeOf W) (i : InterruptOf I) (o : OwnersOf O
         | inr unwritten ↦ inr unwritten.e_is
       ]
 
-  pub word_none : (found : Names → Owned → Result Found HereRefusal) (word : OwnWord) (answer : Result Reply HereRefusal) → AnswersWord w i o w0 w1 i0 i1 o0 o1 found word answer
+  pub word_none : (found : Names → Owned → Result Found HereRefusal) (word : TreeWord) (answer : Result Reply HereRefusal) → AnswersWord w i o w0 w1 i0 i1 o0 o1 found word answer
       → (t : Names) (owned : Owned) → w.told w0 ≡ Some t → o.told o0 ≡ Some owned → NotIncreased (w.faults w0) (w.faults w1) → NotIncreased (o.faults o0) (o.faults o1)
       → (e : HereRefusal) → found t owned ≡ Err e → IsRefusedAs e answer
   word_none found word (Ok reply) a t owned told tells quiet owners_quiet e known = not_found (sym (a.is t owned told tells) ∙ known)
@@ -452,7 +452,7 @@ module _ {W I O : Type 0} (w : WorktreeOf W) (i : InterruptOf I) (o : OwnersOf O
         | inr unwritten ↦ unwritten.e_is
       ]
 
-  pub word_complete : (found : Names → Owned → Result Found HereRefusal) (word : OwnWord) (e : HereRefusal) → AnswersWord w i o w0 w1 i0 i1 o0 o1 found word (Err e)
+  pub word_complete : (found : Names → Owned → Result Found HereRefusal) (word : TreeWord) (e : HereRefusal) → AnswersWord w i o w0 w1 i0 i1 o0 o1 found word (Err e)
       → (t : Names) (owned : Owned) → w.told w0 ≡ Some t → o.told o0 ≡ Some owned → NotIncreased (w.faults w0) (w.faults w1) → NotIncreased (o.faults o0) (o.faults o1) → NotIncreased (i.raised i0) (i.raised i1)
       → output.IsSayableAt (w.precomposes w0) t (found t owned) word → e ≡ memory
   word_complete found word e a t owned told tells quiet owners_quiet calm ready =

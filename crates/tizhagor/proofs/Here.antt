@@ -12,12 +12,12 @@ use Rattle.command_line.specs.declared.misuse.Misuse.TheVariants as misuses
 use Rattle.git_setup.specs.declared.found.Found.{Found}
 use Rattle.tizhagor.specs.declared.call.Call.{Call}
 use Rattle.tizhagor.specs.declared.refusal.HereRefusal.{HereRefusal}
-use Rattle.tizhagor.specs.declared.writing.Writing.{Writing}
+use Rattle.tizhagor.specs.declared.written.Writing.{Writing}
 use Rattle.ls_files.specs.declared.listed.Listed.{Listed}
 use Rattle.tizhagor.specs.declared.reply.Reply.{Reply}
 use Rattle.tizhagor.specs.Answers.{AnswersBy, AnswersCall, AnswersHere, AnswersWord, ByFound, Offers, Place, Then, ThenSays}
 use Rattle.tizhagor.specs.Listings.{as_reply, reply_of}
-use Rattle.tizhagor.specs.OwnWords.{OwnWord, Replies}
+use Rattle.tizhagor.specs.TreeWords.{TreeWord, Replies}
 use Rattle.tizhagor.specs.Replies.{SaysPlainly, of_text, plain, plainly, replied}
 use Rattle.tizhagor.specs.Refusals.{as_program, memory, of_misuse}
 use Rattle.tizhagor.specs.Texts.{TextsBy}
@@ -56,7 +56,7 @@ offers_plainly w0 i0 o0 text (Err e) gives refused = (record { gives = tt; refus
 
 module _ {W I O : Type 0} (w : WorktreeOf W) (i : InterruptOf I) (o : OwnersOf O) (w0 w1 : W) (i0 i1 : I) (o0 o1 : O) where
   -- a reply or a refusal of one by what was found
-  pub by_word : (found : Names → Owned → Result Found HereRefusal) (word : OwnWord) (answer : Result Reply Refusal) (here_answer : Result Reply HereRefusal) → here_answer ≡ replied answer
+  pub by_word : (found : Names → Owned → Result Found HereRefusal) (word : TreeWord) (answer : Result Reply Refusal) (here_answer : Result Reply HereRefusal) → here_answer ≡ replied answer
       → ByFound w o w0 o0 o1 found (ThenSays w i w1 i0 i1 word answer) → AnswersWord w i o w0 w1 i0 i1 o0 o1 found word here_answer
   by_word found word (Ok reply) here_answer is by = rw is by
   by_word found word (Err refusal) here_answer is by = rw is (inr (record { refusal = refusal; e_is = refl; by = by }))

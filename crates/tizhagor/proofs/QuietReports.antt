@@ -9,7 +9,7 @@ use Rattle.worktree_report.specs.Behind.{MakesFirst}
 use Rattle.worktree_report.specs.Reported.{Texts}
 use Rattle.worktree_report.specs.declared.refusal.Refusal.{Refusal}
 use Rattle.worktree_report.specs.declared.refusal.Refusal.TheVariants as refusals
-use Rattle.tizhagor.specs.declared.writing.Writing.{Writing}
+use Rattle.tizhagor.specs.declared.written.Writing.{Writing}
 use Rattle.tizhagor.specs.QuietReport.{IsQuietly, ReportsQuietly}
 use Rattle.tizhagor.specs.Writing.{written}
 

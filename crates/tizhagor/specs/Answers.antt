@@ -24,17 +24,18 @@ use Rattle.git_setup.specs.declared.asked.Asked.{Asked}
 use Rattle.git_setup.specs.declared.found.Found.{Found}
 use Rattle.ls_files.specs.Choices.{walks}
 use Rattle.ls_files.specs.Excluded.{lists_excluded}
+use Rattle.tizhagor.specs.declared.answer.Called.{Called}
 use Rattle.tizhagor.specs.declared.call.Call.{Call}
 use Rattle.tizhagor.specs.declared.refusal.HereRefusal.{HereRefusal}
 use Rattle.tizhagor.specs.declared.call.Call.TheVariants as calls
 use Rattle.tizhagor.specs.declared.refusal.HereRefusal.TheVariants.{Program, Words}
-use Rattle.tizhagor.specs.declared.writing.Writing.{Writing}
-use Rattle.tizhagor.specs.declared.writing.Writing.TheVariants as writings
+use Rattle.tizhagor.specs.declared.written.Writing.{Writing}
+use Rattle.tizhagor.specs.declared.written.Writing.TheVariants as writings
 use Rattle.tizhagor.specs.declared.reply.Reply.{Reply}
 use Rattle.tizhagor.specs.Asking.{asked_for, here_in}
 use Rattle.tizhagor.specs.Both.{walked_word}
 use Rattle.tizhagor.specs.Checks.{Checks}
-use Rattle.tizhagor.specs.OwnWords.{OwnWord, Says, cleaning_of, listing_of, report_of, word_in}
+use Rattle.tizhagor.specs.TreeWords.{TreeWord, Says, cleaning_of, listing_of, report_of, word_in}
 use Rattle.tizhagor.specs.Replies.{SaysPlainly}
 use Rattle.tizhagor.specs.RuleWords.{RuleWord, checking_of, excluding_of, word_said}
 use Rattle.tizhagor.specs.StatWords.{StatWord, changes_of, differences_of, states_of}
@@ -102,17 +103,17 @@ AnswersCall w i o w0 w1 i0 i1 o0 o1 found call writing (Err e) = AnswersBy w i o
 -- ---- git's own words
 
 -- what is said of a reply or a refusal of it, by what was found
-abbrev pub ThenSays : {W I : Type 0} → WorktreeOf W → InterruptOf I → W → I → I → OwnWord → Result Reply Refusal → Found → W → Type 0
+abbrev pub ThenSays : {W I : Type 0} → WorktreeOf W → InterruptOf I → W → I → I → TreeWord → Result Reply Refusal → Found → W → Type 0
 ThenSays w i w1 i0 i1 word answer here loaded = Says w i loaded w1 i0 i1 here answer word
 
 -- There is no reply by what was found.
-pub record RefusesSaying {W I O : Type 0} (w : WorktreeOf W) (i : InterruptOf I) (o : OwnersOf O) (w0 w1 : W) (i0 i1 : I) (o0 o1 : O) (found : Names → Owned → Result Found HereRefusal) (word : OwnWord) (e : HereRefusal) : Type 0 where
+pub record RefusesSaying {W I O : Type 0} (w : WorktreeOf W) (i : InterruptOf I) (o : OwnersOf O) (w0 w1 : W) (i0 i1 : I) (o0 o1 : O) (found : Names → Owned → Result Found HereRefusal) (word : TreeWord) (e : HereRefusal) : Type 0 where
   pub refusal : Refusal
   pub e_is : e ≡ Program refusal
   pub by : ByFound w o w0 o0 o1 found (ThenSays w i w1 i0 i1 word (Err refusal))
 
 -- What is said for one of git's own words, or why nothing is: by what was found, or as nothing was.
-abbrev pub AnswersWord : {W I O : Type 0} → WorktreeOf W → InterruptOf I → OwnersOf O → W → W → I → I → O → O → (Names → Owned → Result Found HereRefusal) → OwnWord → Result Reply HereRefusal → Type 0
+abbrev pub AnswersWord : {W I O : Type 0} → WorktreeOf W → InterruptOf I → OwnersOf O → W → W → I → I → O → O → (Names → Owned → Result Found HereRefusal) → TreeWord → Result Reply HereRefusal → Type 0
 AnswersWord w i o w0 w1 i0 i1 o0 o1 found word (Ok reply) = ByFound w o w0 o0 o1 found (ThenSays w i w1 i0 i1 word (Ok reply))
 AnswersWord w i o w0 w1 i0 i1 o0 o1 found word (Err e) = NotFound w o w0 w1 i0 i1 o0 o1 found e ⊎ RefusesSaying w i o w0 w1 i0 i1 o0 o1 found word e
 
@@ -133,10 +134,10 @@ pub record Offers {W I O : Type 0} (w0 w1 : W) (i0 i1 : I) (o0 o1 : O) (text : L
 -- same
 pub data Task : Type 0 where
   call_of : Call → Asked → Writing → Task
-  word_of : OwnWord → Asked → Task
+  word_of : TreeWord → Asked → Task
   check_of : RuleWord → Asked → Task
   compare_of : StatWord → Asked → Task
-  both_of : OwnWord → StatWord → Asked → Task
+  both_of : TreeWord → StatWord → Asked → Task
   offer_of : List ℕ → Task
 
 -- `takes_colors` says whether the output takes colours
@@ -168,10 +169,13 @@ pub record Place : Type 0 where
 abbrev pub placed : List ℕ → List Variable → Bool → List ℕ → Place
 placed current variables takes_colors input = record { current = current; variables = variables; takes_colors = takes_colors; input = input }
 
+abbrev pub place_of : Called → Place
+place_of called = placed called.current.now called.variables.now called.takes_colors called.input.now
+
 abbrev pub found_at : Place → Option (List ℕ) → Asked → Names → Owned → Result Found HereRefusal
 found_at place directory asked t owned = here_in t owned place.current place.variables directory asked
 
-abbrev pub word_at : Place → Option (List ℕ) → OwnWord → Asked → Names → Owned → Result Found HereRefusal
+abbrev pub word_at : Place → Option (List ℕ) → TreeWord → Asked → Names → Owned → Result Found HereRefusal
 word_at place directory word asked t owned = word_in t owned place.current place.variables directory asked word
 
 abbrev pub answered_at : Place → Option (List ℕ) → RuleWord → Asked → Names → Owned → Result Reply HereRefusal

@@ -6,9 +6,9 @@
 -- first, and what changed stands in front of it.
 use Rattle.std.specs.Prelude.{◌++◌, false, ◌&&◌, ◌||◌}
 use Rattle.command_line.specs.declared.command.FilesAsked.{FilesAsked}
-use Rattle.ls_files.specs.declared.listing.Listing.{Listing}
+use Rattle.ls_files.specs.declared.options.Listing.{Listing}
 use Rattle.tizhagor.specs.declared.reply.Reply.{Reply}
-use Rattle.tizhagor.specs.OwnWords.{OwnWord, listing_of}
+use Rattle.tizhagor.specs.TreeWords.{TreeWord, listing_of}
 use Rattle.tizhagor.specs.StatWords.{StatWord, changes_of, differences_of, states_of}
 
 -- What a walk finds, alone. With `-i` what the index has stays asked for, since it is then refused as such.
@@ -18,7 +18,7 @@ walked_part l = record l { cached = l.cached && l.ignored; stages = false; unmer
 abbrev pub walked : FilesAsked → FilesAsked
 walked wants = record wants { listing = walked_part wants.listing }
 
-abbrev pub walked_word : FilesAsked → OwnWord
+abbrev pub walked_word : FilesAsked → TreeWord
 walked_word wants = listing_of (walked wants)
 
 -- the first reply, and the second behind it

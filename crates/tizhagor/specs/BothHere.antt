@@ -20,7 +20,7 @@ use Rattle.tizhagor.specs.Both.{join_of}
 use Rattle.tizhagor.specs.BothAnswers.{AnswersBoth}
 use Rattle.tizhagor.specs.ComparedHere.{Answers, replied_at}
 use Rattle.tizhagor.specs.Output.{IsSaidOf, IsSayableAt}
-use Rattle.tizhagor.specs.OwnWords.{OwnWord}
+use Rattle.tizhagor.specs.TreeWords.{TreeWord}
 use Rattle.tizhagor.specs.Refusals.{memory}
 use Rattle.tizhagor.specs.StatWords.{StatWord}
 
@@ -30,7 +30,7 @@ use Rattle.tizhagor.specs.StatWords.{StatWord}
 pub record AnswersBeside {W I O D : Type 0} (w : WorktreeOf W) (i : InterruptOf I) (o : OwnersOf O) (d : StatsOf D) (w0 w1 : W) (i0 i1 : I) (o0 o1 : O) (d0 d1 : D) (place : Place) (words : List (List ℕ)) (answer : Result Reply HereRefusal) : Type 0 where
   pub request : Request
   pub asked : IsAsked words request
-  pub word : OwnWord
+  pub word : TreeWord
   pub stat : StatWord
   pub wants : Asked
   pub task_is : task_of place.takes_colors request.command ≡ both_of word stat wants
@@ -98,7 +98,7 @@ beside join first (Ok second) = Ok (join first second)
 beside join first (Err e) = Err e
 
 -- The first can be had and has this reply, and the second says this, or is refused for it.
-pub record SaysBoth (composes : Bool) (t : Names) (found : Result Found HereRefusal) (word : OwnWord) (join : Reply → Reply → Reply) (second wanted : Result Reply HereRefusal) : Type 0 where
+pub record SaysBoth (composes : Bool) (t : Names) (found : Result Found HereRefusal) (word : TreeWord) (join : Reply → Reply → Reply) (second wanted : Result Reply HereRefusal) : Type 0 where
   pub first : Reply
   pub first_is : IsSaidOf composes t found word first
   pub ready : IsSayableAt composes t found word

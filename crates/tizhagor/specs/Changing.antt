@@ -17,8 +17,8 @@ use Rattle.git_setup.specs.declared.settings.Settings.{Settings}
 use Rattle.ls_files.specs.Changed.{changed_in}
 use Rattle.ls_files.specs.Wrong.{wrong_beside}
 use Rattle.ls_files.specs.declared.listed.Listed.{Listed}
-use Rattle.ls_files.specs.declared.listing.Listing.{Listing}
-use Rattle.ls_files.specs.declared.listing.NamedSpec.{NamedSpec}
+use Rattle.ls_files.specs.declared.options.Listing.{Listing}
+use Rattle.ls_files.specs.declared.options.NamedSpec.{NamedSpec}
 use Rattle.ls_files.specs.declared.standings.Standings.{Standings}
 use Rattle.ls_files.specs.declared.wrong.WrongListing.{WrongListing}
 use Rattle.ls_files.specs.declared.wrong.WrongListing.TheVariants as wrong

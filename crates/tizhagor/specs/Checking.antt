@@ -4,13 +4,13 @@ use Rattle.gitbase_core.specs.Steps.{and_then}
 use Rattle.check_ignore.specs.Input.{asked_or_read}
 use Rattle.check_ignore.specs.Wrong.{wrong_in}
 use Rattle.check_ignore.specs.declared.answer.Answered.{Answered}
-use Rattle.check_ignore.specs.declared.checking.Checking.{Checking}
-use Rattle.check_ignore.specs.declared.checking.NamedRules.{NamedRules}
-use Rattle.check_ignore.specs.declared.checking.OuterRules.{OuterRules}
+use Rattle.check_ignore.specs.declared.options.Checking.{Checking}
+use Rattle.check_ignore.specs.declared.options.NamedRules.{NamedRules}
+use Rattle.check_ignore.specs.declared.options.OuterRules.{OuterRules}
 use Rattle.check_ignore.specs.declared.stop.Stop.{Stop}
 use Rattle.check_ignore.specs.declared.stop.Stop.TheVariants as stops
 use Rattle.check_ignore.specs.declared.wrong.WrongCheck.{WrongCheck}
-use Rattle.command_line.specs.declared.checking.CheckAsked.{CheckAsked}
+use Rattle.command_line.specs.declared.check_options.CheckAsked.{CheckAsked}
 use Rattle.git_places.specs.Variables.{Variable}
 use Rattle.git_setup.specs.Checked as setups
 use Rattle.git_setup.specs.declared.asked.Asked.{Asked}

@@ -1,8 +1,8 @@
 -- Why there is no such cleaning: the text.
 use Rattle.std.specs.Prelude.{ℕ, List, codes}
 use Rattle.git_clean.specs.Wrong.{wrong_text}
-use Rattle.tizhagor.specs.declared.cleaning.WrongClean.{WrongClean}
-use Rattle.tizhagor.specs.declared.cleaning.WrongClean.TheVariants as wrongs
+use Rattle.tizhagor.specs.declared.require_force.WrongClean.{WrongClean}
+use Rattle.tizhagor.specs.declared.require_force.WrongClean.TheVariants as wrongs
 
 -- in git's words where git refuses it too
 abbrev pub clean_text : WrongClean → List ℕ

@@ -4,7 +4,7 @@ use Rattle.gitbase_core.specs.Steps.{and_then}
 use Rattle.git_clean.specs.Cleaned.{TellsCleaning, cleaned_in}
 use Rattle.git_clean.specs.Walking.{walking}
 use Rattle.git_clean.specs.Wrong.{wrong_in}
-use Rattle.git_clean.specs.declared.cleaning.Cleaning.{Cleaning}
+use Rattle.git_clean.specs.declared.options.Cleaning.{Cleaning}
 use Rattle.git_clean.specs.declared.wrong.WrongCleaning.{WrongCleaning}
 use Rattle.git_config_lite.specs.Lookups.{boolean}
 use Rattle.git_config_lite.specs.Sections.{Section}
@@ -12,7 +12,7 @@ use Rattle.git_places.specs.Variables.{Variable}
 use Rattle.git_setup.specs.declared.asked.Asked.{Asked}
 use Rattle.git_setup.specs.declared.found.Found.{Found}
 use Rattle.command_line.specs.Cleanings.{is_forced, is_forced_twice}
-use Rattle.command_line.specs.declared.cleaning.Force.{Force}
+use Rattle.command_line.specs.declared.clean_options.Force.{Force}
 use Rattle.command_line.specs.declared.command.CleanAsked.{CleanAsked}
 use Rattle.worktree_fs.specs.declared.interrupt.Interrupt.{Ghosts as InterruptOf}
 use Rattle.worktree_fs.specs.declared.worktree.Worktree.{Ghosts as WorktreeOf}
@@ -21,10 +21,10 @@ use Rattle.worktree_fs.specs.Tree.{Names}
 use Rattle.worktree_report.specs.Asked.{read_in, IsValidAt}
 use Rattle.worktree_report.specs.declared.refusal.Refusal.{Refusal}
 use Rattle.worktree_report.specs.declared.setup.Setup.{Setup}
-use Rattle.tizhagor.specs.declared.cleaning.Required.{Required}
-use Rattle.tizhagor.specs.declared.cleaning.Required.TheVariants as required
-use Rattle.tizhagor.specs.declared.cleaning.WrongClean.{WrongClean}
-use Rattle.tizhagor.specs.declared.cleaning.WrongClean.TheVariants as wrongs
+use Rattle.tizhagor.specs.declared.require_force.Required.{Required}
+use Rattle.tizhagor.specs.declared.require_force.Required.TheVariants as required
+use Rattle.tizhagor.specs.declared.require_force.WrongClean.{WrongClean}
+use Rattle.tizhagor.specs.declared.require_force.WrongClean.TheVariants as wrongs
 use Rattle.tizhagor.specs.declared.refusal.HereRefusal.{HereRefusal}
 use Rattle.tizhagor.specs.declared.refusal.HereRefusal.TheVariants as errors
 use Rattle.tizhagor.specs.Asking.{around_in}

@@ -2,9 +2,9 @@
 use Rattle.std.specs.Prelude.{ℕ, List, [], Bool, false, not, ◌&&◌, ◌||◌, codes, Option, Some, None, Result, Ok, Err, if◌then◌else◌}
 use Rattle.gitbase_core.specs.Path.{is_empty}
 use Rattle.gitbase_core.specs.Steps.{and_then}
-use Rattle.command_line.specs.declared.comparing.Comparing.{Comparing}
-use Rattle.command_line.specs.declared.comparing.Ignoring.{Ignoring}
-use Rattle.command_line.specs.declared.comparing.Ignoring.TheVariants as ignorings
+use Rattle.command_line.specs.declared.compare_options.Comparing.{Comparing}
+use Rattle.command_line.specs.declared.compare_options.Ignoring.{Ignoring}
+use Rattle.command_line.specs.declared.compare_options.Ignoring.TheVariants as ignorings
 use Rattle.diff_files.specs.Differences.{differences_in, out_of}
 use Rattle.diff_files.specs.Stats.{Told}
 use Rattle.diff_files.specs.declared.answer.Differences.{Differences}
@@ -35,7 +35,7 @@ use Rattle.tizhagor.specs.declared.refusal.HereRefusal.{HereRefusal}
 use Rattle.tizhagor.specs.declared.refusal.HereRefusal.TheVariants as errors
 use Rattle.tizhagor.specs.declared.refusal.Uncompared.TheVariants as reasons
 use Rattle.tizhagor.specs.declared.reply.Reply.{Reply}
-use Rattle.tizhagor.specs.declared.writing.Writing.{Writing}
+use Rattle.tizhagor.specs.declared.written.Writing.{Writing}
 use Rattle.tizhagor.specs.Asking.{directory_in}
 use Rattle.tizhagor.specs.Refusals.{as_git, of_diff}
 use Rattle.tizhagor.specs.Replies.{plain}

@@ -1,7 +1,7 @@
 -- Whether the words ask for what the standard input holds.
 use Rattle.std.specs.Prelude.{Bool, false, ◌&&◌, length, is_none}
 use Rattle.check_ignore.specs.Wrong.{wrong_in}
-use Rattle.command_line.specs.declared.checking.CheckAsked.{CheckAsked}
+use Rattle.command_line.specs.declared.check_options.CheckAsked.{CheckAsked}
 use Rattle.command_line.specs.declared.command.Command.{Command}
 use Rattle.command_line.specs.declared.command.Command.TheVariants as commands
 use Rattle.git_setup.specs.declared.asked.Asked.{Asked}

@@ -18,7 +18,7 @@ pub mod Texts
 pub mod Writing
 pub mod Written
 pub mod QuietReport
-pub mod OwnWords
+pub mod TreeWords
 pub mod Compares
 pub mod StateLines
 pub mod Comparing

@@ -10,11 +10,11 @@ use Rattle.worktree_report.specs.declared.refusal.Refusal.{Refusal}
 use Rattle.tizhagor.specs.declared.call.Call.{Call}
 use Rattle.tizhagor.specs.declared.refusal.HereRefusal.{HereRefusal}
 use Rattle.tizhagor.specs.declared.refusal.HereRefusal.TheVariants.{Program}
-use Rattle.tizhagor.specs.declared.writing.Writing.{Writing}
+use Rattle.tizhagor.specs.declared.written.Writing.{Writing}
 use Rattle.tizhagor.specs.declared.reply.Reply.{Reply}
 use Rattle.tizhagor.specs.Answers.{IsAsked, Place, Task, answered_at, both_of, call_of, check_of, compare_of, found_at, offer_of, task_of, word_at, word_of}
 use Rattle.tizhagor.specs.Checks.{IsReply}
-use Rattle.tizhagor.specs.OwnWords.{IsSayable, OwnWord, RefusesWord, said_for}
+use Rattle.tizhagor.specs.TreeWords.{IsSayable, TreeWord, RefusesWord, said_for}
 use Rattle.tizhagor.specs.Replies.{IsPlain, plain}
 use Rattle.tizhagor.specs.Texts.{IsQuietFor, IsReadyFor, IsTextAtSetup, IsTextOf, IsUnfaultedBy, RefusesTextOf}
 use Rattle.tizhagor.specs.Writing.{written}
@@ -32,7 +32,7 @@ pub record IsBytesOf (composes : Bool) (t : Names) (found : Result Found HereRef
   pub same : (path : List ℕ) → setup_at (look t path true) ≡ Ok here.setup → IsTextAtSetup call composes t here.root path text
 
 -- The reply is that of one of git's own words, by the root and the setup that are found in the tree.
-pub record IsSaidOf (composes : Bool) (t : Names) (found : Result Found HereRefusal) (word : OwnWord) (reply : Reply) : Type 0 where
+pub record IsSaidOf (composes : Bool) (t : Names) (found : Result Found HereRefusal) (word : TreeWord) (reply : Reply) : Type 0 where
   pub here : Found
   pub found_is : found ≡ Ok here
   pub reply_is : said_for composes t here word ≡ Some reply
@@ -91,7 +91,7 @@ abbrev pub RefusesCall : Bool → Names → Result Found HereRefusal → Call �
 RefusesCall composes t found call e = (found ≡ Err e) ⊎ RefusesText composes t found call e
 
 -- There is no reply of one of git's own words over the tree by the root and the setup that are found.
-pub record RefusesSaid (composes : Bool) (t : Names) (found : Result Found HereRefusal) (word : OwnWord) (e : HereRefusal) : Type 0 where
+pub record RefusesSaid (composes : Bool) (t : Names) (found : Result Found HereRefusal) (word : TreeWord) (e : HereRefusal) : Type 0 where
   pub here : Found
   pub found_is : found ≡ Ok here
   pub refusal : Refusal
@@ -99,7 +99,7 @@ pub record RefusesSaid (composes : Bool) (t : Names) (found : Result Found HereR
   pub refused : RefusesWord composes t here refusal word
 
 -- what it is refused for over the tree
-abbrev pub RefusesWordOf : Bool → Names → Result Found HereRefusal → OwnWord → HereRefusal → Type 0
+abbrev pub RefusesWordOf : Bool → Names → Result Found HereRefusal → TreeWord → HereRefusal → Type 0
 RefusesWordOf composes t found word e = (found ≡ Err e) ⊎ RefusesSaid composes t found word e
 
 -- of two words the first; what the second is refused for stands beside these
@@ -142,7 +142,7 @@ pub record IsReadyAt (composes : Bool) (t : Names) (found : Result Found HereRef
   pub ready : IsReadyFor call composes t here.root here.setup
 
 -- the same for one of git's own words
-pub record IsSayableAt (composes : Bool) (t : Names) (found : Result Found HereRefusal) (word : OwnWord) : Type 0 where
+pub record IsSayableAt (composes : Bool) (t : Names) (found : Result Found HereRefusal) (word : TreeWord) : Type 0 where
   pub here : Found
   pub found_is : found ≡ Ok here
   pub ready : IsSayable composes t here word

@@ -10,7 +10,7 @@ use Rattle.worktree_report.specs.Asked.{IsValidAt, read_in, text_of}
 use Rattle.worktree_report.specs.Behind.{MakesFirst, RefusesText}
 use Rattle.worktree_report.specs.declared.refusal.Refusal.{Refusal}
 use Rattle.worktree_report.specs.declared.refusal.Refusal.TheVariants as refusals
-use Rattle.tizhagor.specs.declared.writing.Writing.{Writing}
+use Rattle.tizhagor.specs.declared.written.Writing.{Writing}
 use Rattle.tizhagor.specs.Writing.{written}
 
 -- the bytes that are written for the report, over a tree

@@ -1,6 +1,6 @@
 -- The words whose answer asks a work tree which rules decide about paths, and lists no directory.
 use Rattle.std.specs.Prelude.{ℕ, List, Option, Result}
-use Rattle.command_line.specs.declared.checking.CheckAsked.{CheckAsked}
+use Rattle.command_line.specs.declared.check_options.CheckAsked.{CheckAsked}
 use Rattle.command_line.specs.declared.command.FilesAsked.{FilesAsked}
 use Rattle.git_places.specs.Variables.{Variable}
 use Rattle.git_setup.specs.declared.asked.Asked.{Asked}

@@ -1,7 +1,7 @@
 -- The words whose answer is told by stats too.
 use Rattle.std.specs.Prelude.{ℕ, List, Option, Result}
 use Rattle.command_line.specs.declared.command.FilesAsked.{FilesAsked}
-use Rattle.command_line.specs.declared.comparing.Comparing.{Comparing}
+use Rattle.command_line.specs.declared.compare_options.Comparing.{Comparing}
 use Rattle.diff_files.specs.Stats.{Told}
 use Rattle.git_places.specs.Variables.{Variable}
 use Rattle.git_setup.specs.declared.asked.Asked.{Asked}
@@ -11,7 +11,7 @@ use Rattle.worktree_fs.specs.Tree.{Names}
 use Rattle.tizhagor.specs.declared.compare.ChangeLines.TheVariants as lines
 use Rattle.tizhagor.specs.declared.refusal.HereRefusal.{HereRefusal}
 use Rattle.tizhagor.specs.declared.reply.Reply.{Reply}
-use Rattle.tizhagor.specs.declared.writing.Writing.{Writing}
+use Rattle.tizhagor.specs.declared.written.Writing.{Writing}
 use Rattle.tizhagor.specs.Changing.{listed_in}
 use Rattle.tizhagor.specs.Comparing.{replied_in}
 

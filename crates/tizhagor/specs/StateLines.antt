@@ -4,8 +4,8 @@ use Rattle.std.specs.List.{flat_map}
 use Rattle.gitbase_core.specs.Steps.{and_then}
 use Rattle.gitbase_core.specs.declared.entry.IndexEntry.{IndexEntry}
 use Rattle.command_line.specs.Comparings.{default_comparing}
-use Rattle.command_line.specs.declared.comparing.Comparing.{Comparing}
-use Rattle.command_line.specs.declared.comparing.Ignoring.TheVariants as ignorings
+use Rattle.command_line.specs.declared.compare_options.Comparing.{Comparing}
+use Rattle.command_line.specs.declared.compare_options.Ignoring.TheVariants as ignorings
 use Rattle.diff_files.specs.Differences.{Answers, UnlessFault, changes_in}
 use Rattle.diff_files.specs.KeptStats.{AsksStats, Fails, FailsNot, Outside, Tells}
 use Rattle.diff_files.specs.Rows.{Row}
@@ -22,7 +22,7 @@ use Rattle.glob_rules.specs.PathSpec.{PathSpec}
 use Rattle.index_status.specs.Lines.{line_with}
 use Rattle.worktree_fs.specs.declared.worktree.Worktree.{Ghosts as WorktreeOf}
 use Rattle.worktree_fs.specs.Kept.{Asks}
-use Rattle.tizhagor.specs.declared.writing.Writing.{Writing}
+use Rattle.tizhagor.specs.declared.written.Writing.{Writing}
 use Rattle.tizhagor.specs.Writing.{written}
 
 -- the word for how a path changed; the index has an empty file for one that is to be added later, so what stands there is another

@@ -1,7 +1,7 @@
 -- An answer with its text as it is written.
 use Rattle.std.specs.Prelude.{◌≡◌, ◌⊎◌, ℕ, List, Result, Ok, Err}
 use Rattle.tizhagor.specs.declared.refusal.HereRefusal.{HereRefusal}
-use Rattle.tizhagor.specs.declared.writing.Writing.{Writing}
+use Rattle.tizhagor.specs.declared.written.Writing.{Writing}
 use Rattle.tizhagor.specs.Refusals.{memory}
 use Rattle.tizhagor.specs.Writing.{written}
 

@@ -23,15 +23,16 @@ use crate::changed::changed_here;
 use crate::check::check_here;
 use crate::clean::clean_here;
 use crate::compare::{ChangeLines, compare_here};
-use crate::ending::finish_here;
-use crate::excluding::excluded_here;
+use crate::directory::Here;
+use crate::excluded_here::excluded_here;
 use crate::fault::NamesFault;
 use crate::files::files_here;
+use crate::finish::finish_here;
 use crate::found::asked_for;
 use crate::refusal::HereRefusal;
 use crate::reply::{Reply, plainly};
 use crate::texts::text_here;
-use crate::writing::{Writing, written};
+use crate::written::{Writing, written};
 use command_line::{Command, help_of, request_of, styled, version};
 use diff_files::Stats;
 use git_places::Variable;
@@ -42,28 +43,34 @@ use std::alloc::Global;
 use worktree_fs::{Interrupt, Owners, Sink};
 use worktree_report::CountsFaults;
 
+/// What a call comes with: the current directory, an absolute path without links; the variables of
+/// the environment; whether the output takes colours; and the standard input.
+#[derive(Drop)]
+pub struct Called<'a> {
+    pub current: &'a [u8],
+    pub variables: &'a [Variable],
+    pub takes_colors: bool,
+    pub input: &'a [u8],
+}
+
 /// The bytes for a call, or why there are none.
 fn bytes_for<W: CountsFaults, O: Owners, I: Interrupt>(
     alloc: Global,
     worktree: &mut W,
     owners: &mut O,
     interrupt: &mut I,
-    current: &[u8],
-    variables: &[Variable],
-    directory: &Option<Bytes>,
+    here: &Here<'_>,
     call: Call,
     asked: Asked,
     writing: Writing,
 ) -> Result<Bytes, HereRefusal>
     ensures { answers.AnswersCall W.Worktree I.Interrupt O.Owners worktree.old worktree.new
         interrupt.old interrupt.new owners.old owners.new
-        (answers.found_at (answers.placed current.now variables.now true [])
-        directory.now (asked_for call asked)) call writing result }
+        (answers.found_at (answers.placed here.now.current.now here.now.variables.now true [])
+        here.now.directory.now (asked_for call asked)) call writing result }
 {
     let asked = asked_for(call, asked);
-    let answer = text_here(
-        alloc, worktree, owners, interrupt, current, variables, directory, call, &asked,
-    );
+    let answer = text_here(alloc, worktree, owners, interrupt, here, call, &asked);
     written(alloc, writing, answer)
 }
 
@@ -73,20 +80,18 @@ fn reply_for<W: CountsFaults, O: Owners, I: Interrupt>(
     worktree: &mut W,
     owners: &mut O,
     interrupt: &mut I,
-    current: &[u8],
-    variables: &[Variable],
-    directory: &Option<Bytes>,
+    here: &Here<'_>,
     call: Call,
     asked: Asked,
     writing: Writing,
 ) -> Result<Reply, HereRefusal>
     ensures { SaysPlainly (answers.AnswersCall W.Worktree I.Interrupt O.Owners worktree.old
         worktree.new interrupt.old interrupt.new owners.old owners.new
-        (answers.found_at (answers.placed current.now variables.now true [])
-        directory.now (asked_for call asked)) call writing) result }
+        (answers.found_at (answers.placed here.now.current.now here.now.variables.now true [])
+        here.now.directory.now (asked_for call asked)) call writing) result }
 {
     let answer = bytes_for(
-        alloc, worktree, owners, interrupt, current, variables, directory, call, asked, writing,
+        alloc, worktree, owners, interrupt, here, call, asked, writing,
     );
     plainly(alloc, answer)
 }
@@ -115,25 +120,26 @@ fn reply_of<W: CountsFaults, O: Owners, D: Stats, I: Interrupt>(
     owners: &mut O,
     stats: &mut D,
     interrupt: &mut I,
-    current: &[u8],
-    variables: &[Variable],
-    takes_colors: bool,
-    input: &[u8],
+    called: &Called<'_>,
     directory: &Option<Bytes>,
     command: Command,
 ) -> Result<Reply, HereRefusal>
     ensures { compared.AnswersAny W.Worktree I.Interrupt O.Owners D.Stats worktree.old worktree.new
         interrupt.old interrupt.new owners.old owners.new stats.old stats.new
-        (answers.placed current.now variables.now takes_colors input.now) directory.now result
-        (answers.task_of takes_colors command) }
+        (answers.place_of called.now) directory.now result
+        (answers.task_of called.now.takes_colors command) }
 {
+    let here = &Here {
+        current: called.current,
+        variables: called.variables,
+        directory,
+    };
     match command {
         Command::Report { asked, form } => {
-            let writing = Writing::Lines(styled(form, takes_colors));
+            let writing = Writing::Lines(styled(form, called.takes_colors));
             let call = Call::Report;
             reply_for(
-                alloc, worktree, owners, interrupt, current, variables, directory, call, asked,
-                writing,
+                alloc, worktree, owners, interrupt, here, call, asked, writing,
             )
         }
         Command::Plan {
@@ -145,16 +151,14 @@ fn reply_of<W: CountsFaults, O: Owners, D: Stats, I: Interrupt>(
             let writing = Writing::Paths(form.end);
             let call = Call::Plan { what, finding };
             reply_for(
-                alloc, worktree, owners, interrupt, current, variables, directory, call, asked,
-                writing,
+                alloc, worktree, owners, interrupt, here, call, asked, writing,
             )
         }
         Command::Modules { asked } => {
             let writing = Writing::AsItIs;
             let call = Call::Modules;
             reply_for(
-                alloc, worktree, owners, interrupt, current, variables, directory, call, asked,
-                writing,
+                alloc, worktree, owners, interrupt, here, call, asked, writing,
             )
         }
         Command::State {
@@ -162,30 +166,23 @@ fn reply_of<W: CountsFaults, O: Owners, D: Stats, I: Interrupt>(
             form,
             by_stat,
         } => {
-            let writing = Writing::Lines(styled(form, takes_colors));
+            let writing = Writing::Lines(styled(form, called.takes_colors));
             if by_stat {
                 state_here(
-                    alloc, worktree, owners, stats, interrupt, current, variables, directory,
-                    &asked, writing,
+                    alloc, worktree, owners, stats, interrupt, here, &asked, writing,
                 )
             } else {
                 let call = Call::State;
                 reply_for(
-                    alloc, worktree, owners, interrupt, current, variables, directory, call, asked,
-                    writing,
+                    alloc, worktree, owners, interrupt, here, call, asked, writing,
                 )
             }
         }
         Command::Files { asked, files } => {
             if lists_excluded(&files.listing) {
-                excluded_here(
-                    alloc, worktree, owners, current, variables, directory, &files, &asked,
-                )
+                excluded_here(alloc, worktree, owners, here, &files, &asked)
             } else {
-                files_here(
-                    alloc, worktree, owners, interrupt, current, variables, directory, &files,
-                    &asked,
-                )
+                files_here(alloc, worktree, owners, interrupt, here, &files, &asked)
             }
         }
         Command::Changed {
@@ -195,27 +192,29 @@ fn reply_of<W: CountsFaults, O: Owners, D: Stats, I: Interrupt>(
         } => {
             if walks(&files.listing) {
                 both_here(
-                    alloc, worktree, owners, stats, interrupt, current, variables, directory,
-                    &asked, files, standings,
+                    alloc, worktree, owners, stats, interrupt, here, &asked, files, standings,
                 )
             } else {
                 changed_here(
-                    alloc, worktree, owners, stats, current, variables, directory, &asked, &files,
-                    standings,
+                    alloc, worktree, owners, stats, here, &asked, &files, standings,
                 )
             }
         }
         Command::Clean { asked, clean } => clean_here(
-            alloc, worktree, owners, interrupt, current, variables, directory, &clean, asked,
+            alloc, worktree, owners, interrupt, here, &clean, asked,
         ),
         Command::Check { asked, checking } => check_here(
-            alloc, worktree, owners, current, variables, directory, &asked, &checking, input,
+            alloc,
+            worktree,
+            owners,
+            here,
+            &asked,
+            &checking,
+            called.input,
         ),
         Command::Compare { asked, comparing } => {
             let lines = ChangeLines::Differences(comparing);
-            compare_here(
-                alloc, worktree, owners, stats, current, variables, directory, &asked, lines,
-            )
+            compare_here(alloc, worktree, owners, stats, here, &asked, lines)
         }
         Command::Help(topic) => offered(alloc, help_of(topic)),
         Command::Version => offered(alloc, version()),
@@ -230,14 +229,11 @@ fn reply_asked<W: CountsFaults, O: Owners, D: Stats, I: Interrupt>(
     owners: &mut O,
     stats: &mut D,
     interrupt: &mut I,
-    current: &[u8],
-    variables: &[Variable],
-    takes_colors: bool,
-    input: &[u8],
+    called: &Called<'_>,
 ) -> Result<Reply, HereRefusal>
     ensures { both.AnswersAll W.Worktree I.Interrupt O.Owners D.Stats worktree.old worktree.new
         interrupt.old interrupt.new owners.old owners.new stats.old stats.new
-        (answers.placed current.now variables.now takes_colors input.now) words.now result }
+        (answers.place_of called.now) words.now result }
 {
     let request = request_of(alloc, words)?;
     let directory = request.directory;
@@ -247,22 +243,21 @@ fn reply_asked<W: CountsFaults, O: Owners, D: Stats, I: Interrupt>(
         owners,
         stats,
         interrupt,
-        current,
-        variables,
-        takes_colors,
-        input,
+        called,
         &directory,
         request.command,
     )
 }
 
-/// Answers the words of a command line, called in the directory `current`, an absolute path without links, with these variables of the
-/// environment: writes what they ask for to `out`, or says to `err` why there is nothing of that, and answers the status that
-/// the program is to end with. `takes_colors` says whether `out` takes colours. `input` is what the standard input holds; only
-/// `check-ignore` with `--stdin` asks for it, as [`input_for`](crate::input::input_for) says.
+/// Answers the words of a command line: writes what they ask for to `out`, or says to `err` why
+/// there is nothing of that, and answers the status that the program is to end with. Only
+/// `check-ignore` with `--stdin` asks for the standard input, as
+/// [`input_for`](crate::input::input_for) says.
 ///
-/// The words are `[-C DIR] report|plan|modules|state|ls-files|clean|diff-files|check-ignore [OPTION..] [--] [PATH..]`, `--help` or `--version`, as [`request_of`] reads them. The
-/// work tree is the one around the directory, and the setup the one that its repository gives, as [`git_setup::setup_here`] finds them.
+/// The words are `[-C DIR] report|plan|modules|state|ls-files|clean|diff-files|check-ignore
+/// [OPTION..] [--] [PATH..]`, `--help` or `--version`, as [`request_of`] reads them. The work tree
+/// is the one around the directory, and the setup the one that its repository gives, as
+/// [`git_setup::setup_here`] finds them.
 ///
 /// | status | where |
 /// |---|---|
@@ -272,22 +267,22 @@ fn reply_asked<W: CountsFaults, O: Owners, D: Stats, I: Interrupt>(
 /// | 129 | a word is wrong; the line names it |
 /// | 130 | the interrupt was raised, and counted it |
 ///
-/// A work tree is read where it is the user's or safe, as `owners` tell whose it is. What `diff-files`, `ls-files` with `-d` or `-m`, and
-/// `state` with `--by-stat` ask of nodes besides, `stats` tell.
+/// A work tree is read where it is the user's or safe, as `owners` tell whose it is. What
+/// `diff-files`, `ls-files` with `-d` or `-m`, and `state` with `--by-stat` ask of nodes besides,
+/// `stats` tell.
 ///
-/// With a status above 1 nothing goes to `out`, but where `out` itself refused bytes, a front of them. With each status above 1 a line goes
-/// to `err`, with 129 the usage behind it, with 0 none; that of a fault names the path of the worktree's first one. A refusal of `err`
-/// changes no byte of `out`, and no status but to 128. Where a work tree is walked, the interrupt is asked before each directory is read:
-/// by `report`, `plan`, `state` and `clean`, and by `ls-files` with `-o` or `-k`. `modules`, `diff-files` and `check-ignore` never ask it.
+/// With a status above 1 nothing goes to `out`, but where `out` itself refused bytes, a front of
+/// them. With each status above 1 a line goes to `err`, with 129 the usage behind it, with 0 none;
+/// that of a fault names the path of the worktree's first one. A refusal of `err` changes no byte
+/// of `out`, and no status but to 128. Where a work tree is walked, the interrupt is asked before
+/// each directory is read: by `report`, `plan`, `state` and `clean`, and by `ls-files` with `-o` or
+/// `-k`. `modules`, `diff-files` and `check-ignore` never ask it.
 ///
 /// See docs/DECISIONS.md#status-of-an-interrupt.
 pub fn answer_here<W: NamesFault, O: Owners, D: Stats, I: Interrupt, S: Sink, E: Sink>(
     alloc: Global,
     words: &[Bytes],
-    current: &[u8],
-    variables: &[Variable],
-    takes_colors: bool,
-    input: &[u8],
+    called: &Called<'_>,
     worktree: &mut W,
     owners: &mut O,
     stats: &mut D,
@@ -295,17 +290,16 @@ pub fn answer_here<W: NamesFault, O: Owners, D: Stats, I: Interrupt, S: Sink, E:
     out: &mut S,
     err: &mut E,
 ) -> u8
-    // What the words ask for came to an answer: bytes, or a refusal with its cause. The status, `out` and `err` are as that answer has
-    // it, and what stays is said of each.
+    // What the words ask for came to an answer: bytes, or a refusal with its cause. The status,
+    // `out` and `err` are as that answer has it, and what stays is said of each.
     ensures runs { RunsHere S.Sink E.Sink out.old out.new err.old err.new
-        (W.first_fault worktree.new) (both.AnswersAll W.Worktree I.Interrupt O.Owners D.Stats worktree.old worktree.new
-        interrupt.old interrupt.new owners.old owners.new stats.old stats.new
-        (answers.placed current.now variables.now takes_colors input.now) words.now) result }
+        (W.first_fault worktree.new) (both.AnswersAll W.Worktree I.Interrupt O.Owners D.Stats
+        worktree.old worktree.new interrupt.old interrupt.new owners.old owners.new
+        stats.old stats.new (answers.place_of called.now) words.now) result }
 
     // Status 0 or 1, but for a report: no fault was counted.
-    ensures unfaulted { result ≤ 1 → output.IsUnfaultedHere
-        (answers.placed current.now variables.now takes_colors input.now) words.now
-        (W.faults worktree.old) (W.faults worktree.new) }
+    ensures unfaulted { result ≤ 1 → output.IsUnfaultedHere (answers.place_of called.now)
+        words.now (W.faults worktree.old) (W.faults worktree.new) }
 
     // Status 0 or 1: the owners failed at nothing.
     ensures owners_unfaulted { result ≤ 1 → O.faults owners.new ≡ O.faults owners.old }
@@ -313,27 +307,30 @@ pub fn answer_here<W: NamesFault, O: Owners, D: Stats, I: Interrupt, S: Sink, E:
     // And so did the stats.
     ensures stats_unfaulted { result ≤ 1 → D.faults stats.new ≡ D.faults stats.old }
 
-    // Status 0 or 1, over a told tree and told owners, and for a report with no fault counted: there is the reply to what the words ask for,
-    // from the bytes of `.git` on. What `out` has is what it had, and the reply's bytes; `err` gained its lines; and the status is its own.
-    // Where a setup text means the setup that was found, the text of a command is the one by that.
+    // Status 0 or 1, over a told tree and told owners, and for a report with no fault counted:
+    // there is the reply to what the words ask for, from the bytes of `.git` on. What `out` has is
+    // what it had, and the reply's bytes; `err` gained its lines; and the status is its own. Where
+    // a setup text means the setup that was found, the text of a command is the one by that.
     ensures output { (t : Names) (owned : Owned)
         → W.told worktree.old ≡ Some t → O.told owners.old ≡ Some owned → result ≤ 1
         → (reply : ReplyOf) × (output.IsOutputHere (W.precomposes worktree.old) t owned
-        (answers.placed current.now variables.now takes_colors input.now) words.now
+        (answers.place_of called.now) words.now
         (W.faults worktree.old) (W.faults worktree.new) reply
         ⊎ (compared.IsCompared t owned (D.told stats.old)
-        (answers.placed current.now variables.now takes_colors input.now) words.now reply
+        (answers.place_of called.now) words.now reply
         ⊎ both.IsBoth (W.precomposes worktree.old) t owned (D.told stats.old)
-        (answers.placed current.now variables.now takes_colors input.now) words.now reply))
+        (answers.place_of called.now) words.now reply))
         × IsReplied S.Sink E.Sink out.old out.new err.old err.new reply result }
 
-    // Status 129: a word is wrong. And where one is, that is the status, unless memory was wanted, which is told.
+    // Status 129: a word is wrong. And where one is, that is the status, unless memory was wanted,
+    // which is told.
     ensures misuse { result ≡ 129 → answers.IsMisuse words.now }
     ensures usage { answers.IsMisuse words.now
         → (result ≡ 129) ⊎ IsToldOf E.Sink err.old err.new memory_line 128 result }
 
-    // Status 128, over a told tree and told owners with no fault counted and no output refused: want of memory is told, or what is refused
-    // over them: no work tree and no setup is found there, or a report by them is refused, or what tells of submodules is misread.
+    // Status 128, over a told tree and told owners with no fault counted and no output refused:
+    // want of memory is told, or what is refused over them: no work tree and no setup is found
+    // there, or a report by them is refused, or what tells of submodules is misread.
     ensures fatal { (t : Names) (owned : Owned)
         → W.told worktree.old ≡ Some t → O.told owners.old ≡ Some owned → result ≡ 128
         → NotIncreased (W.faults worktree.old) (W.faults worktree.new)
@@ -342,20 +339,18 @@ pub fn answer_here<W: NamesFault, O: Owners, D: Stats, I: Interrupt, S: Sink, E:
         → IsToldOf E.Sink err.old err.new memory_line 128 result
         ⊎ IsFatal E.Sink err.old err.new (W.first_fault worktree.new)
         (λ refusal. output.RefusesHere (W.precomposes worktree.old) t owned
-        (answers.placed current.now variables.now takes_colors input.now) words.now refusal
+        (answers.place_of called.now) words.now refusal
         ⊎ (compared.RefusesCompared t owned (D.told stats.old) (D.faults stats.old)
-        (D.faults stats.new)
-        (answers.placed current.now variables.now takes_colors input.now) words.now refusal
+        (D.faults stats.new) (answers.place_of called.now) words.now refusal
         ⊎ both.RefusesSecond (W.precomposes worktree.old) t owned (D.told stats.old)
         (D.faults stats.old) (D.faults stats.new)
-        (answers.placed current.now variables.now takes_colors input.now) words.now refusal)) }
+        (answers.place_of called.now) words.now refusal)) }
 
-    // And the other way: where no work tree and no setup is found over them, and no fault was counted, the line says why, or that memory
-    // was wanted, with its status.
+    // And the other way: where no work tree and no setup is found over them, and no fault was
+    // counted, the line says why, or that memory was wanted, with its status.
     ensures refused { (t : Names) (owned : Owned) (e : HereRefusal)
         → W.told worktree.old ≡ Some t → O.told owners.old ≡ Some owned
-        → output.IsNotFoundHere t owned (answers.placed current.now variables.now takes_colors input.now)
-        words.now e
+        → output.IsNotFoundHere t owned (answers.place_of called.now) words.now e
         → NotIncreased (W.faults worktree.old) (W.faults worktree.new)
         → NotIncreased (O.faults owners.old) (O.faults owners.new)
         → IsTold E.Sink err.old err.new (W.first_fault worktree.new) e result }
@@ -364,29 +359,30 @@ pub fn answer_here<W: NamesFault, O: Owners, D: Stats, I: Interrupt, S: Sink, E:
     ensures interrupted { result ≡ 130
         → Increased (I.raised interrupt.old) (I.raised interrupt.new) }
 
-    // Valid input, over a told tree and told owners and with nothing counted: 0 or 1, or want of memory is told.
+    // Valid input, over a told tree and told owners and with nothing counted: 0 or 1, or want of
+    // memory is told.
     ensures complete { (t : Names) (owned : Owned)
         → W.told worktree.old ≡ Some t → O.told owners.old ≡ Some owned
         → output.IsValidHere (W.precomposes worktree.old) t owned
-        (answers.placed current.now variables.now takes_colors input.now) words.now
+        (answers.place_of called.now) words.now
         → NotIncreased (W.faults worktree.old) (W.faults worktree.new)
         → NotIncreased (O.faults owners.old) (O.faults owners.new)
         → NotIncreased (I.raised interrupt.old) (I.raised interrupt.new)
         → NotIncreased (S.refusals out.old) (S.refusals out.new)
         → (result ≤ 1) ⊎ IsToldOf E.Sink err.old err.new memory_line 128 result }
 
-    // What is told by stats, over a told tree, told owners and told stats, with no fault counted: it ends as what is found over them does,
-    // with its reply or with the line of its refusal; or want of memory is told. So does what is told by a walk and by stats,
-    // where the walk can be had and no interrupt was raised.
+    // What is told by stats, over a told tree, told owners and told stats, with no fault counted:
+    // it ends as what is found over them does, with its reply or with the line of its refusal; or
+    // want of memory is told. So does what is told by a walk and by stats, where the walk can be
+    // had and no interrupt was raised.
     ensures compared { (t : Names) (owned : Owned) (told : Told)
         (wanted : ResultOf ReplyOf HereRefusal)
         → W.told worktree.old ≡ Some t → O.told owners.old ≡ Some owned
         → D.told stats.old ≡ Some told
-        → compared.ComparesTo t owned told
-        (answers.placed current.now variables.now takes_colors input.now) words.now wanted
+        → compared.ComparesTo t owned told (answers.place_of called.now) words.now wanted
         ⊎ (NotIncreased (I.raised interrupt.old) (I.raised interrupt.new)
         × both.IsBothTo (W.precomposes worktree.old) t owned told
-        (answers.placed current.now variables.now takes_colors input.now) words.now wanted)
+        (answers.place_of called.now) words.now wanted)
         → NotIncreased (W.faults worktree.old) (W.faults worktree.new)
         → NotIncreased (O.faults owners.old) (O.faults owners.new)
         → NotIncreased (D.faults stats.old) (D.faults stats.new)
@@ -394,17 +390,6 @@ pub fn answer_here<W: NamesFault, O: Owners, D: Stats, I: Interrupt, S: Sink, E:
         ⊎ EndsHere S.Sink E.Sink out.old out.new err.old err.new (W.first_fault worktree.new)
         wanted result }
 {
-    let answer = reply_asked(
-        alloc,
-        words,
-        worktree,
-        owners,
-        stats,
-        interrupt,
-        current,
-        variables,
-        takes_colors,
-        input,
-    );
+    let answer = reply_asked(alloc, words, worktree, owners, stats, interrupt, called);
     finish_here(alloc, answer, worktree.first_fault(), out, err)
 }

@@ -1,4 +1,5 @@
-//! What `ls-files` with `-d` or `-m` and with `-o` or `-k` says of the work tree around a directory.
+//! What `ls-files` with `-d` or `-m` and with `-o` or `-k` says of the work tree around a
+//! directory.
 ghost use Rattle.std.specs.Prelude.{◌≡◌, IfOk};
 ghost use Rattle.tizhagor.specs.Answers as answers;
 ghost use Rattle.tizhagor.specs.Both as words;
@@ -7,12 +8,12 @@ ghost use Rattle.tizhagor.specs.Changing.{listed_in};
 ghost use Rattle.tizhagor.specs.Listings.{listable_in};
 
 use crate::changed::changed_here;
+use crate::directory::Here;
 use crate::files::files_here;
 use crate::refusal::HereRefusal;
 use crate::reply::Reply;
 use command_line::FilesAsked;
 use diff_files::Stats;
-use git_places::Variable;
 use git_setup::Asked;
 use gitbase_core::{Bytes, OutOfMemory};
 use ls_files::{Listing, Standings};
@@ -59,10 +60,10 @@ fn joined_with(
     Ok(joined(alloc, first, &second)?)
 }
 
-/// What `ls-files` with `-d` or `-m` and with `-o` or `-k` says of the work tree around the directory
-/// that is asked for, or why there is nothing of it: what a walk finds, and behind it what changed,
-/// with what is shown of the index beside. Each of the two finds the work tree and reads its index by
-/// itself.
+/// What `ls-files` with `-d` or `-m` and with `-o` or `-k` says of the work tree around the
+/// directory that is asked for, or why there is nothing of it: what a walk finds, and behind it
+/// what changed, with what is shown of the index beside. Each of the two finds the work tree and
+/// reads its index by itself.
 ///
 /// # Errors
 ///
@@ -74,29 +75,25 @@ pub fn both_here<W: CountsFaults, O: Owners, D: Stats, I: Interrupt>(
     owners: &mut O,
     stats: &mut D,
     interrupt: &mut I,
-    current: &[u8],
-    variables: &[Variable],
-    directory: &Option<Bytes>,
+    here: &Here<'_>,
     asked: &Asked,
     wants: FilesAsked,
     standings: Standings,
 ) -> Result<Reply, HereRefusal>
     ensures { AnswersBoth W.Worktree I.Interrupt O.Owners D.Stats worktree.old worktree.new
         interrupt.old interrupt.new owners.old owners.new stats.old stats.new
-        (λ t owned. listable_in t owned current.now variables.now directory.now
-        (words.walked wants) asked.now) (words.walked_word wants) words.joined
-        (λ t owned told. listed_in t owned told current.now variables.now directory.now asked.now
-        wants standings) result }
+        (λ t owned. listable_in t owned here.now.current.now here.now.variables.now
+        here.now.directory.now (words.walked wants) asked.now) (words.walked_word wants)
+        words.joined (λ t owned told. listed_in t owned told here.now.current.now
+        here.now.variables.now here.now.directory.now asked.now wants standings) result }
 {
     let listing = wants.listing;
     let mut wants = wants;
     wants.listing = walked_part(&listing);
-    let first = files_here(
-        alloc, worktree, owners, interrupt, current, variables, directory, &wants, asked,
-    )?;
+    let first = files_here(alloc, worktree, owners, interrupt, here, &wants, asked)?;
     wants.listing = listing;
     let second = changed_here(
-        alloc, worktree, owners, stats, current, variables, directory, asked, &wants, standings,
+        alloc, worktree, owners, stats, here, asked, &wants, standings,
     );
     joined_with(alloc, first, second)
 }

@@ -4,18 +4,17 @@ ghost use Rattle.tizhagor.specs.Asking.{here_in};
 ghost use Rattle.tizhagor.specs.Both as words;
 ghost use Rattle.tizhagor.specs.BothAnswers.{AnswersBoth, IsJoined};
 ghost use Rattle.tizhagor.specs.Comparing.{replied_in};
-ghost use Rattle.tizhagor.specs.OwnWords as own;
+ghost use Rattle.tizhagor.specs.TreeWords as tree;
 
 use crate::both::joined;
 use crate::compare::{ChangeLines, compare_here};
+use crate::directory::Here;
 use crate::quiet_report::report_here;
 use crate::refusal::HereRefusal;
 use crate::reply::Reply;
-use crate::writing::Writing;
+use crate::written::Writing;
 use diff_files::Stats;
-use git_places::Variable;
 use git_setup::Asked;
-use gitbase_core::Bytes;
 use std::alloc::Global;
 use worktree_fs::{Interrupt, Owners};
 use worktree_report::CountsFaults;
@@ -46,25 +45,19 @@ pub fn state_here<W: CountsFaults, O: Owners, D: Stats, I: Interrupt>(
     owners: &mut O,
     stats: &mut D,
     interrupt: &mut I,
-    current: &[u8],
-    variables: &[Variable],
-    directory: &Option<Bytes>,
+    here: &Here<'_>,
     asked: &Asked,
     writing: Writing,
 ) -> Result<Reply, HereRefusal>
     ensures { AnswersBoth W.Worktree I.Interrupt O.Owners D.Stats worktree.old worktree.new
         interrupt.old interrupt.new owners.old owners.new stats.old stats.new
-        (λ t owned. here_in t owned current.now variables.now directory.now asked.now)
-        (own.report_of writing) words.in_front
-        (λ t owned told. replied_in t owned told current.now variables.now directory.now asked.now
-        (ChangeLines.States writing)) result }
+        (λ t owned. here_in t owned here.now.current.now here.now.variables.now
+        here.now.directory.now asked.now) (tree.report_of writing) words.in_front (λ t owned told.
+        replied_in t owned told here.now.current.now here.now.variables.now here.now.directory.now
+        asked.now (ChangeLines.States writing)) result }
 {
-    let report = report_here(
-        alloc, worktree, owners, interrupt, current, variables, directory, asked, writing,
-    )?;
+    let report = report_here(alloc, worktree, owners, interrupt, here, asked, writing)?;
     let lines = ChangeLines::States(writing);
-    let states = compare_here(
-        alloc, worktree, owners, stats, current, variables, directory, asked, lines,
-    );
+    let states = compare_here(alloc, worktree, owners, stats, here, asked, lines);
     in_front(alloc, &report, states)
 }

@@ -39,8 +39,8 @@ fn asking(options: &SetupOptions) -> SetupOptions
     options
 }
 
-/// The options with which a work tree is found: a plan prepares them, and submodules are asked for where what becomes of them is.
-/// See docs/DECISIONS.md#options-before-the-setup.
+/// The options with which a work tree is found: a plan prepares them, and submodules are asked for
+/// where what becomes of them is. See docs/DECISIONS.md#options-before-the-setup.
 pub fn options_for(call: Call, options: &SetupOptions) -> SetupOptions
     ensures { result ≡ words.options_for call options.now }
 {

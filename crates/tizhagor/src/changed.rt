@@ -6,16 +6,16 @@ ghost use Rattle.tizhagor.specs.Finds.{FindsHere};
 ghost use Rattle.tizhagor.specs.Refusals.{IsOfFinding};
 
 use crate::compare::{Placed, comparison_of, placed_here, time_of_index};
+use crate::directory::Here;
 use crate::files::{all_named, listing_said, listing_with};
 use crate::refusal::HereRefusal;
 use crate::reply::Reply;
 use command_line::{FilesAsked, default_comparing};
 use diff_files::{Comparison, Stats};
-use git_places::Variable;
 use git_setup::{Asked, Compared, ComparedFrom, Settings, compared_from};
-use gitbase_core::Bytes;
 use ls_files::{
-    ChangedError, Listed, Listing, NamedSpec, Standings, WrongListing, list_changed, wrong_beside,
+    ChangeQuery, ChangedError, Listed, Listing, NamedSpec, Standings, WrongListing, list_changed,
+    wrong_beside,
 };
 use std::alloc::Global;
 use worktree_fs::{Owners, Worktree};
@@ -131,19 +131,23 @@ fn list_by<W: Worktree, D: Stats>(
 {
     let comparison = comparison_by(&compared.settings, index_time);
     let listing = listing_by(wants, &compared.settings);
+    let query = ChangeQuery {
+        root: compared.root.as_bytes(),
+        comparison: &comparison,
+        standings,
+        listing: &listing,
+        named,
+        specs: &compared.specs,
+    };
+    let details = compared.details.as_slice();
     let answer = list_changed(
         alloc,
         worktree,
         stats,
-        compared.root.as_bytes(),
+        &query,
         &compared.index,
-        compared.details.as_slice(),
-        &comparison,
-        standings,
-        &listing,
+        details,
         prefix,
-        named,
-        &compared.specs,
     );
     as_reply(answer)
 }
@@ -196,8 +200,8 @@ fn list_read<W: Worktree, D: Stats>(
     )
 }
 
-/// What is listed of the work tree at a place. When the index was written is asked for before it is read, so that what changes between
-/// them is looked at.
+/// What is listed of the work tree at a place. When the index was written is asked for before it is
+/// read, so that what changes between them is looked at.
 fn list_at<W: Worktree, D: Stats>(
     alloc: Global,
     worktree: &mut W,
@@ -217,13 +221,16 @@ fn list_at<W: Worktree, D: Stats>(
     )
 }
 
-/// What `ls-files -d` and `-m` say of the work tree around the directory that is asked for, or why there is nothing of it.
+/// What `ls-files -d` and `-m` say of the work tree around the directory that is asked for, or why
+/// there is nothing of it.
 ///
 /// # Errors
 ///
 /// - `Absent`, `NotADirectory`: the directory that `-C` names is none.
-/// - `Git`: there is no work tree, or what is read of it is refused, as [`placed_here`] and [`compared_from`] say.
-/// - `Listing`: there is no such listing, as [`wrong_beside`] says, or a form is not answered here, as [`list_changed`] says.
+/// - `Git`: there is no work tree, or what is read of it is refused, as [`placed_here`] and
+///   [`compared_from`] say.
+/// - `Listing`: there is no such listing, as [`wrong_beside`] says, or a form is not answered here,
+///   as [`list_changed`] says.
 /// - `Program(Fault)`: the worktree, the owners or the stats failed, and counted it.
 /// - `Program(OutOfMemory)` for want of memory.
 pub fn changed_here<W: Worktree, O: Owners, D: Stats>(
@@ -231,17 +238,16 @@ pub fn changed_here<W: Worktree, O: Owners, D: Stats>(
     worktree: &mut W,
     owners: &mut O,
     stats: &mut D,
-    current: &[u8],
-    variables: &[Variable],
-    directory: &Option<Bytes>,
+    here: &Here<'_>,
     asked: &Asked,
     wants: &FilesAsked,
     standings: Standings,
 ) -> Result<Reply, HereRefusal>
     ensures { Compares W.Worktree O.Owners D.Stats worktree.old worktree.new owners.old
-        owners.new stats.old stats.new (λ t owned told. words.listed_in t owned told current.now
-        variables.now directory.now asked.now wants.now standings) result }
+        owners.new stats.old stats.new (λ t owned told. words.listed_in t owned told
+        here.now.current.now here.now.variables.now here.now.directory.now asked.now wants.now
+        standings) result }
 {
-    let placed = placed_here(alloc, worktree, owners, current, variables, directory)?;
+    let placed = placed_here(alloc, worktree, owners, here)?;
     list_at(alloc, worktree, stats, &placed, asked, wants, standings)
 }

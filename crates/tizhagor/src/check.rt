@@ -6,11 +6,11 @@ ghost use Rattle.tizhagor.specs.Finds.{FindsHere};
 ghost use Rattle.tizhagor.specs.Refusals.{IsOfFinding, of_stop};
 
 use crate::compare::{Placed, placed_here};
+use crate::directory::Here;
 use crate::refusal::{HereRefusal, Unchecked};
 use crate::reply::Reply;
 use check_ignore::{Answered, Checking, NamedRules, OuterRules, Stop, check_asked, wrong_in};
 use command_line::CheckAsked;
-use git_places::Variable;
 use git_setup::{Asked, Checked, NamedFile, OuterFiles, checked_at};
 use gitbase_core::{Bytes, PathText};
 use std::alloc::Global;
@@ -166,30 +166,31 @@ fn check_placed<W: Worktree>(
     }
 }
 
-/// What `check-ignore` says in the work tree around the directory that is asked for, or why there is nothing of it.
+/// What `check-ignore` says in the work tree around the directory that is asked for, or why there
+/// is nothing of it.
 ///
 /// # Errors
 ///
 /// - `Absent`, `NotADirectory`: the directory that `-C` names is none.
-/// - `Git`: there is no work tree, or what is read of it is refused, as [`git_setup::places_here`] and [`checked_at`] say.
-/// - `Unchecked`: there are no such words, as [`wrong_in`] says, or nothing is answered, as [`check_asked`] says.
+/// - `Git`: there is no work tree, or what is read of it is refused, as [`git_setup::places_here`]
+///   and [`checked_at`] say.
+/// - `Unchecked`: there are no such words, as [`wrong_in`] says, or nothing is answered, as
+///   [`check_asked`] says.
 /// - `Program(Fault)`: the worktree or the owners failed, and counted it.
 /// - `Program(OutOfMemory)` for want of memory.
 pub fn check_here<W: Worktree, O: Owners>(
     alloc: Global,
     worktree: &mut W,
     owners: &mut O,
-    current: &[u8],
-    variables: &[Variable],
-    directory: &Option<Bytes>,
+    here: &Here<'_>,
     asked: &Asked,
     wants: &CheckAsked,
     input: &[u8],
 ) -> Result<Reply, HereRefusal>
     ensures { Checks W.Worktree O.Owners worktree.old worktree.new owners.old owners.new
-        (λ t owned. words.answered_in t owned current.now variables.now directory.now asked.now
-        wants.now input.now) result }
+        (λ t owned. words.answered_in t owned here.now.current.now here.now.variables.now
+        here.now.directory.now asked.now wants.now input.now) result }
 {
-    let placed = placed_here(alloc, worktree, owners, current, variables, directory)?;
+    let placed = placed_here(alloc, worktree, owners, here)?;
     check_placed(alloc, worktree, &placed, asked, wants, input)
 }

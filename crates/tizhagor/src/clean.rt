@@ -4,18 +4,18 @@ ghost use Rattle.git_clean.specs.Wrong.{wrong_in};
 ghost use Rattle.tizhagor.specs.Answers as answers;
 ghost use Rattle.tizhagor.specs.Cleanings as words;
 ghost use Rattle.tizhagor.specs.Finds.{FindsHereWith};
-ghost use Rattle.tizhagor.specs.OwnWords as own;
+ghost use Rattle.tizhagor.specs.TreeWords as tree;
 ghost use Rattle.tizhagor.specs.Refusals.{IsOfFinding};
 
-use crate::cleaning::{WrongClean, is_lax, required_in, unforced_here};
+use crate::directory::Here;
 use crate::files::all_named;
 use crate::found::around_here;
 use crate::patterns::{is_any, rules_of};
 use crate::refusal::HereRefusal;
 use crate::reply::{Reply, of_text, replied};
+use crate::require_force::{WrongClean, is_lax, required_in, unforced_here};
 use command_line::CleanAsked;
 use git_clean::{Cleaning, dry_clean, walk_options, wrong_in};
-use git_places::Variable;
 use git_setup::{Asked, Found};
 use gitbase_core::{Bytes, OutOfMemory};
 use std::alloc::Global;
@@ -52,23 +52,19 @@ fn cleanable_here<W: Worktree, O: Owners>(
     alloc: Global,
     worktree: &mut W,
     owners: &mut O,
-    current: &[u8],
-    variables: &[Variable],
-    directory: &Option<Bytes>,
+    here: &Here<'_>,
     wants: &CleanAsked,
     asked: Asked,
 ) -> Result<Found, HereRefusal>
     ensures finds { FindsHereWith W.Worktree O.Owners worktree.old worktree.new owners.old
-        owners.new (λ t owned. words.cleanable_in t owned current.now variables.now directory.now
-        wants.now asked) result }
+        owners.new (λ t owned. words.cleanable_in t owned here.now.current.now
+        here.now.variables.now here.now.directory.now wants.now asked) result }
     ensures of { IfErr result IsOfFinding }
     ensures cleanable { IfOk result
         (λ here. wrong_in (words.cleaning_said wants.now) here.setup ≡ None) }
 {
     let asked = clean_asked(wants, asked);
-    let found = around_here(
-        alloc, worktree, owners, current, variables, directory, &asked,
-    )?;
+    let found = around_here(alloc, worktree, owners, here, &asked)?;
     match unforced_here(wants, &found) {
         Some(wrong) => Err(HereRefusal::Cleaning(wrong)),
         None => match wrong_in(&cleaning_said(wants), &found.setup) {
@@ -144,20 +140,16 @@ pub fn clean_here<W: CountsFaults, O: Owners, I: Interrupt>(
     worktree: &mut W,
     owners: &mut O,
     interrupt: &mut I,
-    current: &[u8],
-    variables: &[Variable],
-    directory: &Option<Bytes>,
+    here: &Here<'_>,
     wants: &CleanAsked,
     asked: Asked,
 ) -> Result<Reply, HereRefusal>
     ensures { answers.AnswersWord W.Worktree I.Interrupt O.Owners worktree.old worktree.new
         interrupt.old interrupt.new owners.old owners.new
-        (λ t owned. words.cleanable_in t owned current.now variables.now directory.now wants.now
-        asked) (own.cleaning_of wants.now) result }
+        (λ t owned. words.cleanable_in t owned here.now.current.now here.now.variables.now
+        here.now.directory.now wants.now asked) (tree.cleaning_of wants.now) result }
 {
-    let found = cleanable_here(
-        alloc, worktree, owners, current, variables, directory, wants, asked,
-    )?;
+    let found = cleanable_here(alloc, worktree, owners, here, wants, asked)?;
     let answer = clean_in(alloc, worktree, interrupt, found, wants);
     replied(of_text(alloc, answer))
 }

@@ -1,4 +1,5 @@
-//! What `diff-files`, and `state` with `--by-stat`, say of what changed in the work tree around a directory.
+//! What `diff-files`, and `state` with `--by-stat`, say of what changed in the work tree around a
+//! directory.
 ghost use Rattle.std.specs.Prelude.{◌≡◌, IfErr, IfOk};
 ghost use Rattle.git_setup.specs.Compared.{compared_in, places_in};
 ghost use Rattle.tizhagor.specs.Compares.{Beside, Compares};
@@ -6,11 +7,12 @@ ghost use Rattle.tizhagor.specs.Comparing as words;
 ghost use Rattle.tizhagor.specs.Finds.{FindsHere, FindsHereWith};
 ghost use Rattle.tizhagor.specs.Refusals.{IsOfFinding};
 
+use crate::directory::Here;
 use crate::found::directory_in;
 use crate::refusal::{HereRefusal, Uncompared};
 use crate::reply::Reply;
 use crate::state_lines::state_with;
-use crate::writing::Writing;
+use crate::written::Writing;
 use command_line::{Comparing, Ignoring};
 use diff_files::{
     Comparison, DiffError, Differences, Form, NodeStat, Stats, Submodules, diff_files,
@@ -87,17 +89,15 @@ pub fn placed_here<W: Worktree, O: Owners>(
     alloc: Global,
     worktree: &mut W,
     owners: &mut O,
-    current: &[u8],
-    variables: &[Variable],
-    directory: &Option<Bytes>,
+    here: &Here<'_>,
 ) -> Result<Placed, HereRefusal>
     ensures finds { FindsHereWith W.Worktree O.Owners worktree.old worktree.new owners.old
-        owners.new (λ t owned. words.placed_in t owned current.now variables.now directory.now)
-        result }
+        owners.new (λ t owned. words.placed_in t owned here.now.current.now here.now.variables.now
+        here.now.directory.now) result }
     ensures of { IfErr result IsOfFinding }
 {
-    let place = directory_in(alloc, worktree, current, directory)?;
-    placed_from(alloc, worktree, owners, variables, place.as_bytes())
+    let place = directory_in(alloc, worktree, here.current, here.directory)?;
+    placed_from(alloc, worktree, owners, here.variables, place.as_bytes())
 }
 
 /// When what is told of a node was last written; 0 where there is none.
@@ -189,7 +189,8 @@ fn form_of(comparing: &Comparing) -> Form
     }
 }
 
-/// Which submodules are told of, by the words, and else by whether the configuration may leave some out.
+/// Which submodules are told of, by the words, and else by whether the configuration may leave some
+/// out.
 fn submodules_by(ignoring: Ignoring, ignores: bool) -> Submodules
     ensures { result ≡ words.submodules_by ignoring ignores }
 {
@@ -253,7 +254,7 @@ fn as_reply(
 }
 
 /// What is said of a work tree and its index.
-fn compare_with<W: Worktree, D: Stats>(
+fn diff_files_reply<W: Worktree, D: Stats>(
     alloc: Global,
     worktree: &mut W,
     stats: &mut D,
@@ -294,7 +295,7 @@ fn reply_with<W: Worktree, D: Stats>(
 {
     match lines {
         ChangeLines::Differences(comparing) => {
-            compare_with(alloc, worktree, stats, compared, &comparing, index_time)
+            diff_files_reply(alloc, worktree, stats, compared, &comparing, index_time)
         }
         ChangeLines::States(writing) => {
             state_with(alloc, worktree, stats, compared, writing, index_time)
@@ -331,8 +332,8 @@ fn is_exclusive(lines: ChangeLines) -> bool
     }
 }
 
-/// What is said of the work tree at a place. When the index was written is asked for before it is read, so that what changes between them
-/// is looked at.
+/// What is said of the work tree at a place. When the index was written is asked for before it is
+/// read, so that what changes between them is looked at.
 fn compare_at<W: Worktree, D: Stats>(
     alloc: Global,
     worktree: &mut W,
@@ -368,13 +369,16 @@ fn compare_placed<W: Worktree, D: Stats>(
     compare_at(alloc, worktree, stats, placed, asked, lines)
 }
 
-/// What is said of what changed in the work tree around the directory that is asked for, or why there is nothing of it.
+/// What is said of what changed in the work tree around the directory that is asked for, or why
+/// there is nothing of it.
 ///
 /// # Errors
 ///
 /// - `Absent`, `NotADirectory`: the directory that `-C` names is none.
-/// - `Git`: there is no work tree, or what is read of it is refused, as [`places_here`] and [`compared_at`] say.
-/// - `Uncompared`: two forms are asked for that git does not print together, or a form is not answered here, as [`diff_files`] says.
+/// - `Git`: there is no work tree, or what is read of it is refused, as [`places_here`] and
+///   [`compared_at`] say.
+/// - `Uncompared`: two forms are asked for that git does not print together, or a form is not
+///   answered here, as [`diff_files`] says.
 /// - `Program(Fault)`: the worktree, the owners or the stats failed, and counted it.
 /// - `Program(OutOfMemory)` for want of memory.
 pub fn compare_here<W: Worktree, O: Owners, D: Stats>(
@@ -382,16 +386,14 @@ pub fn compare_here<W: Worktree, O: Owners, D: Stats>(
     worktree: &mut W,
     owners: &mut O,
     stats: &mut D,
-    current: &[u8],
-    variables: &[Variable],
-    directory: &Option<Bytes>,
+    here: &Here<'_>,
     asked: &Asked,
     lines: ChangeLines,
 ) -> Result<Reply, HereRefusal>
     ensures { Compares W.Worktree O.Owners D.Stats worktree.old worktree.new owners.old
-        owners.new stats.old stats.new (λ t owned told. words.replied_in t owned told current.now
-        variables.now directory.now asked.now lines) result }
+        owners.new stats.old stats.new (λ t owned told. words.replied_in t owned told
+        here.now.current.now here.now.variables.now here.now.directory.now asked.now lines) result }
 {
-    let placed = placed_here(alloc, worktree, owners, current, variables, directory)?;
+    let placed = placed_here(alloc, worktree, owners, here)?;
     compare_placed(alloc, worktree, stats, &placed, asked, lines)
 }

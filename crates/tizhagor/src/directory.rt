@@ -8,9 +8,19 @@ ghost use Rattle.tizhagor.specs.Finds.{FindsHere};
 ghost use Rattle.tizhagor.specs.Refusals.{IsOfFinding};
 
 use crate::refusal::HereRefusal;
+use git_places::Variable;
 use gitbase_core::{Bytes, OutOfMemory, PathText};
 use std::alloc::Global;
 use worktree_fs::{NodeKind, Worktree};
+
+/// Where a command is called: the current directory, an absolute path without links; the variables
+/// of the environment; and the directory that `-C` names from the current one.
+#[derive(Drop)]
+pub struct Here<'a> {
+    pub current: &'a [u8],
+    pub variables: &'a [Variable],
+    pub directory: &'a Option<Bytes>,
+}
 
 /// That nothing is at the directory that is named.
 fn absent(alloc: Global, name: &[u8]) -> Result<HereRefusal, OutOfMemory>
@@ -48,7 +58,8 @@ fn directory_at<W: Worktree>(
     }
 }
 
-/// The directory that a name leads to from the current one, without links; an empty name leads nowhere else.
+/// The directory that a name leads to from the current one, without links; an empty name leads
+/// nowhere else.
 ///
 /// # Errors
 ///

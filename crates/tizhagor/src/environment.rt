@@ -1,4 +1,5 @@
-//! What the system hands to the program: words, variables of the environment, and the current directory.
+//! What the system hands to the program: words, variables of the environment, and the current
+//! directory.
 ghost use Rattle.std.specs.Prelude.{◌≡◌, ◌==◌, ◌<◌, ◌++◌, length, position, IfOk, IfSome, OnOk};
 ghost use Rattle.tizhagor.specs.Environment as words;
 
@@ -22,7 +23,8 @@ pub struct Handed {
     pub words: Vec<Bytes>,
     /// The variables of the environment.
     pub variables: Vec<Variable>,
-    /// The current directory: an absolute path without links. The root, where there is none and the words need none.
+    /// The current directory: an absolute path without links. The root, where there is none and the
+    /// words need none.
     pub current: Bytes,
     /// The same with a slash at its end; nothing where there is none, or it is not UTF-8.
     pub beside: String,
@@ -154,8 +156,8 @@ fn is_absolute(directory: &Option<Bytes>) -> bool {
     }
 }
 
-/// Whether words are answered without the current directory: they ask for a help text or the version, or for another directory by its
-/// whole path, or are wrong.
+/// Whether words are answered without the current directory: they ask for a help text or the
+/// version, or for another directory by its whole path, or are wrong.
 fn need_no_directory(alloc: Global, words: &[Bytes]) -> bool {
     match request_of(alloc, words) {
         Ok(request) => is_offered(&request.command) | is_absolute(&request.directory),
@@ -163,8 +165,8 @@ fn need_no_directory(alloc: Global, words: &[Bytes]) -> bool {
     }
 }
 
-/// The current directory, and the same with a slash at its end. Where there is none and the words need none, the root stands in its
-/// place, and nothing is beside it.
+/// The current directory, and the same with a slash at its end. Where there is none and the words
+/// need none, the root stands in its place, and nothing is beside it.
 fn directory<R: Env>(rt: &R, alloc: Global, words: &[Bytes]) -> Result<(Bytes, String), NotGiven> {
     match current(rt, alloc) {
         Ok(current) => {

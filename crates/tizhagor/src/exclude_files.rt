@@ -173,8 +173,8 @@ fn ruled_by(
 }
 
 /// What is found, with the rules of the files that the words name among those outside the
-/// directories; of these the standard ones stay only where they are asked for. A name leads from the
-/// top of the work tree.
+/// directories; of these the standard ones stay only where they are asked for. A name leads from
+/// the top of the work tree.
 ///
 /// # Errors
 ///

@@ -9,7 +9,8 @@ pub trait NamesFault: CountsFaults {
     /// That path.
     ghost first_fault: { Self → List ℕ };
 
-    /// The path of the first call that failed, as it was asked for; no bytes where none failed, or where no path is named.
+    /// The path of the first call that failed, as it was asked for; no bytes where none failed, or
+    /// where no path is named.
     fn first_fault(&self) -> &[u8]
         ensures { result.now ≡ first_fault self.now };
 }

@@ -5,16 +5,16 @@ ghost use Rattle.tizhagor.specs.Answers as answers;
 ghost use Rattle.tizhagor.specs.ExcludeFiles.{Decides};
 ghost use Rattle.tizhagor.specs.Finds.{FindsHereWith};
 ghost use Rattle.tizhagor.specs.Listings as words;
-ghost use Rattle.tizhagor.specs.OwnWords as own;
+ghost use Rattle.tizhagor.specs.TreeWords as tree;
 ghost use Rattle.tizhagor.specs.Refusals.{IsOfFinding};
 
+use crate::directory::Here;
 use crate::exclude_files::ruled_here;
 use crate::found::found_here;
 use crate::patterns::{is_any, rules_of};
 use crate::refusal::HereRefusal;
 use crate::reply::{Reply, replied};
 use command_line::{FilesAsked, RulesGiven};
-use git_places::Variable;
 use git_setup::{Asked, AskedSpec, EachSpec, Found};
 use gitbase_core::{Bytes, OutOfMemory};
 use ls_files::{
@@ -56,20 +56,16 @@ pub fn ruled_around<W: Worktree, O: Owners>(
     alloc: Global,
     worktree: &mut W,
     owners: &mut O,
-    current: &[u8],
-    variables: &[Variable],
-    directory: &Option<Bytes>,
+    here: &Here<'_>,
     wants: &FilesAsked,
     asked: &Asked,
 ) -> Result<Found, HereRefusal>
     ensures finds { FindsHereWith W.Worktree O.Owners worktree.old worktree.new owners.old
-        owners.new (λ t owned. words.ruled_around t owned current.now variables.now
-        directory.now wants.now asked.now) result }
+        owners.new (λ t owned. words.ruled_around t owned here.now.current.now
+        here.now.variables.now here.now.directory.now wants.now asked.now) result }
     ensures of { IfErr result IsOfFinding }
 {
-    let found = found_here(
-        alloc, worktree, owners, current, variables, directory, asked,
-    )?;
+    let found = found_here(alloc, worktree, owners, here, asked)?;
     ruled_here(alloc, worktree, wants, found)
 }
 
@@ -113,22 +109,18 @@ fn listable_here<W: Worktree, O: Owners>(
     alloc: Global,
     worktree: &mut W,
     owners: &mut O,
-    current: &[u8],
-    variables: &[Variable],
-    directory: &Option<Bytes>,
+    here: &Here<'_>,
     wants: &FilesAsked,
     asked: &Asked,
 ) -> Result<Found, HereRefusal>
     ensures finds { FindsHereWith W.Worktree O.Owners worktree.old worktree.new owners.old
-        owners.new (λ t owned. words.listable_in t owned current.now variables.now directory.now
-        wants.now asked.now) result }
+        owners.new (λ t owned. words.listable_in t owned here.now.current.now here.now.variables.now
+        here.now.directory.now wants.now asked.now) result }
     ensures of { IfErr result IsOfFinding }
     ensures listable { IfOk result
         (λ here. wrong_in (words.listing_said wants.now) here.setup.index ≡ None) }
 {
-    let found = ruled_around(
-        alloc, worktree, owners, current, variables, directory, wants, asked,
-    )?;
+    let found = ruled_around(alloc, worktree, owners, here, wants, asked)?;
     unless_wrong(wants, asked, found)
 }
 
@@ -225,26 +217,23 @@ fn as_reply(answer: Result<Listed, Refusal>) -> Result<Reply, Refusal>
     }
 }
 
-/// What `ls-files` says of the work tree around the directory that is asked for, or why there is nothing of it.
+/// What `ls-files` says of the work tree around the directory that is asked for, or why there is
+/// nothing of it.
 pub fn files_here<W: CountsFaults, O: Owners, I: Interrupt>(
     alloc: Global,
     worktree: &mut W,
     owners: &mut O,
     interrupt: &mut I,
-    current: &[u8],
-    variables: &[Variable],
-    directory: &Option<Bytes>,
+    here: &Here<'_>,
     wants: &FilesAsked,
     asked: &Asked,
 ) -> Result<Reply, HereRefusal>
     ensures { answers.AnswersWord W.Worktree I.Interrupt O.Owners worktree.old worktree.new
         interrupt.old interrupt.new owners.old owners.new
-        (λ t owned. words.listable_in t owned current.now variables.now directory.now wants.now
-        asked.now) (own.listing_of wants.now) result }
+        (λ t owned. words.listable_in t owned here.now.current.now here.now.variables.now
+        here.now.directory.now wants.now asked.now) (tree.listing_of wants.now) result }
 {
-    let found = listable_here(
-        alloc, worktree, owners, current, variables, directory, wants, asked,
-    )?;
+    let found = listable_here(alloc, worktree, owners, here, wants, asked)?;
     let answer = list_in(alloc, worktree, interrupt, found, wants);
     replied(as_reply(answer))
 }

@@ -7,7 +7,7 @@ ghost use Rattle.tizhagor.specs.Finds.{FindsHere, FindsHereWith};
 ghost use Rattle.tizhagor.specs.Refusals.{as_git, IsOfFinding};
 
 use crate::call::{Call, options_for};
-use crate::directory::directory_named;
+use crate::directory::{Here, directory_named};
 use crate::refusal::HereRefusal;
 use git_places::{Surroundings, Variable, surroundings_of};
 use git_setup::{Asked, Found, GitRefusal, setup_here};
@@ -121,21 +121,27 @@ pub fn around_here<W: Worktree, O: Owners>(
     alloc: Global,
     worktree: &mut W,
     owners: &mut O,
-    current: &[u8],
-    variables: &[Variable],
-    directory: &Option<Bytes>,
+    here: &Here<'_>,
     asked: &Asked,
 ) -> Result<Found, HereRefusal>
     ensures finds { FindsHereWith W.Worktree O.Owners worktree.old worktree.new owners.old
-        owners.new (λ t owned. words.around_in t owned current.now variables.now directory.now
-        asked.now) result }
+        owners.new (λ t owned. words.around_in t owned here.now.current.now here.now.variables.now
+        here.now.directory.now asked.now) result }
     ensures of { IfErr result IsOfFinding }
 {
-    let place = current_in(alloc, worktree, current, directory)?;
-    found_from(alloc, worktree, owners, variables, asked, place.as_bytes())
+    let place = current_in(alloc, worktree, here.current, here.directory)?;
+    found_from(
+        alloc,
+        worktree,
+        owners,
+        here.variables,
+        asked,
+        place.as_bytes(),
+    )
 }
 
-/// Whether what may be deleted is asked for, and the current directory is not the top of the work tree.
+/// Whether what may be deleted is asked for, and the current directory is not the top of the work
+/// tree.
 fn is_away(options: &SetupOptions, current: &[u8], found: &Found) -> bool
     ensures { result ≡ words.is_away options.now current.now found.now }
 {
@@ -173,38 +179,38 @@ fn top_from<W: Worktree, O: Owners>(
     Ok(found)
 }
 
-/// The work tree around the directory that is asked for, and its setup. What may be deleted is to be asked for in the top of the work
-/// tree: `current` is that, also where `-C` names it, as the paths of a plan lead from there, and as the current directory is to stay.
+/// The work tree around the directory that is asked for, and its setup. What may be deleted is to
+/// be asked for in the top of the work tree: `current` is that, also where `-C` names it, as the
+/// paths of a plan lead from there, and as the current directory is to stay.
 ///
 /// # Errors
 ///
 /// - `Absent`, `NotADirectory`: the directory that `-C` names is none.
 /// - `Git`: no setup is found, as [`setup_here`] says.
 /// - `NotAtTop`: `asked` is for deletion, and `current` is not the top of the work tree.
-/// - `Program(Fault)`: the worktree failed, or the owners, which they counted. No fault reads as "nothing is there".
+/// - `Program(Fault)`: the worktree failed, or the owners, which they counted. No fault reads as
+///   "nothing is there".
 /// - `Program(OutOfMemory)` for want of memory.
 #[tactic(auto, unfolding(crate::specs::Asking::here_in))]
 pub fn found_here<W: Worktree, O: Owners>(
     alloc: Global,
     worktree: &mut W,
     owners: &mut O,
-    current: &[u8],
-    variables: &[Variable],
-    directory: &Option<Bytes>,
+    here: &Here<'_>,
     asked: &Asked,
 ) -> Result<Found, HereRefusal>
     ensures finds { FindsHereWith W.Worktree O.Owners worktree.old worktree.new owners.old
-        owners.new (λ t owned. words.here_in t owned current.now variables.now directory.now
-        asked.now) result }
+        owners.new (λ t owned. words.here_in t owned here.now.current.now here.now.variables.now
+        here.now.directory.now asked.now) result }
     ensures of { IfErr result IsOfFinding }
 {
-    let place = directory_in(alloc, worktree, current, directory)?;
+    let place = directory_in(alloc, worktree, here.current, here.directory)?;
     top_from(
         alloc,
         worktree,
         owners,
-        current,
-        variables,
+        here.current,
+        here.variables,
         asked,
         place.as_bytes(),
     )

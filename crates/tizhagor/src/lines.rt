@@ -84,7 +84,8 @@ pub fn config_line(alloc: Global, path: &[u8], line: usize) -> Result<Bytes, Out
     Ok(Bytes::from_vec(text))
 }
 
-/// A repository belongs to another user. The path is not put into the call, which a person may copy into a shell.
+/// A repository belongs to another user. The path is not put into the call, which a person may copy
+/// into a shell.
 pub fn foreign_line(alloc: Global, path: &[u8]) -> Result<Bytes, OutOfMemory>
     ensures { IfOk result (λ text. text ≡ words.foreign_line path.now) }
 {
@@ -96,7 +97,8 @@ pub fn foreign_line(alloc: Global, path: &[u8]) -> Result<Bytes, OutOfMemory>
     )
 }
 
-/// The line of a worktree, owners or stats that failed, with the path that the worktree names as that of its first fault.
+/// The line of a worktree, owners or stats that failed, with the path that the worktree names as
+/// that of its first fault.
 pub fn fault_line(alloc: Global, first: &[u8]) -> Result<Bytes, OutOfMemory>
     ensures { IfOk result (λ line. line ≡ words.fault_at first.now) }
 {

@@ -1,4 +1,5 @@
-//! The program: the words of its command line, answered in a git work tree over the real disk and the standard streams.
+//! The program: the words of its command line, answered in a git work tree over the real disk and
+//! the standard streams.
 #![tactic(auto)]
 
 mod answer;
@@ -8,15 +9,14 @@ mod call;
 mod changed;
 mod check;
 mod clean;
-mod cleaning;
 mod compare;
 mod directory;
-mod ending;
 mod environment;
 mod exclude_files;
-mod excluding;
+mod excluded_here;
 mod fault;
 mod files;
+mod finish;
 mod found;
 mod input;
 mod lines;
@@ -25,13 +25,14 @@ mod progress;
 mod quiet_report;
 mod refusal;
 mod reply;
+mod require_force;
 mod state_lines;
 #[cfg(test)]
 mod tests;
 mod texts;
-mod writing;
+mod written;
 
-use answer::answer_here;
+use answer::{Called, answer_here};
 use diff_files::DiskStats;
 use environment::{Handed, NotGiven, given};
 use input::input_for;
@@ -62,13 +63,16 @@ fn answered(rt: &HostRuntime, alloc: Global, given: &Handed) -> Result<u8, NotGi
     let mut progress = Progress::new(rt, alloc, &given.variables)?;
     let mut out = progress.out()?;
     let mut err = progress.err()?;
+    let called = Called {
+        current: given.current.as_bytes(),
+        variables: &given.variables,
+        takes_colors: rt.stdout().is_terminal(),
+        input: input.as_bytes(),
+    };
     let status = answer_here(
         alloc,
         &given.words,
-        given.current.as_bytes(),
-        &given.variables,
-        rt.stdout().is_terminal(),
-        input.as_bytes(),
+        &called,
         &mut worktree,
         &mut owners,
         &mut stats,

@@ -15,8 +15,8 @@ use std::str;
 use std::time::{Duration, Instant};
 use worktree_fs::{Fault, Interrupt, Sink, StdSink};
 
-/// How many milliseconds a walk goes on before its progress is shown, where `GIT_PROGRESS_DELAY` says
-/// nothing.
+/// How many milliseconds a walk goes on before its progress is shown, where `GIT_PROGRESS_DELAY`
+/// says nothing.
 const DELAY: u64 = 500;
 
 /// How many milliseconds a line of progress stands before the next.
@@ -34,8 +34,8 @@ struct Line {
 }
 
 /// An interrupt that is never raised, and shows on standard error how often it was asked: how many
-/// directories a walk has begun. It does so where that is a terminal, half a second after it was made or
-/// as many seconds as `GIT_PROGRESS_DELAY` says, and ten times a second from then on.
+/// directories a walk has begun. It does so where that is a terminal, half a second after it was
+/// made or as many seconds as `GIT_PROGRESS_DELAY` says, and ten times a second from then on.
 ///
 /// Its forks share its line. Contracts see both counts.
 #[derive(Drop)]
@@ -54,7 +54,8 @@ impl<'a> Model for Progress<'a> {
     ghost view = { λ p. record { questions = p.questions; raised = p.raised } };
 }
 
-/// How long a walk goes on before its progress is shown, as git's variable says it: a number of seconds.
+/// How long a walk goes on before its progress is shown, as git's variable says it: a number of
+/// seconds.
 fn delay_of(variables: &[Variable]) -> Duration {
     for variable in variables {
         if variable.name.as_bytes() == b"GIT_PROGRESS_DELAY".as_slice() {

@@ -2,14 +2,14 @@
 ghost use Rattle.std.specs.Prelude.{◌≡◌};
 ghost use Rattle.tizhagor.specs.Answers as answers;
 ghost use Rattle.tizhagor.specs.Asking.{here_in};
-ghost use Rattle.tizhagor.specs.OwnWords as own;
+ghost use Rattle.tizhagor.specs.TreeWords as tree;
 ghost use Rattle.tizhagor.specs.QuietReport.{IsQuietly, ReportsQuietly};
 
+use crate::directory::Here;
 use crate::found::found_here;
 use crate::refusal::HereRefusal;
 use crate::reply::{Reply, of_text, replied};
-use crate::writing::{Writing, bytes_of};
-use git_places::Variable;
+use crate::written::{Writing, bytes_of};
 use git_setup::{Asked, Found};
 use gitbase_core::Bytes;
 use std::alloc::Global;
@@ -39,15 +39,15 @@ fn report_in<W: CountsFaults, I: Interrupt>(
     alloc: Global,
     worktree: &mut W,
     interrupt: &mut I,
-    found: &Found,
+    found: Found,
     writing: Writing,
 ) -> Result<Bytes, Refusal>
     ensures { ReportsQuietly W.Worktree I.Interrupt worktree.old worktree.new interrupt.old
-        interrupt.new writing found.now result }
+        interrupt.new writing found result }
 {
     let before = worktree.fault_count();
-    let root = found.root.as_bytes();
-    let answer = walked_text(alloc, worktree, interrupt, root, &found.setup);
+    let Found { root, setup, .. } = found;
+    let answer = walked_text(alloc, worktree, interrupt, root.as_bytes(), setup);
     quietly(alloc, worktree, before, writing, answer)
 }
 
@@ -62,20 +62,16 @@ pub fn report_here<W: CountsFaults, O: Owners, I: Interrupt>(
     worktree: &mut W,
     owners: &mut O,
     interrupt: &mut I,
-    current: &[u8],
-    variables: &[Variable],
-    directory: &Option<Bytes>,
+    here: &Here<'_>,
     asked: &Asked,
     writing: Writing,
 ) -> Result<Reply, HereRefusal>
     ensures { answers.AnswersWord W.Worktree I.Interrupt O.Owners worktree.old worktree.new
         interrupt.old interrupt.new owners.old owners.new
-        (λ t owned. here_in t owned current.now variables.now directory.now asked.now)
-        (own.report_of writing) result }
+        (λ t owned. here_in t owned here.now.current.now here.now.variables.now
+        here.now.directory.now asked.now) (tree.report_of writing) result }
 {
-    let found = found_here(
-        alloc, worktree, owners, current, variables, directory, asked,
-    )?;
-    let answer = report_in(alloc, worktree, interrupt, &found, writing);
+    let found = found_here(alloc, worktree, owners, here, asked)?;
+    let answer = report_in(alloc, worktree, interrupt, found, writing);
     replied(of_text(alloc, answer))
 }

@@ -1,5 +1,5 @@
 //! Why there is no text.
-use crate::cleaning::WrongClean;
+use crate::require_force::WrongClean;
 use check_ignore::{Stop, WrongCheck};
 use command_line::Misuse;
 use diff_files::{DiffError, Unanswered};
@@ -23,7 +23,8 @@ pub enum Uncompared {
 pub enum Unchecked {
     /// There are no such words.
     Wrong(WrongCheck),
-    /// Of a path in the work tree at `root`, or of its index; never as the worktree failed, nor for want of memory.
+    /// Of a path in the work tree at `root`, or of its index; never as the worktree failed, nor for
+    /// want of memory.
     Stopped { root: PathText, stop: Stop },
 }
 
@@ -36,7 +37,8 @@ pub enum HereRefusal {
     Absent { directory: Bytes },
     /// What is at the directory that `-C` names is none.
     NotADirectory { directory: Bytes },
-    /// What may be deleted is asked for elsewhere than at the top of the work tree, which is at `root`.
+    /// What may be deleted is asked for elsewhere than at the top of the work tree, which is at
+    /// `root`.
     NotAtTop { root: Bytes },
     /// What is to be called in the current directory alone is asked for in another one.
     Elsewhere,

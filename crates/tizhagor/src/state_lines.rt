@@ -8,7 +8,7 @@ ghost use Rattle.tizhagor.specs.StateLines as states;
 use crate::compare::comparison_of;
 use crate::refusal::HereRefusal;
 use crate::reply::Reply;
-use crate::writing::{Writing, bytes_of};
+use crate::written::{Writing, bytes_of};
 use command_line::{Comparing, Ignoring, default_comparing};
 use diff_files::{Comparison, DiffError, PathChange, Row, Stats, changed_rows};
 use git_setup::Compared;

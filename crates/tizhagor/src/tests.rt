@@ -1,9 +1,9 @@
-//! The program over trees in memory, whole: words, a directory and variables in, a status and two texts out. What git has a line for is in
-//! git's words, from git version 2.39.5.
+//! The program over trees in memory, whole: words, a directory and variables in, a status and two
+//! texts out. What git has a line for is in git's words, from git version 2.39.5.
 mod rows;
 
-use crate::answer::answer_here;
-use crate::ending::finish_here;
+use crate::answer::{Called, answer_here};
+use crate::finish::finish_here;
 use crate::refusal::HereRefusal;
 use bstr::ByteSlice;
 use diff_files::{MemoryStats, NodeStat, StatNode};
@@ -26,12 +26,13 @@ const INDEX: &[u8] = b"DIRC\0\0\0\x02\0\0\0\x01\
 \x58\x7b\xe6\xb4\xc3\xf9\x3f\x93\xc4\x89\xc0\x11\x1b\xba\x55\x96\x14\x7a\x26\xcb\0\x01a\0\
 \0\0\0\0\0\0\0\0\0\0\0\0\0\0\0\0\0\0\0\0";
 
-/// Steps by which each tree begins, parted by `;`: a directory, or a file with its bytes behind `=`, where `~` stands for a line feed.
+/// Steps by which each tree begins, parted by `;`: a directory, or a file with its bytes behind
+/// `=`, where `~` stands for a line feed.
 const BEGIN: &[u8] =
     b"/w/.git/objects;/w/.git/refs;/w/.git/HEAD=ref: refs/heads/main~;/w/.gitignore=*.o~;/w/a=x~;/w/b=;/w/c.o=;/w/d/e=";
 
-/// Steps that each tree has besides, behind those of its row: `@` and a path, and behind `=` a digit for the user who owns what is there, and
-/// one for the file system.
+/// Steps that each tree has besides, behind those of its row: `@` and a path, and behind `=` a
+/// digit for the user who owns what is there, and one for the file system.
 const OWNED: &[u8] = b"@/proc/self=19;@/=01;@/w=11;@/w/.git=11;@/w/d=11;@/w/n=11;@/w/n/.git=11";
 
 /// A text with a line feed in the place of each `~`.
@@ -200,7 +201,8 @@ struct Answer {
     err: MemorySink,
 }
 
-/// The answer where the interrupt is raised from this question on, and `out` refuses from this write on.
+/// The answer where the interrupt is raised from this question on, and `out` refuses from this
+/// write on.
 fn answer_of(
     alloc: Global,
     words: &[Bytes],
@@ -216,13 +218,16 @@ fn answer_of(
     let mut out = MemorySink::new(alloc, ROOM).ok()?;
     out.fail_from(nth);
     let mut err = MemorySink::new(alloc, ROOM).ok()?;
+    let called = Called {
+        current,
+        variables,
+        takes_colors: false,
+        input,
+    };
     let status = answer_here(
         alloc,
         words,
-        current,
-        variables,
-        false,
-        input,
+        &called,
         tree,
         owners,
         stats,
@@ -233,7 +238,8 @@ fn answer_of(
     Some(Answer { status, out, err })
 }
 
-/// Whether an answer is the one that is wanted: a status in decimal, the output, and a line by its beginning.
+/// Whether an answer is the one that is wanted: a status in decimal, the output, and a line by its
+/// beginning.
 fn is_wanted(alloc: Global, answer: &Answer, want: &[u8]) -> bool {
     let (status, rest) = want.split_once_str(b"^").unwrap_or((want, b""));
     let (out, err) = rest.split_once_str(b"^").unwrap_or((rest, b""));
@@ -343,7 +349,8 @@ fn stops_with_the_interrupt(rt: HostRuntime) {
     assert!(rt; is == Some(true));
 }
 
-/// Whether a refusal ends with 128 and this line where the worktree names a path as that of its first fault.
+/// Whether a refusal ends with 128 and this line where the worktree names a path as that of its
+/// first fault.
 fn is_told(alloc: Global, refusal: Refusal, first: &[u8], line: &[u8]) -> Option<bool> {
     let mut out = MemorySink::new(alloc, ROOM).ok()?;
     let mut err = MemorySink::new(alloc, ROOM).ok()?;
@@ -398,7 +405,8 @@ fn failing(alloc: Global, row: &[u8], call: CallKind, nth: u64) -> Option<(u8, u
     Some((answer.status, tree.fault_count(), tells))
 }
 
-/// The walk goes on with some faults. A report is given with them, and states by stat fields are not.
+/// The walk goes on with some faults. A report is given with them, and states by stat fields are
+/// not.
 #[test]
 fn states_by_stat_hide_no_fault(rt: HostRuntime) {
     let alloc = rt.alloc();
@@ -422,7 +430,8 @@ fn states_by_stat_hide_no_fault(rt: HostRuntime) {
     assert!(rt; swallowed == 1, "no report is given with a fault");
 }
 
-/// A row of `state --by-stat` whose stat fields tell all but where the index was written with the file.
+/// A row of `state --by-stat` whose stat fields tell all but where the index was written with the
+/// file.
 const STAMPED: &[u8] = b"state --by-stat^/w^^/w/.git/index=DIRC\0\0\0\x02\0\0\0\x01\
 \0\0\0\0\0\0\0\0\0\0\0\x05\0\0\0\0\0\0\0\0\0\0\0\0\0\0\x81\xa4\0\0\0\0\0\0\0\0\0\0\0\x02\
 \x58\x7b\xe6\xb4\xc3\xf9\x3f\x93\xc4\x89\xc0\x11\x1b\xba\x55\x96\x14\x7a\x26\xcb\0\x01a\0\

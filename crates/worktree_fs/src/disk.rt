@@ -9,7 +9,7 @@ ghost use Rattle.worktree_fs.specs.Naming.{AreNames};
 ghost use Rattle.worktree_fs.specs.Order.{path_cmp};
 ghost use Rattle.worktree_fs.specs.Answers.{UnlessRead, UnlessFault, OnListFault, UnlessListFault};
 
-mod listing;
+mod listed;
 pub(crate) mod node;
 
 use crate::faults::{is_fault, is_listing_fault};
@@ -17,7 +17,7 @@ use crate::{
     ListError, MakeAnswer, NameList, NodeKind, ReadAnswer, ReadError, RemoveAnswer, Worktree,
 };
 use gitbase_core::{Bytes, OutOfMemory, PathText};
-use listing::listed;
+use listed::listed;
 use node::{look, make_dir, read_into, real_path, remove_node};
 use std::alloc::Global;
 use std::marker::Model;

@@ -15,7 +15,7 @@ ghost use Rattle.worktree_fs.specs.Memory.{no_calls, fails, with_call, listed, t
 
 mod found;
 mod grow;
-mod listing;
+mod list_of;
 mod plan;
 mod root;
 mod route;

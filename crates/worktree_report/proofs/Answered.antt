@@ -24,7 +24,7 @@ use Rattle.dir_walk.specs.Opens.{IsListed}
 use Rattle.dir_walk.specs.Kept.{OnInterrupt}
 use Rattle.dir_walk.specs.Root.{walk_in}
 use Rattle.dir_walk.specs.Walks.{most_opened}
-use Rattle.dir_walk.proofs.Weaker.{WalkRefuses-weaker}
+use Rattle.dir_walk.proofs.Refused.Weaker.{WalkRefuses-weaker}
 use Rattle.worktree_report.specs.declared.error.ReportError.{ReportError}
 use Rattle.worktree_report.specs.declared.error.ReportError.TheVariants as errors
 use Rattle.worktree_report.specs.declared.known.Known.{Known}

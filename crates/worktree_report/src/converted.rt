@@ -226,7 +226,7 @@ fn walk_status(error: &Error) -> u8
 /// | 5 | a configuration, `.gitmodules` or a value of `submodule.active` is outside its grammar |
 /// | 6 | the worktree or the store failed |
 /// | 8 | want of memory |
-pub fn status_of(error: &ReportError) -> u8
+pub fn report_status(error: &ReportError) -> u8
     ensures { result ≡ status_of (of_report error.now) }
 {
     match error {

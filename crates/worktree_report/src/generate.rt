@@ -7,7 +7,7 @@ ghost use Rattle.worktree_report.specs.Asked.{read_in, walked_of};
 use crate::lines::{add_number, add_outcome};
 use crate::refusal::Refusal;
 use crate::setup::Setup;
-use crate::walking::walk_by_setup;
+use crate::walk_by_setup::walk_by_setup;
 use dir_classify::Error;
 use dir_walk::Report;
 use gitbase_core::{Bytes, Find, Flags, IndexEntry, Mode, ObjectId, OutOfMemory, PathText, State};

@@ -8,11 +8,11 @@ ghost use Rattle.worktree_report.specs.Ends.{Runs};
 ghost use Rattle.worktree_report.specs.Run.{usage, output_of, IsValid, Answers, AnswersReport};
 ghost use Rattle.worktree_report.specs.Named.{named_by};
 
-use crate::ending::finish;
 use crate::generate::generated_text;
-use crate::reading::read_setup;
 use crate::refusal::Refusal;
-use crate::walking::walked_text;
+use crate::setup_file::read_setup;
+use crate::top_call::finish;
+use crate::walk_by_setup::walked_text;
 use crate::words::{Command, Places, command_of};
 use gitbase_core::Bytes;
 use std::alloc::Global;
@@ -32,7 +32,7 @@ fn report_text<W: Worktree, I: Interrupt>(
         interrupt.new (named_by places.entry) result }
 {
     let setup = read_setup(alloc, worktree, places.setup)?;
-    walked_text(alloc, worktree, interrupt, places.root, &setup)
+    walked_text(alloc, worktree, interrupt, places.root, setup)
 }
 
 /// The text that the words ask for, or why there is none.

@@ -4,7 +4,7 @@ ghost use Rattle.worktree_report.specs.Ends.{IsTold, IsToldOf};
 ghost use Rattle.worktree_report.specs.Refusals.{status_of, word_of, line_of, Says, is_made, IsLineIfMade};
 
 use crate::escape::add_escaped;
-use crate::writing::write_whole;
+use crate::write_whole::write_whole;
 use gitbase_core::{Bytes, OutOfMemory, PathText};
 use std::alloc::Global;
 use worktree_fs::Sink;

@@ -9,7 +9,7 @@ use crate::facts::facts_in;
 use crate::known::{Known, known_in};
 use crate::lines::{add_line, add_outcome};
 use crate::setup::{Setup, SetupOptions};
-use crate::walking::walk_by_setup;
+use crate::walk_by_setup::walk_by_setup;
 use dir_classify::{Entry, Error, Status};
 use dir_walk as walk;
 use gitbase_core::{Bytes, Find, OutOfMemory};
@@ -81,21 +81,22 @@ fn text_by(
     }
 }
 
-/// The text of the report that [`worktree_report`](crate::worktree_report) makes, with its errors and
-/// after its calls. The entries of the walk are held, and not those of the report, which take more
-/// memory.
+/// The text of the report that [`worktree_report`](crate::worktree_report) makes, with its errors
+/// and after its calls. The entries of the walk are held, and not those of the report, which take
+/// more memory. Nor is the setup's index, once the walk is done.
 pub fn worktree_text<W: Worktree, F: Find, I: Interrupt>(
     alloc: Global,
     worktree: &mut W,
     objects: &mut F,
     interrupt: &mut I,
     worktree_root: &[u8],
-    setup: &Setup,
+    setup: Setup,
 ) -> Result<Bytes, ReportError>
     ensures { MakesTextOf W.Worktree F.Find I.Interrupt worktree.old worktree.new objects.old
-        objects.new interrupt.old interrupt.new worktree_root.now setup.now result }
+        objects.new interrupt.old interrupt.new worktree_root.now setup result }
 {
-    let known = known_in(alloc, worktree, worktree_root, setup)?;
-    let walked = walk_by_setup(alloc, worktree, objects, interrupt, worktree_root, setup);
-    text_by(alloc, known, walked, &setup.options)
+    let known = known_in(alloc, worktree, worktree_root, &setup)?;
+    let walked = walk_by_setup(alloc, worktree, objects, interrupt, worktree_root, &setup);
+    let Setup { options, .. } = setup;
+    text_by(alloc, known, walked, &options)
 }

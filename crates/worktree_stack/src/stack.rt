@@ -22,8 +22,8 @@ ghost use Rattle.worktree_stack.specs.Stacked.{made_of, attributes_of, checkout_
 ghost use Rattle.worktree_stack.specs.Reading.{Sources, Tells};
 
 mod checkout;
-mod pushing;
-mod reading;
+mod push_rules;
+mod read_text;
 mod steps;
 
 use crate::attributes::{asking_for_all, asking_for_these};
@@ -41,9 +41,8 @@ use worktree_fs::{PathStack, Worktree, is_normal};
 /// The directories above the path that was looked up last, with the rules of each; gitoxide's
 /// `gix_worktree::Stack`.
 ///
-/// A lookup pops the directories that are not above its path and pushes those that are, and so
-/// reads the rules of a directory once for all paths in it, as long as paths are looked up
-/// directory by directory.
+/// A lookup pops the directories that are not above its path and pushes those that are. So the
+/// rules of a directory are read once for all paths in it, if these come directory by directory.
 ///
 /// Contracts see a record.
 #[derive(Drop)]
@@ -53,8 +52,7 @@ pub struct Stack {
     case: Case,
     buf: Bytes,
     id_mappings: Mappings,
-    /// The path of the rules file that was looked for last, and its whole path; kept for their
-    /// room.
+    /// The path of the rules file that was looked for last, and its whole path, for their room.
     rules_path: PathText,
     whole_path: PathText,
     is_dir: Option<bool>,

@@ -1,7 +1,9 @@
-//! What git answers of paths in work trees with several rules files; made by `scripts/ask-git-nested` with git version 2.39.5.
+//! What git answers of paths in work trees with several rules files; made by
+//! `scripts/ask-git-nested` with git version 2.39.5.
 //!
-//! A row has the line that decides, or 0; its sign; the file that it stands in; `d` or `f` for a directory or a file; the path;
-//! and the rules files, each as its path, `=` and its rules with `|` in the place of each LF.
+//! A row has the line that decides, or 0; its sign; the file that it stands in; `d` or `f` for a
+//! directory or a file; the path; and the rules files, each as its path, `=` and its rules with `|`
+//! in the place of each LF.
 
 /// Which rule decides of a path.
 pub const NESTED: &[u8] = b"\

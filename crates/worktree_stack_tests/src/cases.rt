@@ -10,8 +10,8 @@ use worktree_fs::MemoryWorktree;
 use worktree_stack::ignore_source::Source;
 use worktree_stack::{Ignore, Stack, State};
 
-/// Cases, each behind an `@`, with its overrides and globals; its steps stand on lines of their own.
-/// `hit` and `miss` have a path, and the rule that decides: its text, line, group and file.
+/// Cases, each behind an `@`, with its overrides and globals; its steps stand on lines of their
+/// own. `hit` and `miss` have a path, and the rule that decides: its text, line, group and file.
 const CASES: &[u8] = b"\
 @ an excluded directory of the globals``/a/
   directory`/w

@@ -12,10 +12,10 @@ use worktree_fs::MemoryWorktree;
 use worktree_stack::ignore_source::Source;
 use worktree_stack::{AtPathError, BlobWhy, Ignore, PathIdMapping, Stack, State};
 
-/// Cases, each behind an `@`, with `m` for rules from mappings alone or `w` for the worktree
-/// first, with `f` where letters are folded, and with the entries of the index, parted by `;`: `f`
-/// for a file, `o` and `t` for ours and theirs in a conflict, `x` for a file that may be executed;
-/// `s` where it is left out of the worktree; its id; its path. The steps stand on lines of their own.
+/// Cases, each behind an `@`, with `m` for rules from mappings alone or `w` for the worktree first,
+/// with `f` where letters are folded, and with the entries of the index, parted by `;`: `f` for a
+/// file, `o` and `t` for ours and theirs in a conflict, `x` for a file that may be executed; `s`
+/// where it is left out of the worktree; its id; its path. The steps stand on lines of their own.
 const CASES: &[u8] = b"\
 @ the rules of a blob`m``f-1.gitignore
   file`/w/.gitignore`*.c\n

@@ -4,9 +4,9 @@ ghost use Rattle.glob_rules.specs.AttributeOutcome as outcomes;
 ghost use Rattle.glob_rules.specs.AttributeValues as values;
 ghost use Rattle.glob_rules.specs.AttributeOutcome.{asking_anew, asking_for, filled, finds_some, found_of, nothing_asked};
 
-use super::saying::standing_at;
 use super::selected::Selected;
 use super::standing::Standing;
+use super::standing_at::standing_at;
 use super::{Assignment, MetadataCollection, Search};
 use crate::Case;
 use gitbase_core::{Bytes, OutOfMemory};

@@ -5,7 +5,7 @@ use std::alloc::Global;
 use worktree_fs::{MemoryWorktree, NewNode, PlannedInterrupt};
 use worktree_report::{
     Activity, Attributes, Config, Environment, Permission, Permissions, Report, ReportError, Setup,
-    Trust, load_modules, report_bytes, status_of, worktree_report,
+    Trust, load_modules, report_bytes, report_status, worktree_report,
 };
 
 /// A submodule `m` at `f`, and a configuration that says that it is active.
@@ -86,9 +86,9 @@ pub fn reports(alloc: Global) -> Option<bool> {
 
 /// Whether statuses are those of the program.
 pub fn has_statuses() -> bool {
-    status_of(&ReportError::Modules { line: 1 }) == 5
-        && status_of(&ReportError::ReadFault) == 6
-        && status_of(&ReportError::OutOfMemory) == 8
+    report_status(&ReportError::Modules { line: 1 }) == 5
+        && report_status(&ReportError::ReadFault) == 6
+        && report_status(&ReportError::OutOfMemory) == 8
 }
 
 /// Whether the defaults admit all but what git's installation has.

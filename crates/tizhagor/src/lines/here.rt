@@ -2,11 +2,11 @@
 ghost use Rattle.std.specs.Prelude.{◌≡◌, IfOk};
 ghost use Rattle.tizhagor.specs.Refusals as words;
 
-use crate::cleaning::WrongClean;
 use crate::lines::git::git_line;
 use crate::lines::program::{program_line, program_status};
 use crate::lines::{fault_line, fixed, with_path};
 use crate::refusal::{HereRefusal, Unchecked, Uncompared};
+use crate::require_force::WrongClean;
 use check_ignore::told;
 use command_line::said;
 use diff_files::Unanswered;
@@ -165,7 +165,8 @@ fn is_fault(refusal: &HereRefusal) -> bool
     }
 }
 
-/// The line of a refusal, its line feed included. That of a fault names the path of the worktree's `first` one, where that has bytes.
+/// The line of a refusal, its line feed included. That of a fault names the path of the worktree's
+/// `first` one, where that has bytes.
 ///
 /// # Errors
 ///

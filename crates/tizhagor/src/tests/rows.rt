@@ -1,8 +1,8 @@
 //! What words say in trees in memory, a row a line.
 
-/// Rows, parted by `|`: words, the directory, a variable, of which one named `INPUT` has what stands
-/// on the standard input, more steps, the status, and what stands on the output and on standard error,
-/// parted by `^`.
+/// Rows, parted by `|`: words, the directory, a variable, of which one named `INPUT` has what
+/// stands on the standard input, more steps, the status, and what stands on the output and on
+/// standard error, parted by `^`.
 pub const ROWS: &[u8] = b"\
 report^/w^^^0^untracked file - always - -\t.gitignore~untracked file - always - -\tb~untracked file - always - -\td/e~^|\
 report^/w/d^^^0^untracked file - always - -\t.gitignore~untracked file - always - -\tb~untracked file - always - -\td/e~^|\

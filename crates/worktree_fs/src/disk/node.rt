@@ -20,7 +20,7 @@ use std::{io, str};
 const BYTE_LIMIT: u64 = 1 << 30;
 
 /// The text of bytes that are UTF-8.
-#[tactic(auto, using(crate::proofs::Texts::is_utf8_not))]
+#[tactic(auto, using(crate::proofs::Paths::Texts::is_utf8_not))]
 fn utf8_of(bytes: &[u8]) -> Option<&str>
     ensures { MatchOption result (is_utf8 bytes.now ≡ false)
         (λ text. (text.now ≡ bytes.now) × (is_utf8 bytes.now ≡ true)) }

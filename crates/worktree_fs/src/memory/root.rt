@@ -14,7 +14,7 @@ ghost use Rattle.worktree_fs.specs.Way.{place_by, depth_of, depth_in, LeadsTo};
 use super::below_root;
 use super::found::{found_at, kind_of, read_of};
 use super::grow::{AddError, NewNode, add_in, count_parts, cut_at, stored_of};
-use super::listing::list_of;
+use super::list_of::list_of;
 use super::site::{Site, find_site};
 use super::spell::{spell, spell_name};
 use super::stored::{Entry, Stored, copied};

@@ -1,7 +1,8 @@
-//! The depth limit of a setup.
+//! A depth limit, as a word has it.
 ghost use Rattle.std.specs.Prelude.{◌≡◌, ◌≤◌, IfSome};
 ghost use Rattle.worktree_report.specs.SetupDepth.{digit_of, leading_digit_of, two_digits, three_digits, depth_of};
 
+/// The number that a digit gives.
 pub fn digit_of(byte: u8) -> Option<usize>
     ensures value { result ≡ digit_of byte }
     ensures within { IfSome result (λ digit. digit ≤ 9) }
@@ -47,7 +48,8 @@ fn three_digits(hundreds: u8, tens: u8, ones: u8) -> Option<usize>
     Some(10 * front + ones)
 }
 
-/// The number that a depth line gives, from 0 to 1000. None where it gives none.
+/// The number that a word gives as a depth, from 0 to 1000 in decimal, without zeros in front. None
+/// where it gives none.
 pub fn depth_of(value: &[u8]) -> Option<usize>
     ensures { result ≡ depth_of value.now }
 {

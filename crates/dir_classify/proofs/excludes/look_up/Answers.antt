@@ -1,4 +1,4 @@
-use Rattle.worktree_stack.proofs.Keeping.{keeps-excludes, leaves-excludes}
+use Rattle.worktree_stack.proofs.CheckOut.Keeping.{keeps-excludes, leaves-excludes}
 use Rattle.worktree_stack.specs.Stacked.{made_of}
 use Rattle.dir_classify.proofs.excludes.look_up.Goals as goal
 

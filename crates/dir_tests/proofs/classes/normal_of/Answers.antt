@@ -1,6 +1,6 @@
 use Rattle.std.proofs.Common.{◌∙◌, ap, sym}
 use Rattle.gitbase_core.specs.Path.{is_absolute}
-use Rattle.dir_walk.proofs.NormalRoots.{normal-root}
+use Rattle.dir_walk.proofs.Places.NormalRoots.{normal-root}
 use Rattle.dir_tests.proofs.classes.normal_of.Goals as goal
 
 pub returns : goal.returns

@@ -4,8 +4,8 @@ use Rattle.dir_classify.specs.Layers.{setting_in}
 use Rattle.dir_walk.specs.declared.strategy.Strategy.TheVariants.{AtOnce}
 use Rattle.dir_walk.specs.WalkRefused.{by_default}
 use Rattle.dir_walk.specs.Walks.{root_in}
-use Rattle.dir_walk.proofs.Collected.{collects-given, collects-refused}
-use Rattle.dir_walk.proofs.WalksSo.{walks-more, walks-other}
+use Rattle.dir_walk.proofs.Gives.Collected.{collects-given, collects-refused}
+use Rattle.dir_walk.proofs.Walked.WalksSo.{walks-more, walks-other}
 use Rattle.dir_walk.proofs.at_once.walk_at_once.Goals as goal
 
 pub returns-in_err-outcome-clause-collects : goal.returns-in_err-outcome-clause-collects

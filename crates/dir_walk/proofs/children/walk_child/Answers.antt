@@ -11,19 +11,19 @@ use Rattle.dir_walk.specs.Placed.{Standing, IsPushed}
 use Rattle.dir_walk.specs.Opens.{count_within}
 use Rattle.dir_walk.specs.Report.{depth_of}
 use Rattle.dir_walk.specs.Told.{directory_told}
-use Rattle.dir_walk.proofs.NameEnds.{Before-same, any-entered, any-leaf, any-memory}
-use Rattle.dir_walk.proofs.CallByCall.{Before-asked, Before-classed, Before-then}
-use Rattle.dir_walk.proofs.Keeping.{KeepsRules-same, KeepsRules-then, KeepsDelegate-asked, KeepsDelegate-same}
-use Rattle.dir_walk.proofs.Apart.{apart-job, apart-none}
-use Rattle.dir_walk.proofs.JoinedPaths.{joined-some}
-use Rattle.dir_walk.proofs.Placed.{depth_of-joined}
-use Rattle.dir_walk.proofs.Standing.{OnOk-always}
-use Rattle.dir_walk.proofs.Steps.{entered-directory, telling, Stands-later, Gives-leaf, Gives-put, part-leaf, part-put}
-use Rattle.dir_walk.proofs.Rooms.{Hands-none}
-use Rattle.dir_walk.proofs.Hiding.{AddsShown-same}
-use Rattle.dir_walk.proofs.Refusals.{IsAbout-class, IsAbout-deep, IsInTree-class, memory-only}
-use Rattle.dir_walk.proofs.Shallow.{shallow-class, shallow-memory}
-use Rattle.dir_walk.proofs.NameSteps.{told-deep, told-entered, told-unclassed}
+use Rattle.dir_walk.proofs.Walked.NameEnds.{Before-same, any-entered, any-leaf, any-memory}
+use Rattle.dir_walk.proofs.Walked.CallByCall.{Before-asked, Before-classed, Before-then}
+use Rattle.dir_walk.proofs.Opens.Keeping.{KeepsRules-same, KeepsRules-then, KeepsDelegate-asked, KeepsDelegate-same}
+use Rattle.dir_walk.proofs.Opens.Apart.{apart-job, apart-none}
+use Rattle.dir_walk.proofs.Places.JoinedPaths.{joined-some}
+use Rattle.dir_walk.proofs.Places.Placed.{depth_of-joined}
+use Rattle.dir_walk.proofs.Places.Standing.{OnOk-always}
+use Rattle.dir_walk.proofs.Folding.Steps.{entered-directory, telling, Stands-later, Gives-leaf, Gives-put, part-leaf, part-put}
+use Rattle.dir_walk.proofs.Places.Rooms.{Hands-none}
+use Rattle.dir_walk.proofs.Folding.Hiding.{AddsShown-same}
+use Rattle.dir_walk.proofs.Refused.Refusals.{IsAbout-class, IsAbout-deep, IsInTree-class, memory-only}
+use Rattle.dir_walk.proofs.Refused.Shallow.{shallow-class, shallow-memory}
+use Rattle.dir_walk.proofs.Walked.NameSteps.{told-deep, told-entered, told-unclassed}
 use Rattle.dir_walk.proofs.children.walk_child.Goals as goal
 
 pub returns-then-is_entered-clause-rules : goal.returns-then-is_entered-clause-rules

@@ -11,18 +11,18 @@ use Rattle.dir_walk.specs.Report.{depth_of}
 use Rattle.dir_walk.specs.Emits.{Gives}
 use Rattle.dir_walk.specs.Told.{look_directory, item_told}
 use Rattle.dir_walk.specs.Moments.{moment}
-use Rattle.dir_walk.proofs.DirectorySteps.{told-closed, told-empty, told-ended, told-unheld}
-use Rattle.dir_walk.proofs.Ending.{Caused-later, Caused-memory}
-use Rattle.dir_walk.proofs.Keeping.{Heeds-after, KeepsDelegate-same, KeepsDelegate-then, KeepsRules-same, KeepsRules-then, AsksStore-same, AsksStore-then, KeepsTree-then, AsksInterrupt-then}
-use Rattle.dir_walk.proofs.Apart.{apart-end, apart-one, apart-then, apart-tried}
-use Rattle.dir_walk.proofs.Entered.{enters-all, enters-last, enters-more}
-use Rattle.dir_walk.proofs.Listed.{entered-empty, HasNames-listed}
-use Rattle.dir_walk.proofs.Named.{SoFar-none, SoFar-more}
-use Rattle.dir_walk.proofs.Steps.{Stands-later}
-use Rattle.dir_walk.proofs.Rooms.{Hands-none, Hands-empty, Hands-refused, Hands-closed, Puts-start, Puts-name}
-use Rattle.dir_walk.proofs.Refusals.{IsInTree-open, memory-only}
+use Rattle.dir_walk.proofs.Walked.DirectorySteps.{told-closed, told-empty, told-ended, told-unheld}
+use Rattle.dir_walk.proofs.Walked.Ending.{Caused-later, Caused-memory}
+use Rattle.dir_walk.proofs.Opens.Keeping.{Heeds-after, KeepsDelegate-same, KeepsDelegate-then, KeepsRules-same, KeepsRules-then, AsksStore-same, AsksStore-then, KeepsTree-then, AsksInterrupt-then}
+use Rattle.dir_walk.proofs.Opens.Apart.{apart-end, apart-one, apart-then, apart-tried}
+use Rattle.dir_walk.proofs.Opens.Entered.{enters-all, enters-last, enters-more}
+use Rattle.dir_walk.proofs.Folding.Listed.{entered-empty, HasNames-listed}
+use Rattle.dir_walk.proofs.Folding.Named.{SoFar-none, SoFar-more}
+use Rattle.dir_walk.proofs.Folding.Steps.{Stands-later}
+use Rattle.dir_walk.proofs.Places.Rooms.{Hands-none, Hands-empty, Hands-refused, Hands-closed, Puts-start, Puts-name}
+use Rattle.dir_walk.proofs.Refused.Refusals.{IsInTree-open, memory-only}
 use Rattle.dir_walk.specs.Unopened.{unlisted_one}
-use Rattle.dir_walk.proofs.Shallow.{shallow-memory}
+use Rattle.dir_walk.proofs.Refused.Shallow.{shallow-memory}
 use Rattle.dir_walk.proofs.children.walk_children.Goals as goal
 
 pub returns-in_err-names-clause-walks : goal.returns-in_err-names-clause-walks

@@ -12,9 +12,9 @@ use Rattle.dir_walk.specs.Opens.{OpensApart}
 use Rattle.dir_walk.specs.Puts.{AddsShown, Puts}
 use Rattle.dir_walk.specs.Report.{depth_of}
 use Rattle.dir_walk.specs.Told.{Stands}
-use Rattle.dir_walk.proofs.Entered.{EntersSoFar}
-use Rattle.dir_walk.proofs.Named.{SoFar}
-use Rattle.dir_walk.proofs.Rooms.{once_below}
+use Rattle.dir_walk.proofs.Opens.Entered.{EntersSoFar}
+use Rattle.dir_walk.proofs.Folding.Named.{SoFar}
+use Rattle.dir_walk.proofs.Places.Rooms.{once_below}
 use Rattle.dir_walk.proofs.children.walk_children.Given as goal
 
 abbrev pub invariant-loop-name : goal.invariant-loop-name

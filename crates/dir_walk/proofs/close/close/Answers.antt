@@ -6,8 +6,8 @@ use Rattle.dir_classify.specs.Chosen.{chosen}
 use Rattle.dir_classify.specs.Entries.{entry_at}
 use Rattle.dir_walk.specs.Emits.{Emits, Within, folded_of, put_within}
 use Rattle.dir_walk.specs.Walked.{holding}
-use Rattle.dir_walk.proofs.Closes.{closes-none, closes-some, part-none, part-some}
-use Rattle.dir_walk.proofs.Rooms.{Hands-put, Hands-fold}
+use Rattle.dir_walk.proofs.Folding.Closes.{closes-none, closes-some, part-none, part-some}
+use Rattle.dir_walk.proofs.Places.Rooms.{Hands-put, Hands-fold}
 use Rattle.dir_walk.proofs.close.close.Goals as goal
 
 pub returns-in-None-clause-gives : goal.returns-in-None-clause-gives

@@ -1,6 +1,6 @@
 use Rattle.std.proofs.Common.{length, sym, ◌∙◌, eqb-true}
 use Rattle.dir_classify.specs.Chosen.{chosen}
-use Rattle.dir_walk.proofs.Empties.{folded-empty}
+use Rattle.dir_walk.proofs.Folding.Empties.{folded-empty}
 use Rattle.dir_walk.proofs.close.folded.Goals as goal
 
 pub returns-then-is_empty : goal.returns-then-is_empty

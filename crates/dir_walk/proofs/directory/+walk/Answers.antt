@@ -15,24 +15,24 @@ use Rattle.dir_walk.specs.Emits.{Gives}
 use Rattle.dir_walk.specs.Told.{look_directory, item_told, directory_told}
 use Rattle.dir_walk.specs.Unopened.{unlisted_one}
 use Rattle.dir_walk.specs.Moments.{moment}
-use Rattle.dir_walk.proofs.NameEnds.{Before-same, any-entered, any-leaf, any-memory}
-use Rattle.dir_walk.proofs.CallByCall.{Before-asked, Before-classed, Before-then}
-use Rattle.dir_walk.proofs.DirectorySteps.{told-closed, told-empty, told-ended, told-unheld}
-use Rattle.dir_walk.proofs.Ending.{Caused-later, Caused-memory}
-use Rattle.dir_walk.proofs.Keeping.{Heeds-after, KeepsDelegate-same, KeepsDelegate-then, KeepsRules-same, KeepsRules-then, AsksStore-same, AsksStore-then, KeepsTree-then, AsksInterrupt-then, unmapped-then, KeepsDelegate-asked}
-use Rattle.dir_walk.proofs.Entered.{enters-all, enters-last, enters-more}
-use Rattle.dir_walk.proofs.Opening.{opens-none, opens-then, opens-still, opens-end, opens-least, opens-one, opens-refused, opens-below, opens-class, hides-none}
-use Rattle.dir_walk.proofs.Listed.{entered-empty, HasNames-listed}
-use Rattle.dir_walk.proofs.Named.{SoFar-none, SoFar-more}
-use Rattle.dir_walk.proofs.JoinedPaths.{joined-some}
-use Rattle.dir_walk.proofs.Placed.{depth_of-joined}
-use Rattle.dir_walk.proofs.Standing.{OnOk-always}
-use Rattle.dir_walk.proofs.Steps.{entered-directory, telling, Stands-later, Gives-leaf, Gives-put, part-leaf, part-put}
-use Rattle.dir_walk.proofs.Rooms.{Hands-none, Hands-empty, Hands-refused, Hands-closed, Puts-start, Puts-name}
-use Rattle.dir_walk.proofs.Hiding.{AddsShown-same}
-use Rattle.dir_walk.proofs.Refusals.{IsAbout-class, IsAbout-deep, IsInTree-class, IsInTree-open, memory-only}
-use Rattle.dir_walk.proofs.Shallow.{shallow-class, shallow-memory}
-use Rattle.dir_walk.proofs.NameSteps.{told-deep, told-entered, told-unclassed}
+use Rattle.dir_walk.proofs.Walked.NameEnds.{Before-same, any-entered, any-leaf, any-memory}
+use Rattle.dir_walk.proofs.Walked.CallByCall.{Before-asked, Before-classed, Before-then}
+use Rattle.dir_walk.proofs.Walked.DirectorySteps.{told-closed, told-empty, told-ended, told-unheld}
+use Rattle.dir_walk.proofs.Walked.Ending.{Caused-later, Caused-memory}
+use Rattle.dir_walk.proofs.Opens.Keeping.{Heeds-after, KeepsDelegate-same, KeepsDelegate-then, KeepsRules-same, KeepsRules-then, AsksStore-same, AsksStore-then, KeepsTree-then, AsksInterrupt-then, unmapped-then, KeepsDelegate-asked}
+use Rattle.dir_walk.proofs.Opens.Entered.{enters-all, enters-last, enters-more}
+use Rattle.dir_walk.proofs.Opens.Opening.{opens-none, opens-then, opens-still, opens-end, opens-least, opens-one, opens-refused, opens-below, opens-class, hides-none}
+use Rattle.dir_walk.proofs.Folding.Listed.{entered-empty, HasNames-listed}
+use Rattle.dir_walk.proofs.Folding.Named.{SoFar-none, SoFar-more}
+use Rattle.dir_walk.proofs.Places.JoinedPaths.{joined-some}
+use Rattle.dir_walk.proofs.Places.Placed.{depth_of-joined}
+use Rattle.dir_walk.proofs.Places.Standing.{OnOk-always}
+use Rattle.dir_walk.proofs.Folding.Steps.{entered-directory, telling, Stands-later, Gives-leaf, Gives-put, part-leaf, part-put}
+use Rattle.dir_walk.proofs.Places.Rooms.{Hands-none, Hands-empty, Hands-refused, Hands-closed, Puts-start, Puts-name}
+use Rattle.dir_walk.proofs.Folding.Hiding.{AddsShown-same}
+use Rattle.dir_walk.proofs.Refused.Refusals.{IsAbout-class, IsAbout-deep, IsInTree-class, IsInTree-open, memory-only}
+use Rattle.dir_walk.proofs.Refused.Shallow.{shallow-class, shallow-memory}
+use Rattle.dir_walk.proofs.Walked.NameSteps.{told-deep, told-entered, told-unclassed}
 use Rattle.dir_walk.proofs.directory.+walk.Goals as goal
 
 pub walk_directory-returns-in_err-names-clause-walks : goal.walk_directory-returns-in_err-names-clause-walks

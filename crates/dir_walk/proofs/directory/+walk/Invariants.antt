@@ -14,9 +14,9 @@ use Rattle.dir_walk.specs.Opens.{OpensWithin}
 use Rattle.dir_walk.specs.Puts.{AddsShown, Puts}
 use Rattle.dir_walk.specs.Report.{depth_of}
 use Rattle.dir_walk.specs.Told.{Stands}
-use Rattle.dir_walk.proofs.Entered.{EntersSoFar}
-use Rattle.dir_walk.proofs.Named.{SoFar}
-use Rattle.dir_walk.proofs.Rooms.{once_below}
+use Rattle.dir_walk.proofs.Opens.Entered.{EntersSoFar}
+use Rattle.dir_walk.proofs.Folding.Named.{SoFar}
+use Rattle.dir_walk.proofs.Places.Rooms.{once_below}
 use Rattle.dir_walk.proofs.directory.+walk.Given as goal
 
 abbrev pub decreases-walk_directory : goal.decreases-walk_directory

@@ -1,9 +1,9 @@
 use Rattle.std.proofs.Common.{refl, ◌∙◌, arith}
 use Rattle.std.proofs.lemmas.Result.{err_from_is_err_and}
 use Rattle.dir_classify.specs.Chosen.{chosen}
-use Rattle.dir_walk.proofs.Emitting.{Emits-then, Within-then, plain-fits, plain-more}
-use Rattle.dir_walk.proofs.Keeping.{KeepsDelegate-then}
-use Rattle.dir_walk.proofs.Putting.{Puts-last, Puts-more, Puts-tried}
+use Rattle.dir_walk.proofs.Gives.Emitting.{Emits-then, Within-then, plain-fits, plain-more}
+use Rattle.dir_walk.proofs.Opens.Keeping.{KeepsDelegate-then}
+use Rattle.dir_walk.proofs.Gives.Putting.{Puts-last, Puts-more, Puts-tried}
 use Rattle.dir_walk.proofs.emit.emit_all.Goals as goal
 
 pub returns-in_err-emit-clause-part : goal.returns-in_err-emit-clause-part

@@ -2,7 +2,7 @@ use Rattle.std.proofs.Common.{◌≡◌, true, ◌∙◌, refl, sym}
 use Rattle.std.proofs.lemmas.Result.{on_ok_weaker}
 use Rattle.dir_classify.specs.Chosen.{chosen}
 use Rattle.dir_walk.specs.Fold.{shows_collapsed}
-use Rattle.dir_walk.proofs.Emitting.{Emits-as, merged-shown}
+use Rattle.dir_walk.proofs.Gives.Emitting.{Emits-as, merged-shown}
 use Rattle.dir_walk.proofs.emit.emit_merged.Goals as goal
 
 pub returns-then-shows_collapsed-clause-gives : goal.returns-then-shows_collapsed-clause-gives

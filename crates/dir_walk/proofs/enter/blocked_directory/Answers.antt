@@ -3,7 +3,7 @@ use Rattle.std.specs.Prelude.{is_some, option_and_then}
 use Rattle.std.proofs.lemmas.Result.{IfOk-weaker}
 use Rattle.gitbase_core.specs.Path.{normalized, past_slashes}
 use Rattle.dir_classify.specs.Layers.{setting_of, evidence, rest_behind}
-use Rattle.dir_walk.proofs.CurrentDirectory.{deleting, not-deleting}
+use Rattle.dir_walk.proofs.Places.CurrentDirectory.{deleting, not-deleting}
 use Rattle.dir_walk.proofs.enter.blocked_directory.Goals as goal
 
 pub returns-then-is_none-clause-blocked : goal.returns-then-is_none-clause-blocked

@@ -1,5 +1,5 @@
 use Rattle.std.proofs.Common.{ap, length, arith}
-use Rattle.worktree_fs.proofs.Pieces.{pieces_few}
+use Rattle.worktree_fs.proofs.Paths.Pieces.{pieces_few}
 use Rattle.dir_walk.proofs.enter.depth_of.Goals as goal
 
 pub overflow_add-depth : goal.overflow_add-depth

@@ -7,13 +7,13 @@ use Rattle.worktree_fs.specs.Causes.{Increased}
 use Rattle.dir_walk.specs.declared.strategy.Strategy.TheVariants.{AtOnce, Held}
 use Rattle.dir_walk.specs.Report.{depth_of}
 use Rattle.dir_walk.specs.Told.{directory_told, look_directory}
-use Rattle.dir_walk.proofs.Emitting.{Within-none}
-use Rattle.dir_walk.proofs.FromRoot.{opens-not}
-use Rattle.dir_walk.proofs.Keeping.{AsksStore-same, KeepsDelegate-same, KeepsRules-same}
-use Rattle.dir_walk.proofs.Refusals.{IsAbout-root, Refuses-deep}
-use Rattle.dir_walk.proofs.Rooms.{Hands-none}
-use Rattle.dir_walk.proofs.RootSteps.{root-any, root-told}
-use Rattle.dir_walk.proofs.Steps.{entered-among}
+use Rattle.dir_walk.proofs.Gives.Emitting.{Within-none}
+use Rattle.dir_walk.proofs.Opens.FromRoot.{opens-not}
+use Rattle.dir_walk.proofs.Opens.Keeping.{AsksStore-same, KeepsDelegate-same, KeepsRules-same}
+use Rattle.dir_walk.proofs.Refused.Refusals.{IsAbout-root, Refuses-deep}
+use Rattle.dir_walk.proofs.Places.Rooms.{Hands-none}
+use Rattle.dir_walk.proofs.Roots.RootSteps.{root-any, root-told}
+use Rattle.dir_walk.proofs.Folding.Steps.{entered-among}
 use Rattle.dir_walk.proofs.enter.walk_deep.Goals as goal
 
 -- ---- it lies too deep

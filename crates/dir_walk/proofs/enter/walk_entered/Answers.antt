@@ -8,11 +8,11 @@ use Rattle.dir_classify.specs.Layers.{setting_of, evidence}
 use Rattle.dir_walk.specs.declared.handed.Handed.{Handed}
 use Rattle.dir_walk.specs.Refused.{DirectoryRefuses}
 use Rattle.dir_walk.specs.Told.{directory_told}
-use Rattle.dir_walk.proofs.CallByCall.{Before-asked, Ends-after, Ends-err, Ends-then}
-use Rattle.dir_walk.proofs.FromRoot.{Puts-out, deep-same, opens-around, opens-not, refused-same, unlisted-same}
-use Rattle.dir_walk.proofs.HandedOn.{DirectoryRefuses-weaker, Stands-asked, gives-all, part-all, part-out}
-use Rattle.dir_walk.proofs.Refusals.{memory-only, refused-any}
-use Rattle.dir_walk.proofs.Shallow.{shallow-memory}
+use Rattle.dir_walk.proofs.Walked.CallByCall.{Before-asked, Ends-after, Ends-err, Ends-then}
+use Rattle.dir_walk.proofs.Opens.FromRoot.{Puts-out, deep-same, opens-around, opens-not, refused-same, unlisted-same}
+use Rattle.dir_walk.proofs.Gives.HandedOn.{DirectoryRefuses-weaker, Stands-asked, gives-all, part-all, part-out}
+use Rattle.dir_walk.proofs.Refused.Refusals.{memory-only, refused-any}
+use Rattle.dir_walk.proofs.Refused.Shallow.{shallow-memory}
 use Rattle.dir_walk.proofs.enter.walk_entered.Goals as goal
 
 -- ---- there is no room for its place, or for the directory that must not go

@@ -1,5 +1,5 @@
 use Rattle.std.proofs.Common.{take, length-take, arith}
-use Rattle.dir_walk.proofs.Tallies.{tally-loose, tally-small}
+use Rattle.dir_walk.proofs.Order.Tallies.{tally-loose, tally-small}
 use Rattle.dir_walk.proofs.fold.tally.Goals as goal
 
 pub tally_more-counts-requires : goal.tally_more-counts-requires

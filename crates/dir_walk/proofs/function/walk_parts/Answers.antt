@@ -14,10 +14,10 @@ use Rattle.dir_walk.specs.Rooting.{IsNormalized}
 use Rattle.dir_walk.specs.Unopened.{deep_one, deep_walk, unlisted_one, unlisted_walk}
 use Rattle.dir_walk.specs.WalkRefused.{recursion_of}
 use Rattle.dir_walk.specs.Walks.{IsRootOf}
-use Rattle.dir_walk.proofs.FeedsSo.{feeds-broken, feeds-done, feeds-nothing, feeds-refused}
-use Rattle.dir_walk.proofs.Overall.{enters-walk, opens-whole, refused-most}
-use Rattle.dir_walk.proofs.Unstarted.{no-start-weaker}
-use Rattle.dir_walk.proofs.WalksSo.{walks-done, walks-outside, walks-refused}
+use Rattle.dir_walk.proofs.Gives.FeedsSo.{feeds-broken, feeds-done, feeds-nothing, feeds-refused}
+use Rattle.dir_walk.proofs.Opens.Overall.{enters-walk, opens-whole, refused-most}
+use Rattle.dir_walk.proofs.Roots.Unstarted.{no-start-weaker}
+use Rattle.dir_walk.proofs.Walked.WalksSo.{walks-done, walks-outside, walks-refused}
 use Rattle.dir_walk.proofs.function.walk_parts.Goals as goal
 
 pub returns-in_err-root-clause-walks : goal.returns-in_err-root-clause-walks

@@ -1,7 +1,7 @@
 use Rattle.std.proofs.Common.{rules}
 use Rattle.std.proofs.lemmas.Result.{err_from_is_err_and}
 use Rattle.dir_classify.specs.Layers.{setting_of}
-use Rattle.dir_walk.proofs.Forked.{job-memory, job-store}
+use Rattle.dir_walk.proofs.Walked.Forked.{job-memory, job-store}
 use Rattle.dir_walk.proofs.jobs.on_store.Goals as goal
 
 pub returns-in_err-fork-clause-job : goal.returns-in_err-fork-clause-job

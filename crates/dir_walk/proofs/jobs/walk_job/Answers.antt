@@ -1,5 +1,5 @@
 use Rattle.std.proofs.lemmas.Result.{err_from_is_err_and}
-use Rattle.dir_walk.proofs.Forked.{job-memory, job-rules}
+use Rattle.dir_walk.proofs.Walked.Forked.{job-memory, job-rules}
 use Rattle.dir_walk.proofs.jobs.walk_job.Goals as goal
 
 pub returns-in_err-rules-clause-job : goal.returns-in_err-rules-clause-job

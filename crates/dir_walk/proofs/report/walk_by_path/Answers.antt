@@ -10,8 +10,8 @@ use Rattle.dir_walk.specs.Emissions.{Emission, shows}
 use Rattle.dir_walk.specs.Puts.{hidden_in}
 use Rattle.dir_walk.specs.WalkRefused.{by_default}
 use Rattle.dir_walk.specs.Walks.{WalkGives}
-use Rattle.dir_walk.proofs.ByPath.{ascends-given, distinct-given, from-root, is-report}
-use Rattle.dir_walk.proofs.WalksSo.{walks-memory, walks-more, walks-other}
+use Rattle.dir_walk.proofs.Gives.ByPath.{ascends-given, distinct-given, from-root, is-report}
+use Rattle.dir_walk.proofs.Walked.WalksSo.{walks-memory, walks-more, walks-other}
 use Rattle.dir_walk.proofs.report.walk_by_path.Goals as goal
 
 pub returns-clause-gives : goal.returns-clause-gives

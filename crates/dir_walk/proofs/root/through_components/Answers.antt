@@ -2,10 +2,10 @@ use Rattle.std.proofs.Common.{◌∙◌, ap, length, arith, subst, ℕ, List, fa
 use Rattle.std.proofs.lemmas.Result.{err_from_is_err_and}
 use Rattle.worktree_fs.specs.Causes.{Increased}
 use Rattle.worktree_fs.specs.Paths.{full_path}
-use Rattle.worktree_fs.proofs.Pieces.{pieces_few}
+use Rattle.worktree_fs.proofs.Paths.Pieces.{pieces_few}
 use Rattle.dir_classify.specs.Layers.{setting_of, kind_at}
 use Rattle.dir_walk.specs.Rooting.{IsPast, NamesIt}
-use Rattle.dir_walk.proofs.Rootward.{rootward-about, rootward-grown, through-fault}
+use Rattle.dir_walk.proofs.Roots.Rootward.{rootward-about, rootward-grown, through-fault}
 use Rattle.dir_walk.proofs.root.through_components.Goals as goal
 
 pub returns-in_err-is_link-clause-about : goal.returns-in_err-is_link-clause-about

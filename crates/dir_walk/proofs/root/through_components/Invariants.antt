@@ -1,7 +1,7 @@
 use Rattle.std.proofs.Common.{length}
 use Rattle.gitbase_core.specs.Path.{components}
 use Rattle.dir_classify.specs.Layers.{setting_of}
-use Rattle.dir_walk.proofs.Rootward.{IsRootward}
+use Rattle.dir_walk.proofs.Roots.Rootward.{IsRootward}
 use Rattle.dir_walk.proofs.root.through_components.Given as goal
 
 abbrev pub invariant-loop-next : goal.invariant-loop-next

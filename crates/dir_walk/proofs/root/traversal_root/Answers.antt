@@ -5,8 +5,8 @@ use Rattle.worktree_fs.specs.Causes.{Increased}
 use Rattle.dir_classify.specs.Layers.{setting_of}
 use Rattle.dir_walk.specs.Root.{root_at, rooted}
 use Rattle.dir_walk.specs.Rooting.{EndsIn}
-use Rattle.dir_walk.proofs.NormalRoots.{ends-absolute, ends-outside, ends-through, normal-root, root-normalized, root-or-top}
-use Rattle.dir_walk.proofs.Rootward.{through-fault}
+use Rattle.dir_walk.proofs.Places.NormalRoots.{ends-absolute, ends-outside, ends-through, normal-root, root-normalized, root-or-top}
+use Rattle.dir_walk.proofs.Roots.Rootward.{through-fault}
 use Rattle.dir_walk.proofs.root.traversal_root.Goals as goal
 
 pub returns-then-is_absolute-clause-refused : goal.returns-then-is_absolute-clause-refused

@@ -7,7 +7,7 @@ use Rattle.dir_walk.specs.Emissions.{emission_of}
 use Rattle.dir_walk.specs.Emits.{Emits, Within, shown_by}
 use Rattle.dir_walk.specs.Starts.{OnlyRoot}
 use Rattle.dir_walk.specs.WalkRefused.{OnNoStart}
-use Rattle.dir_walk.proofs.Refusals.{memory-only}
+use Rattle.dir_walk.proofs.Refused.Refusals.{memory-only}
 use Rattle.dir_walk.proofs.start.put_root.Goals as goal
 
 pub returns-clause-puts : goal.returns-clause-puts

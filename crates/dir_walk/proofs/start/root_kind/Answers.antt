@@ -2,7 +2,7 @@ use Rattle.std.proofs.Common.{◌∙◌, sym, ap, Bool, Some}
 use Rattle.std.specs.Prelude.{if◌then◌else◌}
 use Rattle.dir_classify.specs.declared.entry.Kind.TheVariants.{Directory}
 use Rattle.dir_classify.specs.Layers.{setting_of}
-use Rattle.dir_walk.proofs.CurrentDirectory.{link-kind, other-kind}
+use Rattle.dir_walk.proofs.Places.CurrentDirectory.{link-kind, other-kind}
 use Rattle.dir_walk.proofs.start.root_kind.Goals as goal
 
 pub returns-then-not-is_link_at_top-clause-kind : goal.returns-then-not-is_link_at_top-clause-kind

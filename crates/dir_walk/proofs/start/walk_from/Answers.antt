@@ -16,17 +16,17 @@ use Rattle.dir_walk.specs.Unopened.{unlisted_walk}
 use Rattle.dir_walk.specs.Walked.{Walked}
 use Rattle.dir_walk.specs.Walks.{most_from}
 use Rattle.gitbase_core.specs.Path.{is_empty}
-use Rattle.dir_walk.proofs.CallByCall.{Before-asked, Before-classed, Before-then, Ends-after, Ends-asked, Tells-later}
-use Rattle.dir_walk.proofs.Emitting.{Within-none}
-use Rattle.dir_walk.proofs.FromRoot.{asks-from, opens-entered, opens-short}
-use Rattle.dir_walk.proofs.Hiding.{AddsShown-same}
-use Rattle.dir_walk.proofs.Keeping.{unmapped-then}
-use Rattle.dir_walk.proofs.Refusals.{refused-any}
-use Rattle.dir_walk.proofs.Started.{gives-entered, gives-put, no-node, no-root, part-entered, part-only, refuses-entered, walked-entered}
-use Rattle.dir_walk.proofs.Starting.{bare}
-use Rattle.dir_walk.proofs.Unstarted.{no-start-from, no-start-weaker, on-no-start}
-use Rattle.dir_walk.proofs.WayRefused.{only-no_root, only-refuses, way-about, way-found, way-refuses}
-use Rattle.dir_walk.proofs.Shallow.{shallow-put, shallow-way}
+use Rattle.dir_walk.proofs.Walked.CallByCall.{Before-asked, Before-classed, Before-then, Ends-after, Ends-asked, Tells-later}
+use Rattle.dir_walk.proofs.Gives.Emitting.{Within-none}
+use Rattle.dir_walk.proofs.Opens.FromRoot.{asks-from, opens-entered, opens-short}
+use Rattle.dir_walk.proofs.Folding.Hiding.{AddsShown-same}
+use Rattle.dir_walk.proofs.Opens.Keeping.{unmapped-then}
+use Rattle.dir_walk.proofs.Refused.Refusals.{refused-any}
+use Rattle.dir_walk.proofs.Roots.Started.{gives-entered, gives-put, no-node, no-root, part-entered, part-only, refuses-entered, walked-entered}
+use Rattle.dir_walk.proofs.Roots.Starting.{bare}
+use Rattle.dir_walk.proofs.Roots.Unstarted.{no-start-from, no-start-weaker, on-no-start}
+use Rattle.dir_walk.proofs.Roots.WayRefused.{only-no_root, only-refuses, way-about, way-found, way-refuses}
+use Rattle.dir_walk.proofs.Refused.Shallow.{shallow-put, shallow-way}
 use Rattle.dir_walk.proofs.start.walk_from.Goals as goal
 
 -- ---- the way there is refused

@@ -4,5 +4,5 @@ use Rattle.ls_files.proofs.changed.shown_of.Given as goal
 
 abbrev pub invariant-loop-entry : goal.invariant-loop-entry
 invariant-loop-entry g l =
-    IsAlong g.W.Worktree g.S.Stats l.fn.worktree l.worktree l.fn.stats l.stats l.root l.entries l.details l.comparison l.asked l.listing l.named l.specs l.shown.items
+    IsAlong g.W.Worktree g.S.Stats l.fn.worktree l.worktree l.fn.stats l.stats l.query.root.now l.entries l.details l.query.comparison.now l.query.standings l.query.listing.now l.query.named.now l.query.specs.now l.shown.items
     (option_copied l.last) (drop l.entry-index l.entries) l.left

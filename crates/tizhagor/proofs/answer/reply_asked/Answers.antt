@@ -12,4 +12,4 @@ returns-in_err-request g c =
 
 pub returns : goal.returns
 returns g c =
-    by_request g.W.Worktree g.I.Interrupt g.O.Owners g.D.Stats _ _ _ _ _ _ _ _ _ _ c.reply_of.result c.in_ok-request.request c.in_ok-request.ensures (task_of c.args.takes_colors c.in_ok-request.request.command) refl c.reply_of.ensures
+    by_request g.W.Worktree g.I.Interrupt g.O.Owners g.D.Stats _ _ _ _ _ _ _ _ _ _ c.reply_of.result c.in_ok-request.request c.in_ok-request.ensures (task_of c.args.called.now.takes_colors c.in_ok-request.request.command) refl c.reply_of.ensures

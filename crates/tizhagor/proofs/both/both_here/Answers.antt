@@ -1,9 +1,9 @@
 use Rattle.std.proofs.Common.{Err, Ok, inl, inr, refl, subst}
 use Rattle.std.proofs.lemmas.Result.{err_from_is_err_and}
-use Rattle.ls_files.specs.declared.listing.Listing.{Listing}
+use Rattle.ls_files.specs.declared.options.Listing.{Listing}
 use Rattle.tizhagor.specs.Answers.{AnswersWord}
 use Rattle.tizhagor.specs.Listings.{listable_in}
-use Rattle.tizhagor.specs.OwnWords.{listing_of}
+use Rattle.tizhagor.specs.TreeWords.{listing_of}
 use Rattle.tizhagor.proofs.both.both_here.Goals as goal
 
 pub returns-in_err-first : goal.returns-in_err-first
@@ -15,7 +15,7 @@ returns-in_err-first g c =
       answer_is = refl;
       walks = subst
           (λ (l : Listing). AnswersWord g.W.Worktree g.I.Interrupt g.O.Owners c.args.worktree.now c.files_here.new.worktree c.args.interrupt.now c.files_here.new.interrupt c.args.owners.now c.files_here.new.owners
-          (λ t owned. listable_in t owned c.args.current.now c.args.variables.now c.args.directory.now (record c.args.wants { listing = l }) c.args.asked.now) (listing_of (record c.args.wants { listing = l })) (Err c.in_err-first.field-0.0))
+          (λ t owned. listable_in t owned c.args.here.now.current.now c.args.here.now.variables.now c.args.here.now.directory.now (record c.args.wants { listing = l }) c.args.asked.now) (listing_of (record c.args.wants { listing = l })) (Err c.in_err-first.field-0.0))
           c.walked_part-wants.ensures c.in_err-first.ensures;
       stats = refl;
     }))
@@ -29,7 +29,7 @@ returns g c =
       second = c.changed_here-second.result;
       walks = subst
           (λ (l : Listing). AnswersWord g.W.Worktree g.I.Interrupt g.O.Owners c.args.worktree.now c.files_here.new.worktree c.args.interrupt.now c.files_here.new.interrupt c.args.owners.now c.files_here.new.owners
-          (λ t owned. listable_in t owned c.args.current.now c.args.variables.now c.args.directory.now (record c.args.wants { listing = l }) c.args.asked.now) (listing_of (record c.args.wants { listing = l })) (Ok c.in_ok-first.first))
+          (λ t owned. listable_in t owned c.args.here.now.current.now c.args.here.now.variables.now c.args.here.now.directory.now (record c.args.wants { listing = l }) c.args.asked.now) (listing_of (record c.args.wants { listing = l })) (Ok c.in_ok-first.first))
           c.walked_part-wants.ensures c.in_ok-first.ensures;
       compares = c.changed_here-second.ensures;
       joined = c.joined_with.ensures;

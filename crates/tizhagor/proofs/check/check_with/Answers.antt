@@ -1,7 +1,7 @@
 use Rattle.std.proofs.Common.{subst, sym, Result, IfErr}
 use Rattle.check_ignore.specs.Finds.{Finds}
 use Rattle.check_ignore.specs.Input.{asked_or_read}
-use Rattle.check_ignore.specs.declared.checking.Checking.{Checking}
+use Rattle.check_ignore.specs.declared.options.Checking.{Checking}
 use Rattle.tizhagor.specs.declared.refusal.HereRefusal.{HereRefusal}
 use Rattle.tizhagor.specs.declared.reply.Reply.{Reply}
 use Rattle.tizhagor.specs.Checking.{checking_by, outer_of, said_of}

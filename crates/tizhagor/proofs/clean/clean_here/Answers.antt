@@ -2,7 +2,7 @@ use Rattle.std.proofs.Common.{subst, sym, Result}
 use Rattle.worktree_report.specs.declared.refusal.Refusal.{Refusal}
 use Rattle.tizhagor.specs.declared.reply.Reply.{Reply}
 use Rattle.tizhagor.specs.Cleanings.{Cleans, cleanable_in}
-use Rattle.tizhagor.specs.OwnWords.{Replies, cleaning_of}
+use Rattle.tizhagor.specs.TreeWords.{Replies, cleaning_of}
 use Rattle.tizhagor.specs.Replies.{plain}
 use Rattle.tizhagor.proofs.Here.{by_word, replies_text}
 use Rattle.tizhagor.proofs.clean.clean_here.Goals as goal
@@ -10,7 +10,7 @@ use Rattle.tizhagor.proofs.clean.clean_here.Goals as goal
 pub returns : goal.returns
 returns g c =
     let read = c.in_ok-found.ensures.finds in
-    by_word g.W.Worktree g.I.Interrupt g.O.Owners _ _ _ _ _ _ (λ t owned. cleanable_in t owned c.args.current.now c.args.variables.now c.args.directory.now c.args.wants.now c.args.asked) (cleaning_of c.args.wants.now) c.of_text.result c.replied.result c.replied.ensures
+    by_word g.W.Worktree g.I.Interrupt g.O.Owners _ _ _ _ _ _ (λ t owned. cleanable_in t owned c.args.here.now.current.now c.args.here.now.variables.now c.args.here.now.directory.now c.args.wants.now c.args.asked) (cleaning_of c.args.wants.now) c.of_text.result c.replied.result c.replied.ensures
     (record {
       here = c.in_ok-found.found;
       is = read.gives;

@@ -1,5 +1,5 @@
 use Rattle.std.proofs.Common.{◌≡◌, ◌∙◌, ap, subst, sym, Result, IfErr}
-use Rattle.command_line.specs.declared.comparing.Comparing.{Comparing}
+use Rattle.command_line.specs.declared.compare_options.Comparing.{Comparing}
 use Rattle.diff_files.specs.declared.comparison.Comparison.{Comparison}
 use Rattle.tizhagor.specs.declared.refusal.HereRefusal.{HereRefusal}
 use Rattle.tizhagor.specs.declared.reply.Reply.{Reply}

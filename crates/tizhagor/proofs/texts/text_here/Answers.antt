@@ -5,7 +5,7 @@ use Rattle.tizhagor.proofs.texts.text_here.Goals as goal
 pub returns : goal.returns
 returns g c =
     let read = c.in_ok-found.ensures.finds in
-    by_found g.W.Worktree g.I.Interrupt g.O.Owners _ _ _ _ _ _ (λ t owned. here_in t owned c.args.current.now c.args.variables.now c.args.directory.now c.args.asked.now) c.args.call c.text_by-answer.result c.as_program.result c.as_program.ensures
+    by_found g.W.Worktree g.I.Interrupt g.O.Owners _ _ _ _ _ _ (λ t owned. here_in t owned c.args.here.now.current.now c.args.here.now.variables.now c.args.here.now.directory.now c.args.asked.now) c.args.call c.text_by-answer.result c.as_program.result c.as_program.ensures
     (record {
       here = c.in_ok-found.found;
       is = read.gives;

@@ -2,8 +2,8 @@ use Rattle.std.proofs.Common.{◌∙◌, length, List, sym, ap, subst, arith}
 use Rattle.worktree_fs.specs.Tree.{directory}
 use Rattle.worktree_fs.specs.Stored.{names_in, AreSorted}
 use Rattle.worktree_fs.specs.declared.memory.stored.Entry.{Entry}
-use Rattle.worktree_fs.proofs.Sorted.{sorted_tree}
-use Rattle.worktree_fs.proofs.Cuts.{first_in_range, step_directory, step_way, step_there, step_cut, step_sorted, last_in_range, last_cut, sorted_remove}
+use Rattle.worktree_fs.proofs.Trees.Sorted.{sorted_tree}
+use Rattle.worktree_fs.proofs.Trees.Cuts.{first_in_range, step_directory, step_way, step_there, step_cut, step_sorted, last_in_range, last_cut, sorted_remove}
 use Rattle.worktree_fs.proofs.memory.+cut.Goals as goal
 
 pub grow::cut_at-remove-removed-requires : goal.grow::cut_at-remove-removed-requires

@@ -1,6 +1,6 @@
 use Rattle.std.proofs.Common.{◌+◌, ◌-◌, ◌≤◌, arith, length, drop, length-drop}
 use Rattle.std.proofs.lemmas.List.{take_all}
-use Rattle.worktree_fs.proofs.Parts.{split_cut, split_whole}
+use Rattle.worktree_fs.proofs.Paths.Parts.{split_cut, split_whole}
 use Rattle.worktree_fs.proofs.names.cut_once.Goals as goal
 
 pub returns-then-b-byte-clause-some : goal.returns-then-b-byte-clause-some

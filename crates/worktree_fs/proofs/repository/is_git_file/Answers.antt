@@ -1,5 +1,5 @@
 use Rattle.std.proofs.Common.{◌∙◌, sym}
-use Rattle.worktree_fs.proofs.Repositories.{file_there, git-named}
+use Rattle.worktree_fs.proofs.Routes.Repositories.{file_there, git-named}
 use Rattle.worktree_fs.proofs.repository.is_git_file.Goals as goal
 
 pub returns-in-Some-clause-answer : goal.returns-in-Some-clause-answer

@@ -2,7 +2,7 @@ use Rattle.std.proofs.Common.{◌≡◌, ◌∙◌, Some, true, rules}
 use Rattle.worktree_fs.specs.Tree.{look}
 use Rattle.worktree_fs.specs.Answers.{kind_of}
 use Rattle.worktree_fs.specs.declared.answers.NodeKind.TheVariants as kinds
-use Rattle.worktree_fs.proofs.Repositories.{directory-kind, file-kind, git-directory, git-file}
+use Rattle.worktree_fs.proofs.Routes.Repositories.{directory-kind, file-kind, git-directory, git-file}
 use Rattle.worktree_fs.proofs.repository.is_repository.Goals as goal
 
 pub returns-in-Some-Directory-clause-answer : goal.returns-in-Some-Directory-clause-answer

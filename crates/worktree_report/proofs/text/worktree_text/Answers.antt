@@ -19,9 +19,9 @@ returns g c =
     let known = c.in_ok-known.ensures in
     record {
       made = made_for c.text_by.result c.in_ok-known.known c.walk_by_setup-walked.result;
-      text_is = made_for-text c.text_by.result c.args.setup.now.options c.in_ok-known.known c.walk_by_setup-walked.result c.text_by.ensures;
+      text_is = made_for-text c.text_by.result c.args.setup.options c.in_ok-known.known c.walk_by_setup-walked.result c.text_by.ensures;
       makes =
           MakesReport-described (record { loads = known.loads; read = known.read; unfaulted = known.unfaulted }) c.in_ok-known.known known.gives known.known known.unasked c.walk_by_setup-walked.result
           (made_for c.text_by.result c.in_ok-known.known c.walk_by_setup-walked.result) c.walk_by_setup-walked.ensures
-          (made_for-describes c.text_by.result c.args.setup.now.options c.in_ok-known.known c.walk_by_setup-walked.result c.text_by.ensures);
+          (made_for-describes c.text_by.result c.args.setup.options c.in_ok-known.known c.walk_by_setup-walked.result c.text_by.ensures);
     }

@@ -2,7 +2,7 @@ use Rattle.std.proofs.Common.{◌∙◌, refl, sym, ap, inl, inr, arith, Some}
 use Rattle.std.proofs.lemmas.Result.{err_from_is_err_and}
 use Rattle.worktree_fs.specs.declared.answers.MakeAnswer.TheVariants as makes
 use Rattle.worktree_stack.specs.Checkout.{making, unlinking, colliding}
-use Rattle.worktree_stack.proofs.Preparing.{prepares-behind, prepares-more, prepares-nothing, met-error, directory-leads, in-the-way, some-same}
+use Rattle.worktree_stack.proofs.CheckOut.Preparing.{prepares-behind, prepares-more, prepares-nothing, met-error, directory-leads, in-the-way, some-same}
 use Rattle.worktree_stack.proofs.delegate.collide.Goals as goal
 
 pub returns-in_err-kind : goal.returns-in_err-kind

@@ -3,7 +3,7 @@ use Rattle.worktree_fs.specs.declared.answers.MakeAnswer.{MakeAnswer}
 use Rattle.worktree_fs.specs.declared.answers.ReadError.{ReadError}
 use Rattle.worktree_stack.specs.declared.error.AtPathError.{AtPathError}
 use Rattle.worktree_stack.specs.Checkout.{IsOutcome, NoDirectory, prepared}
-use Rattle.worktree_stack.proofs.Preparing.{creates-refused}
+use Rattle.worktree_stack.proofs.CheckOut.Preparing.{creates-refused}
 use Rattle.worktree_stack.proofs.delegate.create_leading_directory.Goals as goal
 
 pub returns-in-Ok-Made : goal.returns-in-Ok-Made

@@ -1,5 +1,5 @@
 use Rattle.std.proofs.Common.{false, arith}
-use Rattle.worktree_stack.proofs.Preparing.{outcome-told, partly-kept, ok-unless, made-there, made-changed, replaced-made}
+use Rattle.worktree_stack.proofs.CheckOut.Preparing.{outcome-told, partly-kept, ok-unless, made-there, made-changed, replaced-made}
 use Rattle.worktree_stack.proofs.delegate.make_dir.Goals as goal
 
 pub returns : goal.returns

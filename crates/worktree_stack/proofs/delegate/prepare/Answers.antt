@@ -4,7 +4,7 @@ use Rattle.worktree_fs.specs.Answers.{kind_of}
 use Rattle.worktree_fs.specs.Tree.{look, spot}
 use Rattle.worktree_fs.specs.declared.answers.MakeAnswer.TheVariants as makes
 use Rattle.worktree_stack.specs.Checkout.{IsAskedOnce, IsOutcome, Prepares, making, colliding, by_answer}
-use Rattle.worktree_stack.proofs.Preparing.{prepares-behind, exists-stays}
+use Rattle.worktree_stack.proofs.CheckOut.Preparing.{prepares-behind, exists-stays}
 use Rattle.worktree_stack.proofs.delegate.prepare.Goals as goal
 
 pub returns-in-Exists : goal.returns-in-Exists

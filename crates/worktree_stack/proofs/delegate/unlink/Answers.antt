@@ -1,7 +1,7 @@
 use Rattle.std.proofs.Common.{◌∙◌, sym, false, refl, inl, arith}
 use Rattle.std.proofs.lemmas.Result.{err_from_is_err_and}
 use Rattle.worktree_fs.specs.declared.answers.MakeAnswer.TheVariants as makes
-use Rattle.worktree_stack.proofs.Preparing.{prepares-removed, prepares-nothing, met-error, some-same}
+use Rattle.worktree_stack.proofs.CheckOut.Preparing.{prepares-removed, prepares-nothing, met-error, some-same}
 use Rattle.worktree_stack.proofs.delegate.unlink.Goals as goal
 
 pub returns-then-not-unlink_on_collision : goal.returns-then-not-unlink_on_collision

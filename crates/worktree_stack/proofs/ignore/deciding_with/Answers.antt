@@ -1,6 +1,6 @@
 use Rattle.std.proofs.Common.{◌≡◌, Bool, true, false, is_some, sym, ap, ◌∙◌, ◌++◌, ◌∷◌, [], rules}
 use Rattle.worktree_stack.specs.Excludes.{decisive}
-use Rattle.worktree_stack.proofs.Pushed.{nearest-more, nearest-same}
+use Rattle.worktree_stack.proofs.Rules.Pushed.{nearest-more, nearest-same}
 use Rattle.worktree_stack.proofs.ignore.deciding_with.Goals as goal
 
 pub returns-then-is_some : goal.returns-then-is_some

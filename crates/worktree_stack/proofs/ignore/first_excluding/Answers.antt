@@ -1,5 +1,5 @@
 use Rattle.std.proofs.Common.{arith, rules}
-use Rattle.worktree_stack.proofs.Nearest.{first-is}
+use Rattle.worktree_stack.proofs.Rules.Nearest.{first-is}
 use Rattle.worktree_stack.proofs.ignore.first_excluding.Goals as goal
 
 pub returns-then-excludes : goal.returns-then-excludes

@@ -1,7 +1,7 @@
 use Rattle.std.proofs.Common.{◌≡◌, true, false, is_some, rules}
 use Rattle.worktree_stack.specs.Excludes.{is_positive}
 use Rattle.worktree_stack.specs.Setup.{decision_of}
-use Rattle.worktree_stack.proofs.Pushed.{excluding-same, excluding-more, excluding-none}
+use Rattle.worktree_stack.proofs.Rules.Pushed.{excluding-same, excluding-more, excluding-none}
 use Rattle.worktree_stack.proofs.ignore.first_excluding_with.Goals as goal
 
 pub returns-then-has_decision : goal.returns-then-has_decision

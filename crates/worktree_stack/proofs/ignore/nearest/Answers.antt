@@ -1,5 +1,5 @@
 use Rattle.std.proofs.Common.{rules, arith}
-use Rattle.worktree_stack.proofs.Nearest.{nearest-is}
+use Rattle.worktree_stack.proofs.Rules.Nearest.{nearest-is}
 use Rattle.worktree_stack.proofs.ignore.nearest.Goals as goal
 
 pub returns-then-is_some : goal.returns-then-is_some

@@ -3,7 +3,7 @@ use Rattle.std.specs.List.Sorted.{IsSearchInRange, IsBinarySearchResult}
 use Rattle.std.proofs.lemmas.Fn.{always_returns_same}
 use Rattle.gitbase_core.specs.Index.{path_cmp}
 use Rattle.worktree_stack.specs.Setup.{Mapping}
-use Rattle.worktree_stack.proofs.Mapped.{id-found, id-none}
+use Rattle.worktree_stack.proofs.Rules.Mapped.{id-found, id-none}
 use Rattle.worktree_stack.proofs.mappings.id_at.Goals as goal
 
 pub returns-in-Ok : goal.returns-in-Ok

@@ -4,7 +4,7 @@ use Rattle.gitbase_core.specs.declared.entry.IndexEntry.{IndexEntry}
 use Rattle.worktree_stack.specs.Mappings.{are_ascending, mappings_in}
 use Rattle.worktree_stack.specs.Setup.{AttributesSetup, Setup, attributes_setup_of, setup_of}
 use Rattle.worktree_stack.specs.Stacked.{attributes_of, ignore_of}
-use Rattle.worktree_stack.proofs.FromIndex.{ascending_mappings}
+use Rattle.worktree_stack.proofs.Rules.FromIndex.{ascending_mappings}
 use Rattle.worktree_stack.proofs.mappings.in_index.Goals as goal
 
 pub returns-clause-ascending : goal.returns-clause-ascending

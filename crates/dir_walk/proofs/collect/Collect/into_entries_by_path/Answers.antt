@@ -2,9 +2,9 @@ use Rattle.std.proofs.Common.{rules, subst, sym, ◌∙◌, ap}
 use Rattle.std.proofs.lemmas.List.Sorted.{answers_always}
 use Rattle.dir_walk.specs.Distinct.{Ascends}
 use Rattle.dir_walk.specs.Emissions.{is_before, by_path}
-use Rattle.dir_walk.proofs.Sorting.{by_paths, IsAscending-from_sort}
-use Rattle.dir_walk.proofs.Stable.{by_path-from_stable}
-use Rattle.dir_walk.proofs.Strict.{Ascends-by_path}
+use Rattle.dir_walk.proofs.Order.Sorting.{by_paths, IsAscending-from_sort}
+use Rattle.dir_walk.proofs.Order.Stable.{by_path-from_stable}
+use Rattle.dir_walk.proofs.Order.Strict.{Ascends-by_path}
 use Rattle.dir_walk.proofs.collect.Collect.into_entries_by_path.Goals as goal
 
 pub returns-clause-sorted : goal.returns-clause-sorted

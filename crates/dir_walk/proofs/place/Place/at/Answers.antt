@@ -1,4 +1,4 @@
-use Rattle.dir_walk.proofs.Standing.{IsPlaced-at, standing-at}
+use Rattle.dir_walk.proofs.Places.Standing.{IsPlaced-at, standing-at}
 use Rattle.dir_walk.proofs.place.Place.at.Goals as goal
 
 pub invariant_of-result : goal.invariant_of-result

@@ -1,5 +1,5 @@
 use Rattle.std.proofs.Common.{sym, ◌∙◌}
-use Rattle.dir_walk.proofs.Standing.{IsPlaced-left, standing-left, OnOk-always, OnOk-refused, OnOk-taken}
+use Rattle.dir_walk.proofs.Places.Standing.{IsPlaced-left, standing-left, OnOk-always, OnOk-refused, OnOk-taken}
 use Rattle.dir_walk.proofs.place.Place.leave.Goals as goal
 
 pub returns-then-is_err : goal.returns-then-is_err

@@ -1,5 +1,5 @@
 use Rattle.std.proofs.Common.{ap, length, ℕ, List}
-use Rattle.dir_walk.proofs.Standing.{IsPlaced-name, IsPushed-name, standing-pushed}
+use Rattle.dir_walk.proofs.Places.Standing.{IsPlaced-name, IsPushed-name, standing-pushed}
 use Rattle.dir_walk.proofs.place.Place.push.Goals as goal
 
 pub invariant_of-self-2 : goal.invariant_of-self-2

@@ -3,7 +3,7 @@ use Rattle.std.proofs.Common.{◌≡◌, Option, Some, None, Ok, Err, refl, sym,
 use Rattle.worktree_fs.specs.Tree.{Names}
 use Rattle.worktree_fs.specs.Disk.{Disk, uncounted}
 use Rattle.worktree_fs.specs.declared.answers.ReadError.{ReadError}
-use Rattle.worktree_fs.proofs.KeptNames.{kept-listing}
+use Rattle.worktree_fs.proofs.Trees.KeptNames.{kept-listing}
 use Rattle.worktree_fs.proofs.disk.DiskWorktreeWorktree.TheImpl.Goals as goal
 
 clash : (t : Names) → ◌≡◌ {A = Option Names} None (Some t) → ⊥

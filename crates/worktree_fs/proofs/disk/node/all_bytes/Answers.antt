@@ -1,6 +1,6 @@
 use Rattle.std.proofs.Common.{◌≡◌, ◌≤◌, ◌^◌, ◌+◌, length, sym, subst, rules, arith}
 use Rattle.std.specs.Prelude.{IfSome}
-use Rattle.worktree_fs.proofs.Taken.{all_given, if_answered}
+use Rattle.worktree_fs.proofs.Lists.Taken.{all_given, if_answered}
 use Rattle.worktree_fs.proofs.disk.node.all_bytes.Goals as goal
 
 pub returns-in-Ok-clause-whole : goal.returns-in-Ok-clause-whole

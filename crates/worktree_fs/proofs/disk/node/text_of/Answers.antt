@@ -1,6 +1,6 @@
 use Rattle.std.proofs.Common.{◌≡◌, ap, sym, ◌∙◌, rules}
 use Rattle.worktree_fs.specs.Disk.{without_slashes, or_root}
-use Rattle.worktree_fs.proofs.SlashEnds.{trimmed_slashes, no_path, a_path}
+use Rattle.worktree_fs.proofs.Paths.SlashEnds.{trimmed_slashes, no_path, a_path}
 use Rattle.worktree_fs.proofs.disk.node.text_of.Goals as goal
 use Rattle.worktree_fs.proofs.disk.node.text_of.Goals.{then-is_empty, else-is_empty}
 

@@ -3,7 +3,7 @@ use Rattle.std.specs.List.{AllByRecursion}
 use Rattle.gitbase_core.specs.Path.{components, pieces}
 use Rattle.worktree_fs.specs.Composed.{as_kept, IsKept, HasKept}
 use Rattle.worktree_fs.specs.Grow.{is_full_path}
-use Rattle.worktree_fs.proofs.KeptNames.{kept-added, kept-components, kept-new}
+use Rattle.worktree_fs.proofs.Trees.KeptNames.{kept-added, kept-components, kept-new}
 use Rattle.worktree_fs.proofs.memory.MemoryWorktree.add.Goals as goal
 
 pub invariant_of-self-2 : goal.invariant_of-self-2

@@ -2,7 +2,7 @@ use Rattle.std.proofs.Common.{◌≡◌, Some, sym, subst, rules}
 use Rattle.worktree_fs.specs.Composed.{AreKept}
 use Rattle.worktree_fs.specs.Memory.{told_by}
 use Rattle.worktree_fs.specs.Told.{told_tree}
-use Rattle.worktree_fs.proofs.KeptNames.{kept-after_make}
+use Rattle.worktree_fs.proofs.Trees.KeptNames.{kept-after_make}
 use Rattle.worktree_fs.proofs.memory.MemoryWorktree.made.Goals as goal
 
 pub invariant_of-self-2 : goal.invariant_of-self-2

@@ -1,7 +1,7 @@
 use Rattle.std.proofs.Common.{false, sym, subst}
 use Rattle.worktree_fs.specs.Tree.{spot}
 use Rattle.worktree_fs.specs.Composed.{AreKept}
-use Rattle.worktree_fs.proofs.KeptNames.{kept-after_remove}
+use Rattle.worktree_fs.proofs.Trees.KeptNames.{kept-after_remove}
 use Rattle.worktree_fs.proofs.memory.MemoryWorktree.removed.Goals as goal
 
 pub invariant_of-self : goal.invariant_of-self

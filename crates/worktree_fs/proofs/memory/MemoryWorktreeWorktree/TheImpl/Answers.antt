@@ -10,8 +10,8 @@ use Rattle.worktree_fs.specs.declared.answers.ListError.{ListError}
 use Rattle.worktree_fs.specs.declared.answers.ReadError.{ReadError}
 use Rattle.worktree_fs.specs.declared.answers.ReadError.TheVariants as errors
 use Rattle.worktree_fs.specs.declared.answers.RemoveAnswer.{RemoveAnswer}
-use Rattle.worktree_fs.proofs.Distinct.{lists_names}
-use Rattle.worktree_fs.proofs.Tested.{told_is}
+use Rattle.worktree_fs.proofs.Lists.Distinct.{lists_names}
+use Rattle.worktree_fs.proofs.Trees.Tested.{told_is}
 use Rattle.worktree_fs.proofs.memory.MemoryWorktreeWorktree.TheImpl.Goals as goal
 
 lists : (is_reversed : _) (at : _) (r : Result (List (List ℕ)) ListError) → MatchResult r (ListsInOrder is_reversed at) (ListRefuses at) → MatchResult r (ListsNames at) (ListRefuses at)

@@ -1,6 +1,6 @@
 use Rattle.std.proofs.Common.{◌≡◌, Bool, All, IfOk, subst, rules}
 use Rattle.worktree_fs.specs.Composed.{IsKept}
-use Rattle.worktree_fs.proofs.KeptNames.{kept-listed}
+use Rattle.worktree_fs.proofs.Trees.KeptNames.{kept-listed}
 use Rattle.worktree_fs.proofs.memory.MemoryWorktreeWorktree.list.Goals as goal
 
 pub returns-clause-kept : goal.returns-clause-kept

@@ -1,7 +1,7 @@
 use Rattle.std.proofs.Common.{◌≡◌, Some, rules}
 use Rattle.worktree_fs.specs.Memory.{told_by}
 use Rattle.worktree_fs.specs.Told.{told_tree}
-use Rattle.worktree_fs.proofs.Answered.{inside_of}
+use Rattle.worktree_fs.proofs.Trees.Answered.{inside_of}
 use Rattle.worktree_fs.proofs.memory.MemoryWorktreeWorktree.make_dir.Goals as goal
 
 pub returns-clause-inside : goal.returns-clause-inside

@@ -2,7 +2,7 @@ use Rattle.std.proofs.Common.{◌≡◌, Some, rules}
 use Rattle.worktree_fs.specs.Memory.{told_by, fails}
 use Rattle.worktree_fs.specs.Told.{told_tree}
 use Rattle.worktree_fs.specs.declared.memory.plan.CallKind.TheVariants as calls
-use Rattle.worktree_fs.proofs.Answered.{gone_of}
+use Rattle.worktree_fs.proofs.Trees.Answered.{gone_of}
 use Rattle.worktree_fs.proofs.memory.MemoryWorktreeWorktree.remove_node.Goals as goal
 
 pub returns-clause-gone : goal.returns-clause-gone

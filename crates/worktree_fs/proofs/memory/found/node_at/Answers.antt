@@ -1,6 +1,6 @@
 use Rattle.std.proofs.Common.{◌∙◌, ap, sym, arith}
 use Rattle.worktree_fs.specs.Tree.{found}
-use Rattle.worktree_fs.proofs.Ways.{nth_node, nth_none}
+use Rattle.worktree_fs.proofs.Routes.Ways.{nth_node, nth_none}
 use Rattle.worktree_fs.proofs.memory.found.node_at.Goals as goal
 
 pub returns-then-dir-at-clause-leads : goal.returns-then-dir-at-clause-leads

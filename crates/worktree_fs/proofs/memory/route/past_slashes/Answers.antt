@@ -1,4 +1,4 @@
-use Rattle.worktree_fs.proofs.Pieces.{begins-from}
+use Rattle.worktree_fs.proofs.Paths.Pieces.{begins-from}
 use Rattle.worktree_fs.proofs.memory.route.past_slashes.Goals as goal
 
 pub returns-clause-begins : goal.returns-clause-begins

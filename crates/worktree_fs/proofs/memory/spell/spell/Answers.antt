@@ -2,7 +2,7 @@ use Rattle.std.proofs.Common.{◌∙◌, ◌++◌, ◌∷◌, List, ℕ, ap, sym
 use Rattle.worktree_fs.specs.Changes.{slashed}
 use Rattle.worktree_fs.specs.Stored.{names_in}
 use Rattle.worktree_fs.specs.Way.{name_nth}
-use Rattle.worktree_fs.proofs.Ways.{here-take, trail-take}
+use Rattle.worktree_fs.proofs.Routes.Ways.{here-take, trail-take}
 use Rattle.worktree_fs.proofs.memory.spell.spell.Goals as goal
 
 pub loop-at-preserved : goal.loop-at-preserved

@@ -1,5 +1,5 @@
 use Rattle.std.proofs.Common.{◌∙◌, ◌++◌, ◌∷◌, [], List, ℕ, ap, sym, append_assoc, arith}
-use Rattle.worktree_fs.proofs.Ways.{nth_name_at, name_none}
+use Rattle.worktree_fs.proofs.Routes.Ways.{nth_name_at, name_none}
 use Rattle.worktree_fs.proofs.memory.spell.spell_name.Goals as goal
 
 pub returns-in_ok-extend_from_slice : goal.returns-in_ok-extend_from_slice

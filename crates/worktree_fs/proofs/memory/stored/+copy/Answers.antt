@@ -1,7 +1,7 @@
 use Rattle.std.proofs.Common.{◌<◌, sym, subst, arith}
 use Rattle.worktree_fs.specs.Stored.{names_in, names_size, node_size}
 use Rattle.worktree_fs.specs.declared.memory.stored.Entry.{Entry}
-use Rattle.worktree_fs.proofs.EntryFalls.{entry_falls}
+use Rattle.worktree_fs.proofs.Trees.EntryFalls.{entry_falls}
 use Rattle.worktree_fs.proofs.memory.stored.+copy.Goals as goal
 
 pub copied-copied-requires : goal.copied-copied-requires

@@ -1,5 +1,5 @@
 use Rattle.worktree_fs.specs.Stored.{names_in}
-use Rattle.worktree_fs.proofs.Ways.{here-take}
+use Rattle.worktree_fs.proofs.Routes.Ways.{here-take}
 use Rattle.worktree_fs.proofs.memory.trace.descend.Goals as goal
 
 pub loop-at-preserved : goal.loop-at-preserved

@@ -2,7 +2,7 @@ use Rattle.std.proofs.Common.{◌∙◌, ap, sym, Some, arith}
 use Rattle.worktree_fs.specs.Tree.{Node}
 use Rattle.worktree_fs.specs.Grow.{children_of}
 use Rattle.worktree_fs.specs.Stored.{names_in, node_of}
-use Rattle.worktree_fs.proofs.Ways.{nth_node, nth_none, dir_of_other, no_directory}
+use Rattle.worktree_fs.proofs.Routes.Ways.{nth_node, nth_none, dir_of_other, no_directory}
 use Rattle.worktree_fs.proofs.memory.trace.directory_at.Goals as goal
 
 pub returns-then-dir-at-clause-names : goal.returns-then-dir-at-clause-names

@@ -3,7 +3,7 @@ use Rattle.worktree_fs.specs.Tree.{Node, Place, resolve, onward, walking, behind
 use Rattle.worktree_fs.specs.Stored.{names_in, node_of, AreSorted, IsSorted}
 use Rattle.worktree_fs.specs.Way.{name_nth, place_by, StandsAt}
 use Rattle.worktree_fs.specs.declared.memory.stored.Entry.{Entry}
-use Rattle.worktree_fs.proofs.Ways.{room_down, stands_down, place_down, leaf_at, leaf_stands}
+use Rattle.worktree_fs.proofs.Routes.Ways.{room_down, stands_down, place_down, leaf_at, leaf_stands}
 use Rattle.worktree_fs.proofs.memory.trace.on.Goals as goal
 
 pub go_down-requires : goal.go_down-requires

@@ -2,8 +2,8 @@ use Rattle.std.proofs.Common.{◌∙◌, ap, sym, List, ℕ, Some, None, slice_i
 use Rattle.worktree_fs.specs.Tree.{Names, Node, Place, child, resolve, onward, walking, behind}
 use Rattle.worktree_fs.specs.Stored.{names_in}
 use Rattle.worktree_fs.specs.Way.{place_by}
-use Rattle.worktree_fs.proofs.Grown.{child_gap}
-use Rattle.worktree_fs.proofs.Ways.{at_range, at_name, at_child, nth_node, component-leads}
+use Rattle.worktree_fs.proofs.Trees.Grown.{child_gap}
+use Rattle.worktree_fs.proofs.Routes.Ways.{at_range, at_name, at_child, nth_node, component-leads}
 use Rattle.worktree_fs.proofs.memory.trace.take_component.Goals as goal
 
 pub on-requires-clause-node : goal.on-requires-clause-node

@@ -2,8 +2,8 @@ use Rattle.std.proofs.Common.{[], ◌∙◌, ap, sym, List, ℕ}
 use Rattle.worktree_fs.specs.Tree.{resolve}
 use Rattle.worktree_fs.specs.Stored.{names_in}
 use Rattle.worktree_fs.specs.Way.{place_by}
-use Rattle.worktree_fs.proofs.Trails.{behind-none, behind-no_text, behind-on, start-absolute, start-relative}
-use Rattle.worktree_fs.proofs.Ways.{root-place}
+use Rattle.worktree_fs.proofs.Routes.Trails.{behind-none, behind-no_text, behind-on, start-absolute, start-relative}
+use Rattle.worktree_fs.proofs.Routes.Ways.{root-place}
 use Rattle.worktree_fs.proofs.memory.trace.through.Goals as goal
 
 pub returns-then-links-eq0-clause-leads : goal.returns-then-links-eq0-clause-leads

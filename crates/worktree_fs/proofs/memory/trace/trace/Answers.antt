@@ -3,7 +3,7 @@ use Rattle.std.proofs.lemmas.Grind.{common_steps}
 use Rattle.worktree_fs.specs.Tree.{resolve}
 use Rattle.worktree_fs.specs.Stored.{names_in}
 use Rattle.worktree_fs.specs.Way.{place_by, turned, TurnStands}
-use Rattle.worktree_fs.proofs.Trails.{spot-text, spot-no_text}
+use Rattle.worktree_fs.proofs.Routes.Trails.{spot-text, spot-no_text}
 use Rattle.worktree_fs.proofs.memory.trace.trace.Goals as goal
 
 pub returns-then-not-is_text-clause-leads : goal.returns-then-not-is_text-clause-leads

@@ -2,7 +2,7 @@ use Rattle.std.proofs.Common.{◌≡◌, ◌++◌, ◌∷◌, [], List, ℕ, rul
 use Rattle.std.proofs.lemmas.Grind.{common_steps}
 use Rattle.worktree_fs.specs.Stored.{names_in}
 use Rattle.worktree_fs.specs.Way.{here_by}
-use Rattle.worktree_fs.proofs.Ways.{place_up, stands_up}
+use Rattle.worktree_fs.proofs.Routes.Ways.{place_up, stands_up}
 use Rattle.worktree_fs.proofs.memory.trace.up.Goals as goal
 
 pub returns-in-Some-clause-parent : goal.returns-in-Some-clause-parent

@@ -12,10 +12,10 @@ use Rattle.worktree_stack.specs.Moments.{moment}
 use Rattle.worktree_stack.specs.Stacked.{Stacked, made_of, pushed}
 use Rattle.worktree_stack.specs.declared.error.AtPathError.{AtPathError}
 use Rattle.worktree_stack.specs.declared.state.Checkout.{Checkout}
-use Rattle.worktree_stack.proofs.Asked.{asked-as}
-use Rattle.worktree_stack.proofs.LookedUp.{not-normal}
-use Rattle.worktree_stack.proofs.LookCounted.{look-answered, look-refused}
-use Rattle.worktree_stack.proofs.LookedOut.{checks-answered, checks-not-normal, checks-refused, same-checkout}
+use Rattle.worktree_stack.proofs.Lookup.Asked.{asked-as}
+use Rattle.worktree_stack.proofs.Lookup.LookedUp.{not-normal}
+use Rattle.worktree_stack.proofs.Lookup.LookCounted.{look-answered, look-refused}
+use Rattle.worktree_stack.proofs.Lookup.LookedOut.{checks-answered, checks-not-normal, checks-refused, same-checkout}
 use Rattle.worktree_stack.proofs.Refusals.{is_err}
 use Rattle.worktree_stack.specs.HeldOut.{HoldsOut}
 use Rattle.worktree_stack.specs.Making.{mkdirs}

@@ -11,17 +11,17 @@ use Rattle.worktree_stack.specs.Making.{Way, is_link_of, way_of}
 use Rattle.worktree_stack.specs.Setup.{Made}
 use Rattle.worktree_stack.specs.Stacked.{Stacked, made_of, pushed}
 use Rattle.worktree_stack.proofs.Refusals.{is_err}
-use Rattle.worktree_stack.proofs.Looking.{IsStaying, whole, ends, left_names, calls_are}
-use Rattle.worktree_stack.proofs.Arriving.{arrives-whole}
-use Rattle.worktree_stack.proofs.Working.{unpushed-root, unpushed-pops}
-use Rattle.worktree_stack.proofs.Going.{goes-then, goes-more, goes-as, goes-unpushed}
-use Rattle.worktree_stack.proofs.RestOut.{way-same}
-use Rattle.worktree_stack.proofs.Within.{within-gone, within-same, there-staying}
-use Rattle.worktree_fs.proofs.Lookups.{on_ok}
+use Rattle.worktree_stack.proofs.Lookup.Looking.{IsStaying, whole, ends, left_names, calls_are}
+use Rattle.worktree_stack.proofs.Lookup.Arriving.{arrives-whole}
+use Rattle.worktree_stack.proofs.CheckOut.Working.{unpushed-root, unpushed-pops}
+use Rattle.worktree_stack.proofs.CheckOut.Going.{goes-then, goes-more, goes-as, goes-unpushed}
+use Rattle.worktree_stack.proofs.CheckOut.RestOut.{way-same}
+use Rattle.worktree_stack.proofs.CheckOut.Within.{within-gone, within-same, there-staying}
+use Rattle.worktree_fs.proofs.Routes.Lookups.{on_ok}
 use Rattle.worktree_stack.specs.HeldOut.{AddsOut, HoldsOut}
 use Rattle.worktree_stack.specs.Making.{mkdirs}
-use Rattle.worktree_stack.proofs.HeldOut.{holds-whole, none-surplus}
-use Rattle.worktree_stack.proofs.SeeingOn.{sees-popped}
+use Rattle.worktree_stack.proofs.CheckOut.HeldOut.{holds-whole, none-surplus}
+use Rattle.worktree_stack.proofs.Lookup.SeeingOn.{sees-popped}
 use Rattle.worktree_stack.proofs.stack.Stack.check_out.Goals as goal
 
 pub rest_out-requires-clause-end : goal.rest_out-requires-clause-end

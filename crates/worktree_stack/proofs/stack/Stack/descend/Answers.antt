@@ -3,18 +3,18 @@ use Rattle.std.proofs.Common.{◌≡◌, [], ap, inl, refl, rules}
 use Rattle.std.specs.Prelude.{IsErrAnd}
 use Rattle.std.proofs.lemmas.Result.{IfErr-weaker}
 use Rattle.worktree_fs.proofs.Calls.{handed_on}
-use Rattle.worktree_fs.proofs.Lookups.{on_ok}
+use Rattle.worktree_fs.proofs.Routes.Lookups.{on_ok}
 use Rattle.worktree_stack.specs.declared.error.AtPathError.TheVariants as errors
 use Rattle.worktree_stack.specs.Moments.{moment}
 use Rattle.worktree_stack.specs.Stacked.{Stacked}
-use Rattle.worktree_stack.proofs.Asked.{step-asks}
-use Rattle.worktree_stack.proofs.InStep.{pushed-below}
-use Rattle.worktree_stack.proofs.Levels.{level-below}
-use Rattle.worktree_stack.proofs.Carrying.{carries-none, stops-left}
-use Rattle.worktree_stack.proofs.Seeing.{sees-refused}
-use Rattle.worktree_stack.proofs.SeeingOn.{sees-below}
-use Rattle.worktree_stack.proofs.StackSteps.{no-answer}
-use Rattle.worktree_stack.proofs.Stepping.{in_step_below, carries-below, stops-below}
+use Rattle.worktree_stack.proofs.Lookup.Asked.{step-asks}
+use Rattle.worktree_stack.proofs.Lookup.InStep.{pushed-below}
+use Rattle.worktree_stack.proofs.Lookup.Levels.{level-below}
+use Rattle.worktree_stack.proofs.Lookup.Carrying.{carries-none, stops-left}
+use Rattle.worktree_stack.proofs.Lookup.Seeing.{sees-refused}
+use Rattle.worktree_stack.proofs.Lookup.SeeingOn.{sees-below}
+use Rattle.worktree_stack.proofs.Lookup.StackSteps.{no-answer}
+use Rattle.worktree_stack.proofs.CheckOut.Stepping.{in_step_below, carries-below, stops-below}
 use Rattle.worktree_stack.proofs.stack.Stack.descend.Goals as goal
 
 pub returns-in_err-push-clause-moves : goal.returns-in_err-push-clause-moves

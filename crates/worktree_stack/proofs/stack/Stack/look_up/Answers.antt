@@ -4,7 +4,7 @@ use Rattle.std.specs.Prelude.{IsErrAnd}
 use Rattle.std.proofs.lemmas.List.{append-nil}
 use Rattle.std.proofs.lemmas.Result.{IfErr-weaker}
 use Rattle.worktree_fs.proofs.Calls.{handed_on}
-use Rattle.worktree_fs.proofs.Lookups.{on_ok}
+use Rattle.worktree_fs.proofs.Routes.Lookups.{on_ok}
 use Rattle.gitbase_core.specs.Path.{components}
 use Rattle.worktree_fs.specs.PathStack.{Call, kept, deepest_names, calls_below, root_calls, surplus, pop_directory, lookup_calls}
 use Rattle.worktree_stack.specs.declared.error.AtPathError.{AtPathError}
@@ -12,13 +12,13 @@ use Rattle.worktree_stack.specs.Lookups.{refused_one, staying}
 use Rattle.worktree_stack.specs.Moments.{moment}
 use Rattle.worktree_stack.specs.StackSteps.{StepKeeps, StepMoves, StepSees}
 use Rattle.worktree_stack.specs.Stacked.{made_of, pushed}
-use Rattle.worktree_stack.proofs.Arriving.{arrives-whole}
-use Rattle.worktree_stack.proofs.Asked.{asks-whole, asks-cut, one-refused}
-use Rattle.worktree_stack.proofs.Carrying.{carries-as, carries-none, carries-then, stops-after}
-use Rattle.worktree_stack.proofs.Looking.{IsStaying, ends, stay_names, calls_are, root-length, length-pushed}
+use Rattle.worktree_stack.proofs.Lookup.Arriving.{arrives-whole}
+use Rattle.worktree_stack.proofs.Lookup.Asked.{asks-whole, asks-cut, one-refused}
+use Rattle.worktree_stack.proofs.Lookup.Carrying.{carries-as, carries-none, carries-then, stops-after}
+use Rattle.worktree_stack.proofs.Lookup.Looking.{IsStaying, ends, stay_names, calls_are, root-length, length-pushed}
 use Rattle.worktree_stack.proofs.Refusals.{is_err}
-use Rattle.worktree_stack.proofs.SeeingOn.{on-front}
-use Rattle.worktree_stack.proofs.StackSteps.{holds-popped, holds-then, keeps-popped, keeps-then, moves-popped, no-answer, sees-behind, sees-popped-on, stops-behind, told-before}
+use Rattle.worktree_stack.proofs.Lookup.SeeingOn.{on-front}
+use Rattle.worktree_stack.proofs.Lookup.StackSteps.{holds-popped, holds-then, keeps-popped, keeps-then, moves-popped, no-answer, sees-behind, sees-popped-on, stops-behind, told-before}
 use Rattle.worktree_stack.proofs.stack.Stack.look_up.Goals as goal
 
 pub push_rest-requires-clause-end : goal.push_rest-requires-clause-end

@@ -6,11 +6,11 @@ use Rattle.worktree_stack.specs.declared.statistics.Statistics.{Statistics}
 use Rattle.worktree_stack.specs.Counted.{count_call}
 use Rattle.worktree_stack.specs.Setup.{HeldAttributes, lists_of, names_of, pop_lists}
 use Rattle.worktree_stack.specs.Stacked.{made_of}
-use Rattle.worktree_stack.proofs.InStep.{popped}
-use Rattle.worktree_stack.proofs.HeldOut.{lowest-popped}
-use Rattle.worktree_stack.proofs.Levels.{popped-level}
-use Rattle.worktree_stack.proofs.Seeing.{names-popped}
-use Rattle.worktree_stack.proofs.Stepping.{carries-pop}
+use Rattle.worktree_stack.proofs.Lookup.InStep.{popped}
+use Rattle.worktree_stack.proofs.CheckOut.HeldOut.{lowest-popped}
+use Rattle.worktree_stack.proofs.Lookup.Levels.{popped-level}
+use Rattle.worktree_stack.proofs.Lookup.Seeing.{names-popped}
+use Rattle.worktree_stack.proofs.CheckOut.Stepping.{carries-pop}
 use Rattle.worktree_stack.proofs.stack.Stack.pop_directory.Goals as goal
 
 pub returns-clause-pops : goal.returns-clause-pops

@@ -3,9 +3,9 @@ use Rattle.std.proofs.Common.{◌≡◌, ◌+◌, ◌<◌, ◌∙◌, ◌++◌, 
 use Rattle.gitbase_core.specs.Path.{components}
 use Rattle.worktree_fs.specs.PathStack.{surplus, pop_directory}
 use Rattle.worktree_stack.specs.Lookups.{staying}
-use Rattle.worktree_stack.proofs.Surplus.{staying-up, surplus-up, staying-all}
-use Rattle.worktree_stack.proofs.Stepping.{replicate-more}
-use Rattle.worktree_stack.proofs.Popping.{pops-as, pops-then}
+use Rattle.worktree_stack.proofs.Lookup.Surplus.{staying-up, surplus-up, staying-all}
+use Rattle.worktree_stack.proofs.CheckOut.Stepping.{replicate-more}
+use Rattle.worktree_stack.proofs.Lookup.Popping.{pops-as, pops-then}
 use Rattle.worktree_stack.proofs.stack.Stack.pop_surplus.Goals as goal
 
 pub loop-preserved : goal.loop-preserved

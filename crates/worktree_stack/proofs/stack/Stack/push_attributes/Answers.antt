@@ -12,9 +12,9 @@ use Rattle.worktree_stack.specs.Stacked.{Stacked, made_of}
 use Rattle.worktree_stack.specs.Setup.{HeldAttributes, IsLonger, lists_of, names_of, pop_list}
 use Rattle.worktree_stack.specs.Stacked.{own_count, info_count_if, attributes_of}
 use Rattle.worktree_stack.proofs.Refusals.{is_err}
-use Rattle.worktree_stack.proofs.Readings.{reads-cut, reads-then}
-use Rattle.worktree_stack.proofs.Pushing.{info-same, own-dropped, longer-then}
-use Rattle.worktree_stack.proofs.Seeing.{names-dropped, sees-both, sees-front, sees-undone}
+use Rattle.worktree_stack.proofs.Rules.Readings.{reads-cut, reads-then}
+use Rattle.worktree_stack.proofs.Rules.Pushing.{info-same, own-dropped, longer-then}
+use Rattle.worktree_stack.proofs.Lookup.Seeing.{names-dropped, sees-both, sees-front, sees-undone}
 use Rattle.worktree_stack.proofs.stack.Stack.push_attributes.Goals as goal
 
 pub returns-in_err-push_own-clause-reads : goal.returns-in_err-push_own-clause-reads

@@ -9,10 +9,10 @@ use Rattle.worktree_stack.specs.Reading.{ignore_readings}
 use Rattle.worktree_stack.specs.Setup.{Made}
 use Rattle.worktree_stack.specs.Stacked.{made_of}
 use Rattle.worktree_stack.specs.Stacked.{ignore_of}
-use Rattle.worktree_stack.proofs.InStep.{pushed_more}
-use Rattle.worktree_stack.proofs.Levels.{pushed-level}
-use Rattle.worktree_stack.proofs.Readings.{reads-unread, reads-lost}
-use Rattle.worktree_stack.proofs.Pushing.{the-ignore}
+use Rattle.worktree_stack.proofs.Lookup.InStep.{pushed_more}
+use Rattle.worktree_stack.proofs.Lookup.Levels.{pushed-level}
+use Rattle.worktree_stack.proofs.Rules.Readings.{reads-unread, reads-lost}
+use Rattle.worktree_stack.proofs.Rules.Pushing.{the-ignore}
 use Rattle.worktree_stack.proofs.stack.Stack.push_ignore.Goals as goal
 
 pub returns-in_err-matched-clause-reads : goal.returns-in_err-matched-clause-reads

@@ -12,9 +12,9 @@ use Rattle.worktree_stack.specs.Setup.{AttributesSetup, HeldAttributes, Made, at
 use Rattle.worktree_stack.specs.Stacked.{made_of, attributes_of}
 use Rattle.glob_rules.specs.AttributeNames.{SeesPart}
 use Rattle.glob_rules.specs.Attributes.{AttributeList}
-use Rattle.worktree_stack.proofs.Readings.{reads-lost, only-attributes}
-use Rattle.worktree_stack.proofs.Pushing.{info-some, empty-nil, reads-as, reads-placed}
-use Rattle.worktree_stack.proofs.Seeing.{info-named, sees-refused, sees-some, sees-text}
+use Rattle.worktree_stack.proofs.Rules.Readings.{reads-lost, only-attributes}
+use Rattle.worktree_stack.proofs.Rules.Pushing.{info-some, empty-nil, reads-as, reads-placed}
+use Rattle.worktree_stack.proofs.Lookup.Seeing.{info-named, sees-refused, sees-some, sees-text}
 use Rattle.worktree_stack.proofs.stack.Stack.push_info.Goals as goal
 
 pub returns-in_err-source-clause-reads : goal.returns-in_err-source-clause-reads
@@ -43,8 +43,8 @@ returns-in_err-source-clause-reads g c =
     let said : IsErrAnd c.from_residual.result (λ x. x ≡ e) = search rules in
     reads-as W F c.args.worktree.now c.read_text.new.worktree c.args.objects.now c.read_text.new.objects readings s0 s1 c.read_text.result e c.from_residual.result c.in_err-source.was said all
 
-pub returns-in_err-push_text-clause-reads : goal.returns-in_err-push_text-clause-reads
-returns-in_err-push_text-clause-reads g c =
+pub returns-in_err-push_attribute_list-clause-reads : goal.returns-in_err-push_attribute_list-clause-reads
+returns-in_err-push_attribute_list-clause-reads g c =
     let W = g.W.Worktree in
     let F = g.F.Find in
     let made : Made = made_of c.args.self.now in
@@ -65,10 +65,10 @@ returns-in_err-push_text-clause-reads g c =
     reads-placed W F c.args.worktree.now c.read_text.new.worktree c.args.objects.now c.read_text.new.objects of_attributes (info_places path) (info_places path) readings s0 s s1
     (λ source. text_of source c.read_text.new.buffer) c.read_text.result (only-attributes s s1 refl) same refl readings_are
     c.read_text.ensures.text c.read_text.ensures.refused c.read_text.ensures.counted c.read_text.ensures.tried c.read_text.ensures.untouched c.read_text.ensures.store_untouched c.read_text.ensures.leaves c.read_text.ensures.leaves_store c.read_text.ensures.reads in
-    let memory : IsErrAnd c.from_residual-in_err-push_text.result (λ x. x ≡ errors.OutOfMemory) = search rules in
+    let memory : IsErrAnd c.from_residual-in_err-push_attribute_list.result (λ x. x ≡ errors.OutOfMemory) = search rules in
     let v : Option (List ℕ) = c.in_ok-source.source in
     reads-lost W F c.args.worktree.now c.read_text.new.worktree c.args.objects.now c.read_text.new.objects readings (record { kind = of_attributes; places = info_places path }) s0 s1 v
-    c.from_residual-in_err-push_text.result readings_are memory
+    c.from_residual-in_err-push_attribute_list.result readings_are memory
     (subst (λ (r : Result (Option (List ℕ)) AtPathError). Reads W F c.args.worktree.now c.read_text.new.worktree c.args.objects.now c.read_text.new.objects readings s0 s1 r) c.in_ok-source.was all)
 
 pub returns-in_err-source-clause-names : goal.returns-in_err-source-clause-names
@@ -77,8 +77,8 @@ returns-in_err-source-clause-names g c =
     let said : IsErrAnd c.from_residual.result (λ x. x ≡ e) = search rules in
     sees-refused (g.W.Worktree.told c.args.worktree.now) (g.F.Find.holds c.args.objects.now) _ c.args.self.now.attributes _ c.from_residual.result e said (search rules)
 
-pub returns-in_err-push_text-clause-names : goal.returns-in_err-push_text-clause-names
-returns-in_err-push_text-clause-names g c =
+pub returns-in_err-push_attribute_list-clause-names : goal.returns-in_err-push_attribute_list-clause-names
+returns-in_err-push_attribute_list-clause-names g c =
     let made : Made = made_of c.args.self.now in
     let setup : AttributesSetup = c.in-Some.attributes.now.setup in
     let held_is : c.args.self.now.attributes ≡ Some c.in-Some.attributes.now = search rules in
@@ -89,10 +89,10 @@ returns-in_err-push_text-clause-names g c =
     let root : d ≡ [] = empty-nil d (search rules) in
     let text : Option Text = text_of c.in_ok-source.source c.read_text.new.buffer in
     let held : attributes_of c.self.inside.state ≡ c.args.self.now.attributes = search rules in
-    let memory : IsErrAnd c.from_residual-in_err-push_text.result (λ x. x ≡ errors.OutOfMemory) = search rules in
-    sees-some (g.W.Worktree.told c.args.worktree.now) (g.F.Find.holds c.args.objects.now) _ c.args.self.now.attributes (attributes_of c.push_text.new.state) c.from_residual-in_err-push_text.result errors.OutOfMemory
-    (names_from true text) memory (c.in_err-push_text.ensures.refused ∙ ap lists_of held)
-    (subst (λ (h : Option HeldAttributes). SeesPart (names_of h) (names_from true text) (names_of (attributes_of c.push_text.new.state))) held c.in_err-push_text.ensures.seen)
+    let memory : IsErrAnd c.from_residual-in_err-push_attribute_list.result (λ x. x ≡ errors.OutOfMemory) = search rules in
+    sees-some (g.W.Worktree.told c.args.worktree.now) (g.F.Find.holds c.args.objects.now) _ c.args.self.now.attributes (attributes_of c.push_attribute_list.new.state) c.from_residual-in_err-push_attribute_list.result errors.OutOfMemory
+    (names_from true text) memory (c.in_err-push_attribute_list.ensures.refused ∙ ap lists_of held)
+    (subst (λ (h : Option HeldAttributes). SeesPart (names_of h) (names_from true text) (names_of (attributes_of c.push_attribute_list.new.state))) held c.in_err-push_attribute_list.ensures.seen)
     (λ s tells. info-named setup s d path text made.attributes setup_is info_is root (c.in_ok-source.ensures.text s tells))
 
 pub returns-clause-names : goal.returns-clause-names
@@ -110,6 +110,6 @@ returns-clause-names g c =
     let list : AttributeList = attributes_from true dir text in
     let seen : List (List ℕ) = names_from true text in
     let held : attributes_of c.self.inside.state ≡ c.args.self.now.attributes = search rules in
-    let pushed : attributes_of c.push_text.new.state ≡ push_list list seen c.args.self.now.attributes = c.in_ok-push_text.ensures.pushed ∙ ap (push_list list seen) held in
-    sees-text (g.W.Worktree.told c.args.worktree.now) (g.F.Find.holds c.args.objects.now) _ c.args.self.now.attributes (attributes_of c.push_text.new.state) c.in-Some.attributes.now true dir text held_is pushed
+    let pushed : attributes_of c.push_attribute_list.new.state ≡ push_list list seen c.args.self.now.attributes = c.in_ok-push_attribute_list.ensures.pushed ∙ ap (push_list list seen) held in
+    sees-text (g.W.Worktree.told c.args.worktree.now) (g.F.Find.holds c.args.objects.now) _ c.args.self.now.attributes (attributes_of c.push_attribute_list.new.state) c.in-Some.attributes.now true dir text held_is pushed
     (λ s tells. info-named setup s d path text made.attributes setup_is info_is root (c.in_ok-source.ensures.text s tells))

@@ -14,9 +14,9 @@ use Rattle.glob_rules.specs.AttributeNames.{SeesPart, names_in}
 use Rattle.glob_rules.specs.Attributes.{AttributeList}
 use Rattle.gitbase_core.specs.Path.{joined}
 use Rattle.worktree_fs.specs.Paths.{full_path}
-use Rattle.worktree_stack.proofs.Readings.{reads-unread, reads-lost, only-attributes}
-use Rattle.worktree_stack.proofs.Pushing.{attribute-placed, own-some, own-listed, reads-as, reads-done, reads-placed, longer-none, longer-one}
-use Rattle.worktree_stack.proofs.Seeing.{own-named, sees-nothing, sees-refused, sees-some, sees-text}
+use Rattle.worktree_stack.proofs.Rules.Readings.{reads-unread, reads-lost, only-attributes}
+use Rattle.worktree_stack.proofs.Rules.Pushing.{attribute-placed, own-some, own-listed, reads-as, reads-done, reads-placed, longer-none, longer-one}
+use Rattle.worktree_stack.proofs.Lookup.Seeing.{own-named, sees-nothing, sees-refused, sees-some, sees-text}
 use Rattle.worktree_stack.proofs.stack.Stack.push_own.Goals as goal
 
 pub returns-in_err-set_paths-clause-reads : goal.returns-in_err-set_paths-clause-reads
@@ -66,8 +66,8 @@ returns-in_err-source-clause-reads g c =
     let said : IsErrAnd c.from_residual-in_err-source.result (λ x. x ≡ e) = search rules in
     reads-as W F c.args.worktree.now c.read_text.new.worktree c.args.objects.now c.read_text.new.objects readings s0 s1 c.read_text.result e c.from_residual-in_err-source.result c.in_err-source.was said all
 
-pub returns-in_err-push_text-clause-reads : goal.returns-in_err-push_text-clause-reads
-returns-in_err-push_text-clause-reads g c =
+pub returns-in_err-push_attribute_list-clause-reads : goal.returns-in_err-push_attribute_list-clause-reads
+returns-in_err-push_attribute_list-clause-reads g c =
     let W = g.W.Worktree in
     let F = g.F.Find in
     let made : Made = made_of c.args.self.now in
@@ -92,10 +92,10 @@ returns-in_err-push_text-clause-reads g c =
     reads-placed W F c.args.worktree.now c.read_text.new.worktree c.args.objects.now c.read_text.new.objects of_attributes (places_by c.of_attributes-order.result whole path) (attribute_places_of made setup d) readings s0 s s1
     (λ source. text_of source c.read_text.new.buffer) c.read_text.result (only-attributes s s1 refl) same places_are readings_are
     c.read_text.ensures.text c.read_text.ensures.refused c.read_text.ensures.counted c.read_text.ensures.tried c.read_text.ensures.untouched c.read_text.ensures.store_untouched c.read_text.ensures.leaves c.read_text.ensures.leaves_store c.read_text.ensures.reads in
-    let memory : IsErrAnd c.from_residual-in_err-push_text.result (λ x. x ≡ errors.OutOfMemory) = search rules in
+    let memory : IsErrAnd c.from_residual-in_err-push_attribute_list.result (λ x. x ≡ errors.OutOfMemory) = search rules in
     let v : Option (List ℕ) = c.in_ok-source.source in
     reads-lost W F c.args.worktree.now c.read_text.new.worktree c.args.objects.now c.read_text.new.objects readings (record { kind = of_attributes; places = attribute_places_of made setup d }) s0 s1 v
-    c.from_residual-in_err-push_text.result readings_are memory
+    c.from_residual-in_err-push_attribute_list.result readings_are memory
     (subst (λ (r : Result (Option (List ℕ)) AtPathError). Reads W F c.args.worktree.now c.read_text.new.worktree c.args.objects.now c.read_text.new.objects readings s0 s1 r) c.in_ok-source.was all)
 
 pub returns-clause-reads : goal.returns-clause-reads
@@ -152,8 +152,8 @@ returns-clause-lists g c s' tells =
     let list : AttributeList = attributes_from c.is_root.result dir text in
     let seen : List (List ℕ) = names_in (lines c.is_root.result (bytes_of text)) in
     let held : attributes_of c.self.inside.state ≡ c.args.self.now.attributes = search rules in
-    let pushed : attributes_of c.push_text.new.state ≡ push_list list seen c.args.self.now.attributes = c.in_ok-push_text.ensures.pushed ∙ ap (push_list list seen) held in
-    own-listed made setup s' d dir (places_by c.of_attributes-order.result whole path) text c.is_root.result c.args.self.now.attributes (attributes_of c.push_text.new.state) seen
+    let pushed : attributes_of c.push_attribute_list.new.state ≡ push_list list seen c.args.self.now.attributes = c.in_ok-push_attribute_list.ensures.pushed ∙ ap (push_list list seen) held in
+    own-listed made setup s' d dir (places_by c.of_attributes-order.result whole path) text c.is_root.result c.args.self.now.attributes (attributes_of c.push_attribute_list.new.state) seen
     c.is_root.ensures (search rules) setup_is places_are (c.in_ok-source.ensures.text s' tells) pushed
 
 pub returns-clause-many : goal.returns-clause-many
@@ -165,8 +165,8 @@ returns-clause-many g c =
     let list : AttributeList = attributes_from c.is_root.result dir text in
     let seen : List (List ℕ) = names_in (lines c.is_root.result (bytes_of text)) in
     let held : attributes_of c.self.inside.state ≡ c.args.self.now.attributes = search rules in
-    let pushed : attributes_of c.push_text.new.state ≡ push_list list seen c.args.self.now.attributes = c.in_ok-push_text.ensures.pushed ∙ ap (push_list list seen) held in
-    longer-one c.args.self.now.attributes (attributes_of c.push_text.new.state) c.in-Some.attributes.now list seen _ held_is pushed (ap (λ (a : Option AttributesSetup). own_count a) (ap attributes_setup_of held_is))
+    let pushed : attributes_of c.push_attribute_list.new.state ≡ push_list list seen c.args.self.now.attributes = c.in_ok-push_attribute_list.ensures.pushed ∙ ap (push_list list seen) held in
+    longer-one c.args.self.now.attributes (attributes_of c.push_attribute_list.new.state) c.in-Some.attributes.now list seen _ held_is pushed (ap (λ (a : Option AttributesSetup). own_count a) (ap attributes_setup_of held_is))
 
 pub returns-in_default-clause-many : goal.returns-in_default-clause-many
 returns-in_default-clause-many g c =
@@ -190,8 +190,8 @@ returns-in_err-source-clause-names g c =
     let said : IsErrAnd c.from_residual-in_err-source.result (λ x. x ≡ e) = search rules in
     sees-refused (g.W.Worktree.told c.args.worktree.now) (g.F.Find.holds c.args.objects.now) _ c.args.self.now.attributes _ c.from_residual-in_err-source.result e said (search rules)
 
-pub returns-in_err-push_text-clause-names : goal.returns-in_err-push_text-clause-names
-returns-in_err-push_text-clause-names g c =
+pub returns-in_err-push_attribute_list-clause-names : goal.returns-in_err-push_attribute_list-clause-names
+returns-in_err-push_attribute_list-clause-names g c =
     let made : Made = made_of c.args.self.now in
     let setup : AttributesSetup = c.in-Some.attributes.now.setup in
     let held_is : c.args.self.now.attributes ≡ Some c.in-Some.attributes.now = search rules in
@@ -208,10 +208,10 @@ returns-in_err-push_text-clause-names g c =
     let dir_is : dir ≡ d = search rules in
     let text : Option Text = text_of c.in_ok-source.source c.read_text.new.buffer in
     let held : attributes_of c.self.inside.state ≡ c.args.self.now.attributes = search rules in
-    let memory : IsErrAnd c.from_residual-in_err-push_text.result (λ x. x ≡ errors.OutOfMemory) = search rules in
-    sees-some (g.W.Worktree.told c.args.worktree.now) (g.F.Find.holds c.args.objects.now) _ c.args.self.now.attributes (attributes_of c.push_text.new.state) c.from_residual-in_err-push_text.result errors.OutOfMemory
-    (names_from c.is_root.result text) memory (c.in_err-push_text.ensures.refused ∙ ap lists_of held)
-    (subst (λ (h : Option HeldAttributes). SeesPart (names_of h) (names_from c.is_root.result text) (names_of (attributes_of c.push_text.new.state))) held c.in_err-push_text.ensures.seen)
+    let memory : IsErrAnd c.from_residual-in_err-push_attribute_list.result (λ x. x ≡ errors.OutOfMemory) = search rules in
+    sees-some (g.W.Worktree.told c.args.worktree.now) (g.F.Find.holds c.args.objects.now) _ c.args.self.now.attributes (attributes_of c.push_attribute_list.new.state) c.from_residual-in_err-push_attribute_list.result errors.OutOfMemory
+    (names_from c.is_root.result text) memory (c.in_err-push_attribute_list.ensures.refused ∙ ap lists_of held)
+    (subst (λ (h : Option HeldAttributes). SeesPart (names_of h) (names_from c.is_root.result text) (names_of (attributes_of c.push_attribute_list.new.state))) held c.in_err-push_attribute_list.ensures.seen)
     (λ s tells. own-named made setup s d dir (places_by c.of_attributes-order.result whole path) text c.is_root.result made.attributes c.is_root.ensures dir_is setup_is places_are (c.in_ok-source.ensures.text s tells))
 
 pub returns-clause-names : goal.returns-clause-names
@@ -234,6 +234,6 @@ returns-clause-names g c =
     let list : AttributeList = attributes_from c.is_root.result dir text in
     let seen : List (List ℕ) = names_from c.is_root.result text in
     let held : attributes_of c.self.inside.state ≡ c.args.self.now.attributes = search rules in
-    let pushed : attributes_of c.push_text.new.state ≡ push_list list seen c.args.self.now.attributes = c.in_ok-push_text.ensures.pushed ∙ ap (push_list list seen) held in
-    sees-text (g.W.Worktree.told c.args.worktree.now) (g.F.Find.holds c.args.objects.now) _ c.args.self.now.attributes (attributes_of c.push_text.new.state) c.in-Some.attributes.now c.is_root.result dir text held_is pushed
+    let pushed : attributes_of c.push_attribute_list.new.state ≡ push_list list seen c.args.self.now.attributes = c.in_ok-push_attribute_list.ensures.pushed ∙ ap (push_list list seen) held in
+    sees-text (g.W.Worktree.told c.args.worktree.now) (g.F.Find.holds c.args.objects.now) _ c.args.self.now.attributes (attributes_of c.push_attribute_list.new.state) c.in-Some.attributes.now c.is_root.result dir text held_is pushed
     (λ s tells. own-named made setup s d dir (places_by c.of_attributes-order.result whole path) text c.is_root.result made.attributes c.is_root.ensures dir_is setup_is places_are (c.in_ok-source.ensures.text s tells))

@@ -13,14 +13,14 @@ use Rattle.worktree_stack.specs.Lookups.{refused_one, stepped}
 use Rattle.worktree_stack.specs.Moments.{moment}
 use Rattle.worktree_stack.specs.StackSteps.{StepSees}
 use Rattle.worktree_stack.specs.Stacked.{Stacked, made_of}
-use Rattle.worktree_stack.proofs.Stepping.{on_err, carries-stepped}
-use Rattle.worktree_stack.proofs.Descent.{below_first, below_next, on_way, on_way_same, at_last, next-calls, further, last-calls, no-calls}
-use Rattle.worktree_stack.proofs.Asked.{asks-front, asks-none, asks-then, one-refused}
-use Rattle.worktree_stack.proofs.Carrying.{carries-none, carries-then, carries-as, carries-left, stops-left}
+use Rattle.worktree_stack.proofs.CheckOut.Stepping.{on_err, carries-stepped}
+use Rattle.worktree_stack.proofs.Lookup.Descent.{below_first, below_next, on_way, on_way_same, at_last, next-calls, further, last-calls, no-calls}
+use Rattle.worktree_stack.proofs.Lookup.Asked.{asks-front, asks-none, asks-then, one-refused}
+use Rattle.worktree_stack.proofs.Lookup.Carrying.{carries-none, carries-then, carries-as, carries-left, stops-left}
 use Rattle.worktree_stack.proofs.Refusals.{is_err}
-use Rattle.worktree_stack.proofs.Seeing.{sees-nothing}
-use Rattle.worktree_stack.proofs.SeeingOn.{on-front, sees-last, sees-left, sees-short}
-use Rattle.worktree_stack.proofs.StackSteps.{holds-as, holds-none, holds-then, keeps-none, keeps-then, moves-then, no-answer, sees-behind, stops-behind}
+use Rattle.worktree_stack.proofs.Lookup.Seeing.{sees-nothing}
+use Rattle.worktree_stack.proofs.Lookup.SeeingOn.{on-front, sees-last, sees-left, sees-short}
+use Rattle.worktree_stack.proofs.Lookup.StackSteps.{holds-as, holds-none, holds-then, keeps-none, keeps-then, moves-then, no-answer, sees-behind, stops-behind}
 use Rattle.worktree_stack.proofs.stack.Stack.push_rest.Goals as goal
 
 pub loop-next-init : goal.loop-next-init

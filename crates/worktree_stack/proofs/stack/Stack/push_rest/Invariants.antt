@@ -3,7 +3,7 @@ use Rattle.gitbase_core.specs.Path.{components}
 use Rattle.worktree_fs.specs.PathStack.{Call, deepest_names, calls_below}
 use Rattle.worktree_stack.specs.Moments.{moment}
 use Rattle.worktree_stack.specs.StackSteps.{StepAsks, StepHolds, StepKeeps, StepMoves, StepSees}
-use Rattle.worktree_stack.proofs.Descent.{IsBelow}
+use Rattle.worktree_stack.proofs.Lookup.Descent.{IsBelow}
 use Rattle.worktree_stack.proofs.stack.Stack.push_rest.Given as goal
 
 abbrev pub invariant-loop-next : goal.invariant-loop-next

@@ -1,10 +1,10 @@
 -- The root is pushed as the directory of the empty path; where a directory is pushed nothing is done.
 use Rattle.std.proofs.Common.{◌∙◌, refl, sym}
-use Rattle.worktree_fs.proofs.Lookups.{on_ok}
+use Rattle.worktree_fs.proofs.Routes.Lookups.{on_ok}
 use Rattle.worktree_stack.specs.Moments.{moment}
-use Rattle.worktree_stack.proofs.HeldOut.{adds-root, adds-rooted}
-use Rattle.worktree_stack.proofs.Asked.{root-asks}
-use Rattle.worktree_stack.proofs.SeeingOn.{sees-root, sees-rooted}
+use Rattle.worktree_stack.proofs.CheckOut.HeldOut.{adds-root, adds-rooted}
+use Rattle.worktree_stack.proofs.Lookup.Asked.{root-asks}
+use Rattle.worktree_stack.proofs.Lookup.SeeingOn.{sees-root, sees-rooted}
 use Rattle.worktree_stack.proofs.stack.Stack.push_root.Goals as goal
 
 pub returns-then-is_root_pushed-clause-sees : goal.returns-then-is_root_pushed-clause-sees

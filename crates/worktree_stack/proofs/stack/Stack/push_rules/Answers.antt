@@ -9,14 +9,14 @@ use Rattle.worktree_stack.specs.Reading.{is_read, texts_of, reading, Sources, at
 use Rattle.worktree_stack.specs.Setup.{AttributesSetup, HeldAttributes, lists_of, names_of, IsLonger, pop_lists, Made, attributes_setup_of}
 use Rattle.worktree_stack.specs.Stacked.{Stacked, made_of, attributes_of, count_at}
 use Rattle.worktree_stack.proofs.Refusals.{is_err}
-use Rattle.worktree_stack.proofs.Readings.{later}
-use Rattle.worktree_stack.proofs.RulesRead.{attributes-read, rules-read, rules-unread}
-use Rattle.worktree_stack.proofs.InStep.{pushed_all}
-use Rattle.worktree_stack.proofs.Levels.{lists-level}
-use Rattle.worktree_stack.proofs.Pushing.{all-dropped, rules-bridge, level-bridge}
+use Rattle.worktree_stack.proofs.Rules.Readings.{later}
+use Rattle.worktree_stack.proofs.Rules.RulesRead.{attributes-read, rules-read, rules-unread}
+use Rattle.worktree_stack.proofs.Lookup.InStep.{pushed_all}
+use Rattle.worktree_stack.proofs.Lookup.Levels.{lists-level}
+use Rattle.worktree_stack.proofs.Rules.Pushing.{all-dropped, rules-bridge, level-bridge}
 use Rattle.worktree_stack.specs.SeenNames.{Sees, names_at}
-use Rattle.worktree_stack.proofs.Seeing.{names-popped, sees-before, sees-undone}
-use Rattle.worktree_stack.proofs.StackSteps.{no-answer}
+use Rattle.worktree_stack.proofs.Lookup.Seeing.{names-popped, sees-before, sees-undone}
+use Rattle.worktree_stack.proofs.Lookup.StackSteps.{no-answer}
 use Rattle.worktree_stack.proofs.stack.Stack.push_rules.Goals as goal
 
 pub returns-in_err-push_attributes-clause-reads : goal.returns-in_err-push_attributes-clause-reads

@@ -11,8 +11,8 @@ use Rattle.worktree_stack.specs.Setup.{Setup, Made, setup_of, mapped_to}
 use Rattle.worktree_stack.specs.Stacked.{made_of}
 use Rattle.gitbase_core.specs.Path.{joined}
 use Rattle.worktree_fs.specs.Paths.{full_path}
-use Rattle.worktree_stack.proofs.Readings.{reads-unread, reads-lost, only-ignore}
-use Rattle.worktree_stack.proofs.Pushing.{ignore-placed, ignore-some, reads-as, reads-placed}
+use Rattle.worktree_stack.proofs.Rules.Readings.{reads-unread, reads-lost, only-ignore}
+use Rattle.worktree_stack.proofs.Rules.Pushing.{ignore-placed, ignore-some, reads-as, reads-placed}
 use Rattle.worktree_stack.proofs.stack.Stack.read_rules.Goals as goal
 
 pub returns-in_err-set_paths-clause-reads : goal.returns-in_err-set_paths-clause-reads

@@ -1,6 +1,6 @@
 use Rattle.std.proofs.Common.{◌∙◌, Bool, refl, sym, ap, rules}
 use Rattle.worktree_stack.specs.Validate.{component_error}
-use Rattle.worktree_stack.proofs.Readied.{readies-bad, readies-made, error-fits, ok-fits}
+use Rattle.worktree_stack.proofs.CheckOut.Readied.{readies-bad, readies-made, error-fits, ok-fits}
 use Rattle.worktree_stack.proofs.stack.Stack.ready.Goals as goal
 
 pub returns-in-Err : goal.returns-in-Err

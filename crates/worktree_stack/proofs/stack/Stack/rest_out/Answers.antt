@@ -10,24 +10,24 @@ use Rattle.worktree_stack.specs.Lookups.{is_dir_of}
 use Rattle.worktree_stack.specs.Making.{Way, is_link_of, way_of}
 use Rattle.worktree_stack.specs.Setup.{Made}
 use Rattle.worktree_stack.specs.Stacked.{Stacked, made_of}
-use Rattle.worktree_stack.proofs.Stepping.{on_err}
-use Rattle.worktree_stack.proofs.Descent.{below_first, below_next, on_way, on_way_same, next-calls, further, last-calls, no-calls}
+use Rattle.worktree_stack.proofs.CheckOut.Stepping.{on_err}
+use Rattle.worktree_stack.proofs.Lookup.Descent.{below_first, below_next, on_way, on_way_same, next-calls, further, last-calls, no-calls}
 use Rattle.worktree_stack.proofs.Refusals.{is_err}
-use Rattle.worktree_stack.proofs.Going.{goes-then, goes-more, goes-as, goes-nothing, goes-left, goes-pushed}
+use Rattle.worktree_stack.proofs.CheckOut.Going.{goes-then, goes-more, goes-as, goes-nothing, goes-left, goes-pushed}
 use Rattle.worktree_stack.specs.Checkout.{IsOutcome}
 use Rattle.worktree_stack.specs.GoesOn.{KeepsAll, LeavesLast}
 use Rattle.worktree_stack.specs.Making.{checked_out, mkdirs, unchanged}
 use Rattle.worktree_fs.specs.Tree.{Names}
 use Rattle.worktree_fs.specs.declared.answers.MakeAnswer.TheVariants as makes
 use Rattle.std.proofs.Common.{append_assoc}
-use Rattle.worktree_stack.proofs.Holding.{kept-now}
-use Rattle.worktree_stack.proofs.KeptSteps.{pushed-field, pushed-kept}
-use Rattle.worktree_stack.proofs.Preparing.{some-same}
-use Rattle.worktree_stack.proofs.RestOut.{keeping-by, keeps-left, kept-by, nil-is, last-there, looked-pushed, may-first, rest-none, taken-names, way-same}
+use Rattle.worktree_stack.proofs.CheckOut.Holding.{kept-now}
+use Rattle.worktree_stack.proofs.CheckOut.KeptSteps.{pushed-field, pushed-kept}
+use Rattle.worktree_stack.proofs.CheckOut.Preparing.{some-same}
+use Rattle.worktree_stack.proofs.CheckOut.RestOut.{keeping-by, keeps-left, kept-by, nil-is, last-there, looked-pushed, may-first, rest-none, taken-names, way-same}
 use Rattle.worktree_stack.specs.HeldOut.{AddsOut}
 use Rattle.worktree_stack.specs.Setup.{HeldAttributes}
-use Rattle.worktree_stack.proofs.HeldOut.{adds-same, adds-then, always}
-use Rattle.worktree_stack.proofs.StackSteps.{no-answer}
+use Rattle.worktree_stack.proofs.CheckOut.HeldOut.{adds-same, adds-then, always}
+use Rattle.worktree_stack.proofs.Lookup.StackSteps.{no-answer}
 use Rattle.worktree_stack.proofs.stack.Stack.rest_out.Goals as goal
 
 pub loop-next-init : goal.loop-next-init

@@ -10,7 +10,7 @@ use Rattle.worktree_stack.specs.Making.{is_link_of, mkdirs, way_of}
 use Rattle.worktree_stack.specs.Reading.{Sources, Tells}
 use Rattle.worktree_stack.specs.Stacked.{made_of}
 use Rattle.std.specs.Prelude.{Some}
-use Rattle.worktree_stack.proofs.Descent.{IsBelow}
+use Rattle.worktree_stack.proofs.Lookup.Descent.{IsBelow}
 use Rattle.worktree_stack.proofs.stack.Stack.rest_out.Given as goal
 
 abbrev pub invariant-loop-next : goal.invariant-loop-next

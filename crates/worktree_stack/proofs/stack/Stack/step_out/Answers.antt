@@ -8,17 +8,17 @@ use Rattle.worktree_stack.specs.GoesOn.{Goes, KeepsOn, PushesOut}
 use Rattle.worktree_stack.specs.Lookups.{is_dir_of}
 use Rattle.worktree_stack.specs.Making.{Way, is_link_of, mkdirs, way_of}
 use Rattle.worktree_stack.specs.Stacked.{Stacked}
-use Rattle.worktree_stack.proofs.InStep.{pushed-below}
+use Rattle.worktree_stack.proofs.Lookup.InStep.{pushed-below}
 use Rattle.worktree_stack.proofs.Refusals.{is_err}
-use Rattle.worktree_stack.proofs.Going.{goes-then, goes-more, goes-pushed, goes-unpushed}
-use Rattle.worktree_stack.proofs.KeptSteps.{keeps-refused, keeps-passed}
-use Rattle.worktree_fs.proofs.Lookups.{on_ok}
+use Rattle.worktree_stack.proofs.CheckOut.Going.{goes-then, goes-more, goes-pushed, goes-unpushed}
+use Rattle.worktree_stack.proofs.CheckOut.KeptSteps.{keeps-refused, keeps-passed}
+use Rattle.worktree_fs.proofs.Routes.Lookups.{on_ok}
 use Rattle.worktree_stack.specs.Checkout.{IsOutcome, Prepared}
 use Rattle.worktree_stack.specs.Making.{pushed_out, unchanged}
 use Rattle.worktree_stack.specs.Reading.{Sources}
 use Rattle.worktree_fs.specs.declared.answers.MakeAnswer.TheVariants as makes
-use Rattle.worktree_stack.proofs.HeldOut.{adds-step}
-use Rattle.worktree_stack.proofs.SeeingOn.{sees-one}
+use Rattle.worktree_stack.proofs.CheckOut.HeldOut.{adds-step}
+use Rattle.worktree_stack.proofs.Lookup.SeeingOn.{sees-one}
 use Rattle.worktree_stack.proofs.stack.Stack.step_out.Goals as goal
 
 pub returns-in_err-push_out-clause-goes : goal.returns-in_err-push_out-clause-goes

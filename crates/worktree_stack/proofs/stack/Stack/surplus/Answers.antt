@@ -1,6 +1,6 @@
 use Rattle.std.proofs.Common.{◌∙◌, sym, rules}
 use Rattle.gitbase_core.specs.Path.{components}
-use Rattle.worktree_stack.proofs.Last.{surplus-found}
+use Rattle.worktree_stack.proofs.Lookup.Last.{surplus-found}
 use Rattle.worktree_stack.proofs.stack.Stack.surplus.Goals as goal
 
 pub returns-then-is_some : goal.returns-then-is_some

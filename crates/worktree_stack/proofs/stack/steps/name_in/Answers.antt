@@ -1,6 +1,6 @@
 use Rattle.std.proofs.Common.{◌≡◌, Some, rules}
 use Rattle.gitbase_core.specs.Path.{relative_to}
-use Rattle.worktree_stack.proofs.Last.{components-beneath}
+use Rattle.worktree_stack.proofs.Lookup.Last.{components-beneath}
 use Rattle.worktree_stack.proofs.stack.steps.name_in.Goals as goal
 
 pub returns-in-Some : goal.returns-in-Some

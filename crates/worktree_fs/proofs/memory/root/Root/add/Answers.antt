@@ -1,7 +1,7 @@
 use Rattle.std.proofs.Common.{arith}
 use Rattle.gitbase_core.specs.Path.{pieces}
 use Rattle.worktree_fs.specs.Stored.{names_in}
-use Rattle.worktree_fs.proofs.Depths.{depth-added, kept_names}
+use Rattle.worktree_fs.proofs.Trees.Depths.{depth-added, kept_names}
 use Rattle.worktree_fs.proofs.memory.root.Root.add.Goals as goal
 
 pub invariant_of-self-2 : goal.invariant_of-self-2

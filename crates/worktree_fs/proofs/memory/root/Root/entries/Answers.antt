@@ -1,7 +1,7 @@
 use Rattle.std.proofs.Common.{subst}
 use Rattle.worktree_fs.specs.Tree.{Names, directory}
 use Rattle.worktree_fs.specs.Naming.{IsTree}
-use Rattle.worktree_fs.proofs.Sorted.{sorted_tree}
+use Rattle.worktree_fs.proofs.Trees.Sorted.{sorted_tree}
 use Rattle.worktree_fs.proofs.memory.root.Root.entries.Goals as goal
 
 pub returns-clause-tree : goal.returns-clause-tree

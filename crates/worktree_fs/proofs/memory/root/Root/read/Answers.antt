@@ -1,5 +1,5 @@
 use Rattle.std.proofs.Common.{rules}
-use Rattle.worktree_fs.proofs.Followed.{read-unfollowed}
+use Rattle.worktree_fs.proofs.Routes.Followed.{read-unfollowed}
 use Rattle.worktree_fs.proofs.memory.root.Root.read.Goals as goal
 
 pub returns-clause-link : goal.returns-clause-link

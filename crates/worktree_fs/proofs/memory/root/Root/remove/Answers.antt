@@ -5,9 +5,9 @@ use Rattle.worktree_fs.specs.Stored.{names_in}
 use Rattle.worktree_fs.specs.Way.{LeadsTo, place_by, names_along, depth_of}
 use Rattle.worktree_fs.specs.declared.memory.stored.Entry.{Entry}
 use Rattle.worktree_fs.specs.declared.memory.trace.End.TheVariants as ends
-use Rattle.worktree_fs.proofs.Depths.{depth-cut}
-use Rattle.worktree_fs.proofs.Removals.{removed_leaf}
-use Rattle.worktree_fs.proofs.Ways.{along-way}
+use Rattle.worktree_fs.proofs.Trees.Depths.{depth-cut}
+use Rattle.worktree_fs.proofs.Trees.Removals.{removed_leaf}
+use Rattle.worktree_fs.proofs.Routes.Ways.{along-way}
 use Rattle.worktree_fs.proofs.memory.root.Root.remove.Goals as goal
 
 pub invariant_of-self-2 : goal.invariant_of-self-2

@@ -1,0 +1,115 @@
+//! What is answered of the paths of an input.
+ghost use Rattle.std.specs.Prelude.{◌≡◌, ◌∷◌, [], map};
+ghost use Rattle.check_ignore.specs.Checked.{nothing};
+ghost use Rattle.check_ignore.specs.Finds.{Finds};
+ghost use Rattle.check_ignore.specs.Input as words;
+
+use crate::answer::{Answered, add_answer, check_ignore, nothing};
+use crate::input::{line_end, lines_of, path_of};
+use crate::options::{Checking, OuterRules};
+use crate::stop::Stop;
+use gitbase_core::{Bytes, State as Index};
+use std::alloc::Global;
+use worktree_fs::Worktree;
+
+/// What is answered of a line.
+fn line_answer<W: Worktree>(
+    alloc: Global,
+    worktree: &mut W,
+    root: &[u8],
+    prefix: &[u8],
+    index: &Index,
+    outer: &OuterRules,
+    checking: &Checking,
+    line: &[u8],
+) -> Result<Answered, Stop>
+    ensures { Finds W.Worktree worktree.old worktree.new (λ t. words.line_answer t root.now
+        prefix.now index.now outer.now checking.now line.now) result }
+{
+    let path = path_of(alloc, checking, line)?;
+    let paths = [path];
+    check_ignore(
+        alloc, worktree, root, prefix, index, outer, checking, &paths,
+    )
+}
+
+/// What is answered of some lines.
+fn all_answered<W: Worktree>(
+    alloc: Global,
+    worktree: &mut W,
+    root: &[u8],
+    prefix: &[u8],
+    index: &Index,
+    outer: &OuterRules,
+    checking: &Checking,
+    lines: &[&[u8]],
+) -> Result<Answered, Stop>
+    ensures { Finds W.Worktree worktree.old worktree.new (λ t. words.lines_after t root.now
+        prefix.now index.now outer.now checking.now nothing (map (λ line. line.now) lines.now))
+        result }
+{
+    let mut done = nothing(alloc);
+    for line in lines {
+        let now = line_answer(alloc, worktree, root, prefix, index, outer, checking, line)?;
+        add_answer(alloc, &mut done, &now)?;
+    }
+    Ok(done)
+}
+
+/// What is answered of the paths of an input.
+fn of_input<W: Worktree>(
+    alloc: Global,
+    worktree: &mut W,
+    root: &[u8],
+    prefix: &[u8],
+    index: &Index,
+    outer: &OuterRules,
+    checking: &Checking,
+    input: &[u8],
+) -> Result<Answered, Stop>
+    ensures { Finds W.Worktree worktree.old worktree.new (λ t. words.of_input t root.now
+        prefix.now index.now outer.now checking.now input.now) result }
+{
+    let lines = lines_of(alloc, input, line_end(checking))?;
+    all_answered(
+        alloc, worktree, root, prefix, index, outer, checking, &lines,
+    )
+}
+
+/// What `git check-ignore` prints, and whether it ends with 0: of `paths`, as [`check_ignore`] has
+/// it, or, with `--stdin`, of the paths of `input`, one a line. Each of these is answered by
+/// itself, one after another.
+///
+/// A line ends in a line feed, or in a NUL with `-z`; what stands behind the last of them is a line
+/// too, unless it is empty. A carriage return is part of a path. Without `-z` a NUL ends a path,
+/// and a path that begins with a double quote stands in quotes, as git writes such ones: `\a`,
+/// `\b`, `\t`, `\n`, `\v`, `\f`, `\r`, `\"`, `\\` and three octal digits behind a backslash mean
+/// other bytes, and what follows the closing quote means nothing.
+///
+/// # Errors
+///
+/// - With `--stdin`, of the first line that is refused: `BadQuotes`: it begins with a double quote,
+///   and no other closes it, or a backslash in it means nothing; else as [`check_ignore`] has them
+///   of its path alone. Nothing is answered of the lines before it.
+/// - Without: as [`check_ignore`] has them of all paths.
+///
+/// See docs/DIFFERENCES.md#check-ignore-input.
+pub fn check_asked<W: Worktree>(
+    alloc: Global,
+    worktree: &mut W,
+    root: &[u8],
+    prefix: &[u8],
+    index: &Index,
+    outer: &OuterRules,
+    checking: &Checking,
+    paths: &[Bytes],
+    input: &[u8],
+) -> Result<Answered, Stop>
+    ensures { Finds W.Worktree worktree.old worktree.new (λ t. words.asked_or_read t root.now
+        prefix.now index.now outer.now checking.now paths.now input.now) result }
+{
+    if checking.stdin {
+        return of_input(alloc, worktree, root, prefix, index, outer, checking, input);
+    }
+    check_ignore(alloc, worktree, root, prefix, index, outer, checking, paths)
+}

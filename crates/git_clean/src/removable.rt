@@ -1,0 +1,164 @@
+//! Which entries may go by themselves, and which keep directories from going.
+ghost use Rattle.std.specs.Prelude.{◌≡◌, IfOk};
+ghost use Rattle.dir_classify.specs.Kinds as kinds;
+ghost use Rattle.ls_files.specs.Cached.{is_matched};
+ghost use Rattle.ls_files.specs.Others as others;
+ghost use Rattle.git_clean.specs.Going as words;
+
+use crate::options::Cleaning;
+use dir_classify::entry::{holds_names, is_repository};
+use dir_classify::{Entry, Kind, Property, Status};
+use gitbase_core::{Bytes, OutOfMemory};
+use glob_rules::pathspec::{Matcher, Search};
+use ls_files::Place;
+use std::alloc::Global;
+
+/// Whether an entry of this status goes.
+fn is_wanted(cleaning: &Cleaning, status: Status) -> bool
+    ensures { result ≡ words.is_wanted cleaning.now status }
+{
+    match status {
+        Status::Untracked => !cleaning.ignored_only,
+        Status::Ignored(_) => cleaning.ignored_only,
+        Status::Tracked => false,
+        Status::Pruned => false,
+    }
+}
+
+/// Whether what stands at a path goes.
+fn is_plain(cleaning: &Cleaning, kind: Option<Kind>) -> bool
+    ensures { result ≡ words.is_plain cleaning.now kind }
+{
+    match kind {
+        None => false,
+        Some(Kind::Untrackable) => false,
+        Some(Kind::File) => true,
+        Some(Kind::Symlink) => true,
+        Some(Kind::Directory) => cleaning.directories,
+        Some(Kind::Repository) => cleaning.directories && cleaning.repositories,
+    }
+}
+
+/// Whether a property says that a path is named `.git`.
+pub fn is_marked_dot_git(property: Option<Property>) -> bool
+    ensures { result ≡ kinds.is_marked_dot_git property }
+{
+    matches!(property, Some(Property::DotGit))
+}
+
+/// Whether an entry may go by itself, if the path specs match it.
+fn may_go(cleaning: &Cleaning, entry: &Entry) -> bool
+    ensures { result ≡ words.may_go cleaning.now entry.now }
+{
+    is_wanted(cleaning, entry.status)
+        && is_plain(cleaning, entry.disk_kind)
+        && !is_marked_dot_git(entry.property)
+}
+
+/// The path of an entry, and whether a directory stands there.
+pub fn place_at(entry: &Entry) -> Place<'_>
+    ensures { result ≡ others.place_at entry.now }
+{
+    Place::new(entry.rela_path.as_bytes(), holds_names(entry.disk_kind))
+}
+
+/// The name of what goes: that of a directory ends in a slash.
+pub fn name(alloc: Global, place: &Place<'_>) -> Result<Bytes, OutOfMemory>
+    ensures { IfOk result (λ name. name ≡ others.name place.now) }
+{
+    let mut name = Bytes::from_slice(alloc, place.path())?;
+    if place.holds_names() {
+        name.extend(alloc, b"/")?;
+    }
+    Ok(name)
+}
+
+/// Whether the path specs match a path.
+fn is_matched(specs: &Search, path: &[u8], is_dir: bool) -> bool
+    ensures { result ≡ is_matched specs.now path.now is_dir }
+{
+    match specs.pattern_matching_relative_path(path, Some(is_dir)) {
+        Some(found) => !found.is_excluded(),
+        None => false,
+    }
+}
+
+/// Whether the path specs match an entry.
+pub fn is_entry_matched(alloc: Global, specs: &Search, entry: &Entry) -> Result<bool, OutOfMemory>
+    ensures { IfOk result (λ matched. matched ≡ others.is_entry_matched specs.now entry.now) }
+{
+    let name = name(alloc, &place_at(entry))?;
+    let matched = is_matched(specs, name.as_bytes(), holds_names(entry.disk_kind));
+    Ok(matched)
+}
+
+/// Whether an entry may go by itself.
+pub fn is_removable(
+    alloc: Global,
+    cleaning: &Cleaning,
+    specs: &Search,
+    entry: &Entry,
+) -> Result<bool, OutOfMemory>
+    ensures { IfOk result (λ may. may ≡ words.is_removable cleaning.now specs.now entry.now) }
+{
+    if !may_go(cleaning, entry) {
+        return Ok(false);
+    }
+    is_entry_matched(alloc, specs, entry)
+}
+
+/// Whether an entry stays, with what it holds: a repository, or what is named `.git`.
+pub fn is_stay(cleaning: &Cleaning, entry: &Entry) -> bool
+    ensures { result ≡ words.is_stay cleaning.now entry.now }
+{
+    if cleaning.repositories {
+        return false;
+    }
+    is_repository(entry.disk_kind) || is_marked_dot_git(entry.property)
+}
+
+/// Whether a status is that of an untracked path.
+pub fn is_untracked(status: Status) -> bool
+    ensures { result ≡ others.is_untracked status }
+{
+    matches!(status, Status::Untracked)
+}
+
+/// Whether a kind is that of a file, a link, or a directory that holds nothing.
+fn is_leaf(kind: Option<Kind>) -> bool
+    ensures { result ≡ words.is_leaf kind }
+{
+    match kind {
+        None => false,
+        Some(Kind::Untrackable) => false,
+        Some(Kind::File) => true,
+        Some(Kind::Symlink) => true,
+        Some(Kind::Directory) => true,
+        Some(Kind::Repository) => false,
+    }
+}
+
+/// Whether an entry keeps the directories above it from going whole.
+fn bars(cleaning: &Cleaning, entry: &Entry) -> bool
+    ensures { result ≡ words.bars cleaning.now entry.now }
+{
+    entry.status.is_ignored() != cleaning.ignored_only
+}
+
+/// Whether an entry shows that in the directories above it not all is ignored.
+fn shows(cleaning: &Cleaning, entry: &Entry) -> bool
+    ensures { result ≡ words.shows cleaning.now entry.now }
+{
+    cleaning.ignored_only && is_untracked(entry.status) && is_leaf(entry.disk_kind)
+}
+
+/// Whether the directories above an entry are marked; with `-X` and without `-d` it has to lie in
+/// no directory that holds a `.git`.
+pub fn marks(cleaning: &Cleaning, entry: &Entry) -> bool
+    ensures { result ≡ words.marks cleaning.now entry.now }
+{
+    if cleaning.directories {
+        return bars(cleaning, entry);
+    }
+    shows(cleaning, entry)
+}

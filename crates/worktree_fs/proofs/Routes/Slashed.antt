@@ -1,0 +1,110 @@
+-- The path that names spell, each behind a slash, is a whole path, and leads to the node at the end of the names where no link
+-- is to be followed.
+use Rattle.std.proofs.Common.{◌≡◌, ◌&&◌, ◌||◌, Bool, true, false, ℕ, List, [], ◌∷◌, ◌++◌, Option, Some, None, reverse, if◌then◌else◌, refl, sym, ap, ◌∙◌, append_assoc}
+use Rattle.std.proofs.lemmas.List.{append-nil, reverse-reverse}
+use mathlib.Core.List.{reverse-cons}
+use Rattle.std.specs.List.{AllByRecursion, list_all}
+use Rattle.std.proofs.lemmas.Bool.{and_from}
+use Rattle.std.proofs.lemmas.List.Folds.{list_all-append}
+use Rattle.gitbase_core.specs.Path.{pieces, components}
+use Rattle.worktree_fs.specs.Tree.{Node, Names, Place, Jump, reached, nowhere, file, link, directory, other, child, is_directory, is_text, is_dot_dot, trail, parent_place, enter, onward, walking, along, behind, resolve, spot}
+use Rattle.worktree_fs.specs.Naming.{IsName, IsTree, is_name}
+use Rattle.worktree_fs.specs.ByNames.{node_at}
+use Rattle.worktree_fs.specs.Grow.{is_full_path}
+use Rattle.worktree_fs.specs.Changes.{slashed}
+use Rattle.worktree_fs.proofs.Paths.NameParts.{name_parts}
+use Rattle.worktree_fs.proofs.Routes.MissingNames.{real, real-names, from_all, components-slashed}
+use Rattle.worktree_fs.proofs.Trees.Regrown.{nothing_there}
+use Rattle.worktree_fs.proofs.Paths.Texts.{split-join, split-whole, is_text-append, is_text-slash}
+
+-- a slash, and names with one between each two
+record IsFull (path : List ℕ) : Type 0 where
+  rest : List ℕ
+  is : path ≡ 47 ∷ rest
+  names : list_all is_name (pieces rest) ≡ true
+
+alone : (name : List ℕ) → IsName name → pieces name ≡ name ∷ []
+alone name is = split-whole name (name_parts name is).no_slash
+
+full : (name : List ℕ) (below : List (List ℕ)) → IsName name → AllByRecursion IsName below → IsFull (slashed (name ∷ below))
+full name [] is all = record { rest = name; is = refl; names = ap (list_all is_name) (alone name is) ∙ and_from (is_name name) true is refl }
+full name (next ∷ below) is all =
+    let front = full next below all.0 all.1 in
+    record {
+      rest = front.rest ++ 47 ∷ name;
+      is = ap (λ (l : List ℕ). l ++ 47 ∷ name) front.is;
+      names =
+          ap (list_all is_name) (split-join front.rest name ∙ ap (λ (l : List (List ℕ)). pieces front.rest ++ l) (alone name is))
+          ∙ list_all-append is_name (pieces front.rest) (name ∷ [])
+          ∙ and_from (list_all is_name (pieces front.rest)) (is_name name && true) front.names (and_from (is_name name) true is refl);
+    }
+
+pub full_path-slashed : (name : List ℕ) (below : List (List ℕ)) → IsName name → AllByRecursion IsName below → is_full_path (slashed (name ∷ below)) ≡ true
+full_path-slashed name below is all = let whole = full name below is all in ap is_full_path whole.is ∙ whole.names
+
+abbrev node_or : Option Node → Node
+node_or None = other
+node_or (Some node) = node
+
+-- whether a node is a link
+abbrev pub is_link : Node → Bool
+is_link (file bytes) = false
+is_link (link target) = true
+is_link (directory names) = false
+is_link other = false
+
+-- from one node of a directory on, where the end is no link that is followed
+module _ (jump : Jump) (follow : Bool) (node : Node) (unfollowed : (follow && is_link node) ≡ false) where
+  abbrev Leads : List (List ℕ) → Type 0
+  Leads rest = (place : Place) → node_at rest (Some (directory place.here)) ≡ Some node → along jump follow place rest ≡ reached (reverse rest ++ trail place) node
+
+  ends : (place : Place) (name : List ℕ) (n : Node) → is_directory n ≡ false → Some n ≡ Some node → onward (walking (λ p. along jump follow p []) jump follow) place [] name (Some n) ≡ reached (name ∷ trail place) node
+  ends place name (directory names) leaf e = absurd (cc leaf)
+  ends place name (file bytes) leaf e = ap (λ (n : Option Node). reached (name ∷ trail place) (node_or n)) e
+  ends place name other leaf e = ap (λ (n : Option Node). reached (name ∷ trail place) (node_or n)) e
+  ends place name (link target) leaf e =
+      ap (λ b. if b || false then jump place target [] else reached (name ∷ trail place) (link target)) (stays follow (ap (λ (n : Option Node). follow && is_link (node_or n)) e ∙ unfollowed))
+      ∙ ap (λ (n : Option Node). reached (name ∷ trail place) (node_or n)) e
+    where
+      stays : (b : Bool) → (b && true) ≡ false → b ≡ false
+      stays true e = cc e
+      stays false e = refl
+
+  from : (place : Place) (name : List ℕ) (rest : List (List ℕ)) (o : Option Node) → Leads rest → node_at rest o ≡ Some node
+      → onward (walking (λ p. along jump follow p rest) jump follow) place rest name o ≡ reached (reverse (name ∷ rest) ++ trail place) node
+  from place name rest None leads e = absurd (nothing_there rest node e)
+  from place name rest (Some (directory names)) leads e =
+      leads (enter place name names) e
+      ∙ ap (λ (l : List (List ℕ)). reached l node) (sym (ap (λ (l : List (List ℕ)). l ++ trail place) (reverse-cons name rest) ∙ append_assoc (reverse rest) (name ∷ []) (trail place)))
+  from place name [] (Some (file bytes)) leads e = ends place name (file bytes) refl e
+  from place name [] (Some (link target)) leads e = ends place name (link target) refl e
+  from place name [] (Some other) leads e = ends place name other refl e
+  from place name (next ∷ rest) (Some (file bytes)) leads e = absurd (nothing_there rest node e)
+  from place name (next ∷ rest) (Some (link target)) leads e = absurd (nothing_there rest node e)
+  from place name (next ∷ rest) (Some other) leads e = absurd (nothing_there rest node e)
+
+  along-names : (names : List (List ℕ)) → AllByRecursion IsName names → Leads names
+  along-names [] all place e = ap (λ (n : Option Node). reached (trail place) (node_or n)) e
+  along-names (name ∷ rest) all place e =
+      let parts = name_parts name all.0 in
+      ap (λ b. if b then along jump follow place rest else if is_dot_dot name then along jump follow (parent_place place) rest else onward (walking (λ p. along jump follow p rest) jump follow) place rest name (child place.here name)) parts.no_dot
+      ∙ ap (λ b. if b then along jump follow (parent_place place) rest else onward (walking (λ p. along jump follow p rest) jump follow) place rest name (child place.here name)) parts.no_dot_dot
+      ∙ from place name rest (child place.here name) (along-names rest all.1) e
+
+text-slashed : (name : List ℕ) (below : List (List ℕ)) → IsName name → AllByRecursion IsName below → is_text (slashed (name ∷ below)) ≡ true
+text-slashed name [] is all = is_text-append (47 ∷ []) name is_text-slash (name_parts name is).text
+text-slashed name (next ∷ below) is all =
+    is_text-append (slashed (next ∷ below)) (47 ∷ name) (text-slashed next below all.0 all.1)
+    (is_text-append (47 ∷ []) name is_text-slash (name_parts name is).text)
+
+-- What stands at the end of some names is where their path leads, unless that is a link to be followed.
+pub spot-slashed : (t : Names) (follow : Bool) (name : List ℕ) (below : List (List ℕ)) (node : Node) → IsTree (directory t) → (follow && is_link node) ≡ false
+    → node_at (reverse (name ∷ below)) (Some (directory t)) ≡ Some node → spot t (slashed (name ∷ below)) follow ≡ reached (name ∷ below) node
+unfolding spot
+spot-slashed t follow name below node tree unfollowed e =
+    let names : AllByRecursion IsName (name ∷ below) = real-names t (name ∷ below) node tree e in
+    let onward_names : AllByRecursion IsName (reverse (name ∷ below)) = real (reverse (name ∷ below)) (directory t) node tree e in
+    ap (λ b. if b then resolve 32 follow (record { here = t; above = [] }) (components (slashed (name ∷ below))) else nowhere) (text-slashed name below names.0 names.1)
+    ∙ ap (resolve 32 follow (record { here = t; above = [] })) (components-slashed (name ∷ below) (from_all (name ∷ below) names))
+    ∙ along-names (behind 32 follow) follow node unfollowed (reverse (name ∷ below)) onward_names (record { here = t; above = [] }) e
+    ∙ ap (λ (l : List (List ℕ)). reached l node) (append-nil (reverse (reverse (name ∷ below))) ∙ reverse-reverse (name ∷ below))

@@ -1,0 +1,232 @@
+//! The report of a work tree, and its text.
+ghost use Rattle.std.specs.Prelude.{◌≡◌, ◌≤◌, ◌-◌, ◌^◌, min, length, true, IfOk, is_some};
+ghost use Rattle.worktree_fs.specs.Causes.{NotIncreased};
+ghost use Rattle.worktree_stack.specs.Reading.{Sources};
+ghost use Rattle.dir_classify.specs.Chosen.{chosen};
+ghost use Rattle.dir_classify.specs.Excludes.{made_with, tells_excludes};
+ghost use Rattle.dir_classify.specs.Layers.{IsLookupIf};
+ghost use Rattle.dir_walk.specs.Distinct.{Ascends};
+ghost use Rattle.dir_walk.specs.Puts.{hidden_in};
+ghost use Rattle.dir_walk.specs.Reports.{IsFromRoot, IsReport};
+ghost use Rattle.dir_walk.specs.WalkRefused.{by_default};
+ghost use Rattle.dir_walk.specs.Walks.{Tells, WalksWorktree};
+ghost use Rattle.worktree_report.specs.Asked.{chosen_of, git_dir_or, current_dir_or, asked_of};
+ghost use Rattle.worktree_report.specs.Reported.{Reports, Texts};
+
+use crate::converted::of_report;
+use crate::excludes::excludes_of;
+use crate::refusal::Refusal;
+use crate::setup::Setup;
+use crate::text::worktree_text;
+use dir_classify::{Context, Error, Options};
+use dir_walk as walk;
+use dir_walk::walk_by_path;
+use gitbase_core::{AccelerateLookup, Bytes, Find, OutOfMemory, PathText};
+use std::alloc::Global;
+use worktree_fs::{Interrupt, Worktree};
+use worktree_stack::Stack;
+
+/// What a walk over a worktree that composes names or not is asked to emit, and how it looks at
+/// paths.
+#[tactic(auto, unfolding(dir_classify::specs::Chosen::chosen))]
+fn options_of(composes: bool, setup: &Setup) -> Options<'_>
+    ensures { chosen result ≡ chosen_of composes setup.now }
+{
+    let options = &setup.options;
+    Options {
+        precompose_unicode: composes,
+        ignore_case: options.ignore_case,
+        recurse_repositories: options.recurse_repositories,
+        emit_pruned: options.emit_pruned,
+        emit_ignored: options.emit_ignored,
+        for_deletion: options.for_deletion,
+        classify_untracked_bare_repositories: options.classify_untracked_bare_repositories,
+        emit_tracked: options.emit_tracked,
+        emit_untracked: options.emit_untracked,
+        emit_empty_directories: options.emit_empty_directories,
+        emit_collapsed: options.emit_collapsed,
+        symlinks_to_directories_are_ignored_like_directories: options.symlinks_to_directories_are_ignored_like_directories,
+        worktree_relative_worktree_dirs: Some(&setup.worktrees),
+    }
+}
+
+/// A look-up of the index where letters compare without regard to their case, as the setup says.
+///
+/// # Errors
+///
+/// Memory was refused.
+pub fn lookup_of(alloc: Global, setup: &Setup) -> Result<Option<AccelerateLookup>, OutOfMemory>
+    ensures lookup { IfOk result (IsLookupIf setup.now.index) }
+    ensures given { IfOk result (λ lookup. is_some lookup ≡ setup.now.options.ignore_case) }
+{
+    if !setup.options.ignore_case {
+        return Ok(None);
+    }
+    Ok(Some(AccelerateLookup::new(alloc, &setup.index)?))
+}
+
+/// The git directory of the work tree at `root`.
+/// See docs/DECISIONS.md#directories-as-bytes.
+fn git_dir_of(alloc: Global, root: &[u8], setup: &Setup) -> Result<PathText, OutOfMemory>
+    ensures { IfOk result (λ path. path ≡ git_dir_or root.now setup.now.git_dir) }
+{
+    if let Some(path) = &setup.git_dir {
+        return PathText::from_bytes(alloc, path.as_bytes());
+    }
+    let mut path = PathText::from_bytes(alloc, root)?;
+    path.push_component(alloc, b".git")?;
+    Ok(path)
+}
+
+/// The current directory.
+/// See docs/DECISIONS.md#directories-as-bytes.
+fn current_dir_of<'a>(root: &'a [u8], setup: &'a Setup) -> &'a [u8]
+    ensures { result.now ≡ current_dir_or root.now setup.now.current_dir }
+{
+    match &setup.current_dir {
+        Some(path) => path.as_bytes(),
+        None => root,
+    }
+}
+
+/// Walks the work tree at `root` as the setup asks for it, with these ignore rules, this look-up of
+/// the index and this git directory.
+fn walk_with<'a, W: Worktree, F: Find, I: Interrupt>(
+    alloc: Global,
+    worktree: &'a mut W,
+    objects: &'a mut F,
+    interrupt: &'a mut I,
+    root: &'a [u8],
+    setup: &'a Setup,
+    excludes: &'a mut Option<Stack>,
+    lookup: &'a Option<AccelerateLookup>,
+    git_dir: &'a [u8],
+) -> Result<walk::Report, Error>
+    requires excludes { tells_excludes (made_with excludes.old) ≡ true }
+    requires lookup { IsLookupIf setup.now.index lookup.now }
+    requires given { is_some lookup.now ≡ setup.now.options.ignore_case }
+    requires git_dir { git_dir.now ≡ git_dir_or root.now setup.now.git_dir }
+    ensures gives { (s : Sources) → Tells W.Worktree F.Find worktree.old objects.old excludes.old s
+        → NotIncreased (W.faults worktree.old) (W.faults worktree.new)
+        → IfOk result (IsReport (asked_of (W.precomposes worktree.old) root.now setup.now)
+        (made_with excludes.old) s setup.now.root setup.now.depth) }
+    ensures ordered { IfOk result (λ r. Ascends r.entries) }
+    ensures counted { IfOk result
+        (λ r. r.outcome.returned_entries ≡ min (length r.entries) (2 ^ 64 - 1)) }
+    ensures seen { IfOk result
+        (λ r. min r.outcome.returned_entries (2 ^ 32 - 1) ≤ r.outcome.seen_entries) }
+    ensures filtered { IfOk result (λ r. hidden_in
+        (chosen_of (W.precomposes worktree.old) setup.now) r.entries ≡ 0) }
+    ensures once { IfOk result (IsFromRoot
+        (asked_of (W.precomposes worktree.old) root.now setup.now) setup.now.root) }
+    ensures walks_worktree { WalksWorktree W.Worktree F.Find I.Interrupt worktree.old worktree.new
+        objects.old objects.new interrupt.old interrupt.new excludes.old excludes.new
+        setup.now.options.strategy (asked_of (W.precomposes worktree.old) root.now setup.now)
+        setup.now.root setup.now.depth by_default (λ r. r.outcome) (λ r. r.root) result }
+{
+    let options = options_of(worktree.precomposes(), setup);
+    let ctx = Context {
+        worktree,
+        objects,
+        interrupt,
+        pathspec: &setup.specs,
+        excludes,
+        index: &setup.index,
+        ignore_case_index_lookup: lookup,
+        git_dir_realpath: git_dir,
+        current_dir: current_dir_of(root, setup),
+        explicit_traversal_root: &setup.root,
+        depth_limit: setup.depth,
+    };
+    walk_by_path(alloc, root, ctx, options, setup.options.strategy)
+}
+
+/// Walks the work tree at `root` as the setup asks for it, with ignore rules that are made for it.
+fn walk_excluding<W: Worktree, F: Find, I: Interrupt>(
+    alloc: Global,
+    worktree: &mut W,
+    objects: &mut F,
+    interrupt: &mut I,
+    root: &[u8],
+    setup: &Setup,
+    lookup: &Option<AccelerateLookup>,
+    git_dir: &[u8],
+) -> Result<walk::Report, Error>
+    requires lookup { IsLookupIf setup.now.index lookup.now }
+    requires given { is_some lookup.now ≡ setup.now.options.ignore_case }
+    requires git_dir { git_dir.now ≡ git_dir_or root.now setup.now.git_dir }
+    ensures { Reports W.Worktree F.Find I.Interrupt worktree.old worktree.new objects.old
+        objects.new interrupt.old interrupt.new root.now setup.now result }
+{
+    let mut excludes = excludes_of(alloc, root, setup)?;
+    walk_with(
+        alloc,
+        worktree,
+        objects,
+        interrupt,
+        root,
+        setup,
+        &mut excludes,
+        lookup,
+        git_dir,
+    )
+}
+
+/// Walks the work tree at `root` as the setup asks for it. Blobs that ignore rules are mapped to
+/// are looked up in `objects`.
+///
+/// # Errors
+///
+/// Those of [`dir_walk::walk`], for the same causes.
+pub fn walk_by_setup<W: Worktree, F: Find, I: Interrupt>(
+    alloc: Global,
+    worktree: &mut W,
+    objects: &mut F,
+    interrupt: &mut I,
+    root: &[u8],
+    setup: &Setup,
+) -> Result<walk::Report, Error>
+    ensures { Reports W.Worktree F.Find I.Interrupt worktree.old worktree.new objects.old
+        objects.new interrupt.old interrupt.new root.now setup.now result }
+{
+    let lookup = lookup_of(alloc, setup)?;
+    let git_dir = git_dir_of(alloc, root, setup)?;
+    walk_excluding(
+        alloc,
+        worktree,
+        objects,
+        interrupt,
+        root,
+        setup,
+        &lookup,
+        git_dir.as_bytes(),
+    )
+}
+
+/// The lines of the report of the work tree at `root`. Blobs that ignore rules are mapped to are
+/// those of the setup. The setup is taken, and not lent, so that its index is not held beside the
+/// text.
+///
+/// # Errors
+///
+/// - `Misread` names what tells of submodules and is outside its grammar; it comes before the walk.
+/// - `Walk` has the cause that the walk names.
+/// - `Fault`: the worktree failed, and counted it.
+/// - `Interrupted`: the interrupt was raised, and counted it.
+/// - `OutOfMemory`: memory was refused.
+pub fn walked_text<W: Worktree, I: Interrupt>(
+    alloc: Global,
+    worktree: &mut W,
+    interrupt: &mut I,
+    root: &[u8],
+    setup: Setup,
+) -> Result<Bytes, Refusal>
+    ensures { Texts W.Worktree I.Interrupt (W.precomposes worktree.old) worktree.old worktree.new
+        interrupt.old interrupt.new root.now setup result }
+{
+    let mut objects = setup.blobs.fork(alloc)?;
+    match worktree_text(alloc, worktree, &mut objects, interrupt, root, setup) {
+        Ok(text) => Ok(text),
+        Err(error) => Err(of_report(alloc, error)?),
+    }
+}

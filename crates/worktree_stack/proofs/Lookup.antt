@@ -1,0 +1,20 @@
+-- A lookup: its way down, what it pops and pushes, and what it asks.
+pub mod Above
+pub mod Arriving
+pub mod Asked
+pub mod Asking
+pub mod Carrying
+pub mod Descent
+pub mod InStep
+pub mod Last
+pub mod LastNames
+pub mod Levels
+pub mod LookCounted
+pub mod LookedOut
+pub mod LookedUp
+pub mod Looking
+pub mod Popping
+pub mod Seeing
+pub mod SeeingOn
+pub mod StackSteps
+pub mod Surplus
