@@ -12,8 +12,10 @@ import argparse
 import contextlib
 import io
 import os
+import re
 import subprocess
 import sys
+import textwrap
 
 from common import HERE, die, run_main, write_whole
 
@@ -56,6 +58,28 @@ def need_difference(git, own, about):
         die("no difference: %r of %r" % (own, about))
 
 
+def paragraph(mark, lines):
+    """The lines of a paragraph of a doc comment, of 100 columns at most."""
+    hang = "  " if lines[0].startswith("- ") else ""
+    return textwrap.wrap(" ".join(lines), 100, initial_indent=mark + " ", subsequent_indent=mark + " " + hang, break_long_words=False, break_on_hyphens=False)
+
+
+def wrapped(table):
+    """The same table, its doc comments at 100 columns at most, but for its first line, which `--check` looks for the version in."""
+    first, *rest = table.split("\n")
+    done, mark, lines = [first], "", []
+    for line in [*rest, None]:
+        found = re.match(r"(//[!/]) +(.+)", line or "")
+        if lines and (not found or found[1] != mark or found[2].startswith("- ")):
+            done += paragraph(mark, lines)
+            lines = []
+        if found:
+            mark, lines = found[1], [*lines, found[2]]
+        elif line is not None:
+            done.append(line)
+    return "\n".join(done)
+
+
 def git_version():
     return git(HERE, "version").decode().strip()
 
@@ -69,7 +93,7 @@ def made(heading, make):
             make()
         except (AssertionError, ValueError, KeyError, AttributeError) as error:
             die("git answered as no case expects: %r" % error)
-    return out.getvalue()
+    return wrapped(out.getvalue())
 
 
 def tables(path, doc, heading, make):

@@ -1,5 +1,4 @@
-//! What git's configurations say in a work tree `/w/r`; made by `scripts/ask-git-includes` with git
-//! version 2.39.5.
+//! What git's configurations say in a work tree `/w/r`; made by `scripts/ask-git-includes` with git version 2.39.5.
 //!
 //! A row has the answer, what is set in the environment, and the steps by which the tree is made,
 //! with `$` in the place of each LF. An answer has each key behind a `|`: what it belongs to, its

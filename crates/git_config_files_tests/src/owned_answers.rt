@@ -1,5 +1,4 @@
-//! Whose repositories are read, and where borders are, as git version 2.39.5 answers; made by
-//! `scripts/ask-git-owners`.
+//! Whose repositories are read, and where borders are, as git version 2.39.5 answers; made by `scripts/ask-git-owners`.
 
 /// What git answers, what is set, who owns what, and the steps of a tree.
 pub const ANSWERS: &[u8] = b"\

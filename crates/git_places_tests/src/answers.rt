@@ -1,5 +1,4 @@
-//! Where git finds work trees and their repositories; made by `scripts/ask-git-places` with git
-//! version 2.39.5.
+//! Where git finds work trees and their repositories; made by `scripts/ask-git-places` with git version 2.39.5.
 //!
 //! A row has the answer, the directory, the ceilings or `-`, and the steps by which the tree is
 //! made, with `~` in the place of each LF. An answer has `found`, whether a configuration of the

@@ -1,5 +1,4 @@
-//! The setups of work trees, and what path specs mean in one; made by `scripts/ask-git-setups` with
-//! git version 2.39.5.
+//! The setups of work trees, and what path specs mean in one; made by `scripts/ask-git-setups` with git version 2.39.5.
 //!
 //! A row has the setup, the directory in which it is asked for, the options, and the steps by which
 //! the tree is made, with `$` in the place of each LF: `d` is a directory, `f` a file with its

@@ -1,7 +1,8 @@
 //! What git answers of attributes and paths; made by `scripts/ask-git-attributes` with git version 2.39.5.
 //!
-//! A row has the attributes with their states, in the table of differences those of the definitions; then the path, and what four
-//! files say, with `|` in the place of each LF: the user's, that of the root, the information file, and that of the directory `d`.
+//! A row has the attributes with their states, in the table of differences those of the
+//! definitions; then the path, and what four files say, with `|` in the place of each LF: the
+//! user's, that of the root, the information file, and that of the directory `d`.
 
 /// Where case counts.
 pub const ANSWERS: &[u8] = b"\
@@ -162,11 +163,14 @@ M=set,a=set,m=set;f;;[attr]M a|F M m;;\n\
 
 /// What the definitions say where git answers otherwise:
 ///
-/// - git puts the information file above those of directories; here it is above that of the root alone
+/// - git puts the information file above those of directories; here it is above that of the root
+///   alone
 /// - git skips a whole line where one word says nothing of a name; here that word alone
 /// - git drops the value of `-a=v` and `!a=v`; here such a word says nothing
-/// - git knows all escapes of C between quotes; here a line with another than `\"` and `\\` says nothing
-/// - git reads a pattern as it stands where its quote is not closed, or it has an escape that C has not; here the line says nothing
+/// - git knows all escapes of C between quotes; here a line with another than `\"` and `\\` says
+///   nothing
+/// - git reads a pattern as it stands where its quote is not closed, or it has an escape that C has
+///   not; here the line says nothing
 /// - git drops a CR at the end of a last line without LF; here a CR is dropped only before an LF
 /// - git takes a CR between words as a blank; here it is a byte like any other
 /// - git skips lines of 2048 bytes and more; here they are like any other

@@ -1,7 +1,8 @@
 //! What git answers of configuration files; made by `scripts/ask-git-config` with git version 2.39.5.
 //!
-//! A row has the answer, the section, `-` or a double quote with the subsection, the key, and the text of the file, with `~`
-//! in the place of each LF. An answer has each value behind a `|`, or the line of a text that is refused behind a `!`.
+//! A row has the answer, the section, `-` or a double quote with the subsection, the key, and the
+//! text of the file, with `~` in the place of each LF. An answer has each value behind a `|`, or
+//! the line of a text that is refused behind a `!`.
 
 /// All values of a key.
 pub const ANSWERS: &[u8] = b"\
@@ -179,13 +180,15 @@ error^a^-^k^[a]~k = x~\n\
 /// - git refuses a comment behind a key without a value; here it may stand there
 /// - git writes a space for a tab within a value; here the tab stays
 /// - git drops blanks behind an empty quote that begins a value; here they belong to the value
-/// - git keeps the blanks at the end of a value's line before its last one; here the blanks at its end are dropped whole
+/// - git keeps the blanks at the end of a value's line before its last one; here the blanks at its
+///   end are dropped whole
 /// - git lets a quote go on over a backslash at the line's end; here it is closed on its line
 /// - git names the line behind the one that lacks its bracket; here it is the header's
 /// - git counts a line behind a text that ends in a quote; here it is the line of the quote
 /// - git drops the CR of a last line without LF; here a CR is dropped only before an LF
 /// - git skips a CR at the start of a line; here it is no blank
-/// - git takes a NUL in a subsection, and ends the name of a key before it; here a NUL may not stand there
+/// - git takes a NUL in a subsection, and ends the name of a key before it; here a NUL may not
+///   stand there
 /// - git ends a value before a NUL; here the NUL stays
 pub const DIFFERENCES: &[u8] = b"\
 =>!1^a^-^k^k = v~\n\

@@ -1,7 +1,8 @@
 //! What git answers of rules and paths; made by `scripts/ask-git-ignore` with git version 2.39.5.
 //!
-//! A row has the line that decides, or 0; in the tables of differences `/` and the line that the definitions name; then
-//! `d` or `f` for a directory or a file, the path, and the rules with `|` in the place of each LF.
+//! A row has the line that decides, or 0; in the tables of differences `/` and the line that the
+//! definitions name; then `d` or `f` for a directory or a file, the path, and the rules with `|` in
+//! the place of each LF.
 
 /// Where case counts, for rules of the root.
 pub const ANSWERS: &[u8] = b"\
@@ -363,7 +364,8 @@ pub const BENEATH: &[u8] = b"\
 ///
 /// - the same at the end of a rule: git lets them take slashes
 ///
-/// - git takes `**` before `/` as `**/` after other bytes too, against its manual; here it is a run like any other
+/// - git takes `**` before `/` as `**/` after other bytes too, against its manual; here it is a run
+///   like any other
 ///
 /// - git's `space` lacks the vertical tab and the form feed; here it is that of POSIX
 ///
@@ -371,7 +373,8 @@ pub const BENEATH: &[u8] = b"\
 ///
 /// - git tries the lower end of a range as a member too; here ends turned round leave nothing
 ///
-/// - git reads `\\` before a last space as a whole escape and drops the space; here the byte before decides
+/// - git reads `\\` before a last space as a whole escape and drops the space; here the byte before
+///   decides
 ///
 /// - git drops the CR of a last line without LF; here a CR is dropped only before an LF
 ///
@@ -396,7 +399,8 @@ pub const DIFFERENCES: &[u8] = b"\
 ///
 /// - git does not fold an escaped letter; here it is a byte like any other
 ///
-/// - git compares a single byte of a class in upper case with the lowered text; here a class has both cases
+/// - git compares a single byte of a class in upper case with the lowered text; here a class has
+///   both cases
 pub const FOLDED_DIFFERENCES: &[u8] = b"\
 0/1;f;a;\\A\n\
 0/1;f;A;\\A\n\
@@ -406,7 +410,8 @@ pub const FOLDED_DIFFERENCES: &[u8] = b"\
 
 /// Where git answers otherwise, for rules of the directory `sub`:
 ///
-/// - git asks a directory's rules of the paths beneath it alone; here a rule by the last component knows no directory
+/// - git asks a directory's rules of the paths beneath it alone; here a rule by the last component
+///   knows no directory
 pub const BENEATH_DIFFERENCES: &[u8] = b"\
 0/1;f;a;a\n\
 0/1;f;x/a;a\n\

@@ -82,7 +82,8 @@ refused`lib`[submodule]&active =&\n\
 ///
 /// - git matches the path of a submodule; here its name is matched, as gitoxide has it
 /// - git refuses a url without a value; here it is set, and empty
-/// - git does not look at `submodule.active` where the submodule has a value of its own; here each of its values is a path spec
+/// - git does not look at `submodule.active` where the submodule has a value of its own; here each
+///   of its values is a path spec
 pub const ACTIVE_DIFFERENCES: &[u8] = b"\
 active=>inactive`m`[submodule]&active = lib&\n\
 inactive=>active`m`[submodule]&active = m&\n\
@@ -133,7 +134,8 @@ taken`url`./-u\n\
 /// The same, where git answers otherwise:
 ///
 /// - git passes over a path or a url that begins with `-`, with a warning; here it is given
-/// - git looks at no more of a path or a url; here neither is empty, and a path leads into the work tree
+/// - git looks at no more of a path or a url; here neither is empty, and a path leads into the work
+///   tree
 pub const FIELD_DIFFERENCES: &[u8] = b"\
 refused=>taken`path`-a\n\
 refused=>taken`url`-u\n\
@@ -166,8 +168,10 @@ a b`[Submodule \"a b\"]&Path = \"lib\"&\n\
 
 /// The same, where git answers otherwise:
 ///
-/// - of two submodules with one path git takes the later one; here the first one is it, as gitoxide has it
-/// - git passes over a name that is empty or has a component `..`, and has `none`; here any text is a name
+/// - of two submodules with one path git takes the later one; here the first one is it, as gitoxide
+///   has it
+/// - git passes over a name that is empty or has a component `..`, and has `none`; here any text is
+///   a name
 pub const NAME_DIFFERENCES: &[u8] = b"\
 n=>m`[submodule \"m\"]&path = lib&[submodule \"n\"]&path = lib&\n\
 none=>`[submodule \"\"]&path = lib&\n\

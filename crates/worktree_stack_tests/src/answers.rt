@@ -1,5 +1,4 @@
-//! What git answers of paths in work trees with several rules files; made by
-//! `scripts/ask-git-nested` with git version 2.39.5.
+//! What git answers of paths in work trees with several rules files; made by `scripts/ask-git-nested` with git version 2.39.5.
 //!
 //! A row has the line that decides, or 0; its sign; the file that it stands in; `d` or `f` for a
 //! directory or a file; the path; and the rules files, each as its path, `=` and its rules with `|`
