@@ -4,7 +4,7 @@ use Rattle.std.specs.FinMap.{empty}
 use Rattle.std.specs.List.{list_all}
 use Rattle.gitbase_core.specs.Path.{components}
 use Rattle.gitbase_core.specs.declared.find.Find.{Ghosts as FindOf}
-use Rattle.git_places.specs.Answers.{GivesBy}
+use Rattle.git_places.specs.Answers.{IsFoundOrFailed}
 use Rattle.worktree_fs.specs.declared.worktree.Worktree.{Ghosts as WorktreeOf}
 use Rattle.worktree_fs.specs.Causes.{Increased}
 use Rattle.worktree_fs.specs.Kept.{Asks}
@@ -15,7 +15,7 @@ use Rattle.worktree_stack.specs.LooksUp.{Leaves, LooksUp}
 use Rattle.worktree_stack.specs.Lookups.{IsLookedUp}
 use Rattle.worktree_stack.specs.Reading.{Refusal, Sources, Tells, is_read, reading, rulebook}
 use Rattle.worktree_stack.specs.Refused.{OfAncestor, Refuses}
-use Rattle.worktree_stack.specs.Setup.{Made}
+use Rattle.worktree_stack.specs.Setup.{StackSetup}
 use Rattle.worktree_stack.specs.Stacked.{IsInStep, Stacked, made_of, pushed}
 use Rattle.worktree_stack.specs.declared.error.AtPathError.{AtPathError}
 use Rattle.worktree_stack.specs.declared.error.AtPathError.TheVariants as errors
@@ -58,12 +58,12 @@ and-right : (a b : Bool) → b ≡ false → (a && b) ≡ false
 and-right true b e = e
 and-right false b e = refl
 
-read-at : (t : Names) (s : Stacked) (made : Made) (path : List ℕ) → made_of s ≡ made → IsInStep (sources t) s → IsLookedUp s (components path) → are_read made (sources t) (components path) ≡ true
+read-at : (t : Names) (s : Stacked) (made : StackSetup) (path : List ℕ) → made_of s ≡ made → IsInStep (sources t) s → IsLookedUp s (components path) → are_read made (sources t) (components path) ≡ true
 read-at t s made path made_is step at =
-    let read : Made → List (List (List ℕ)) → Bool = λ m directories. list_all (λ directory. is_read (reading m (sources t) (spelled directory))) directories in
+    let read : StackSetup → List (List (List ℕ)) → Bool = λ m directories. list_all (λ directory. is_read (reading m (sources t) (spelled directory))) directories in
     let now : read (made_of s) (pushed s.at) ≡ true = step.are_read in
     let all : read (made_of s) (fronts (all_but_last (components path))) ≡ true = ap (λ (a : Option (List (List ℕ))). read (made_of s) (pushed a)) (sym at.at) ∙ now in
-    ap (λ (m : Made). read m (fronts (all_but_last (components path)))) (sym made_is) ∙ all
+    ap (λ (m : StackSetup). read m (fronts (all_but_last (components path)))) (sym made_is) ∙ all
 
 pub read-answered : {W F : Type 0} {w : WorktreeOf W} {f : FindOf F} {w0 w1 : W} {o0 o1 : F} {path : List ℕ} {kind : Option Bool} {old new : Stacked} {T : Type 0} {done : T}
     → (t : Names) → w.told w0 ≡ Some t → f.holds o0 ≡ Some empty → IsInStep (sources t) old
@@ -97,18 +97,18 @@ all-front p (name ∷ names) (x ∷ front) rest e fails =
     and-right (p []) (list_all p (map (λ f. name ∷ f) (fronts names)))
     (all-map p (λ f. name ∷ f) (fronts names) ∙ all-front (λ f. p (name ∷ f)) names front rest (tail_is e) (ap (λ (n : List ℕ). p (n ∷ front)) (head_is e) ∙ fails))
 
-unread-above : (t : Names) (made : Made) (path : List ℕ) (refusal : Refusal) (Holds : List ℕ → Type 0) → OfAncestor (components path) Holds
+unread-above : (t : Names) (made : StackSetup) (path : List ℕ) (refusal : Refusal) (Holds : List ℕ → Type 0) → OfAncestor (components path) Holds
     → ((d : List ℕ) → Holds d → reading made (sources t) d ≡ Err refusal) → is_read_in t made path ≡ false
 unread-above t made path refusal Holds h is =
     and-right (is_normal path) (are_read made (sources t) (components path))
     (all-front (λ directory. is_read (reading made (sources t) (spelled directory))) (all_but_last (components path)) h.ancestor h.rest h.above (ap is_read (is (spelled h.ancestor) h.holds)))
 
 -- what comes of such a path
-unread-is : (t : Names) (made : Made) (a : AskedPath) (is_dir : Bool) → is_read_in t made a.path ≡ false → looked_up t made a is_dir ≡ Err (stops.Unread a.text)
+unread-is : (t : Names) (made : StackSetup) (a : AskedPath) (is_dir : Bool) → is_read_in t made a.path ≡ false → looked_up t made a is_dir ≡ Err (stops.Unread a.text)
 unfolding looked_up
 unread-is t made a is_dir e = ap (λ (b : Bool). if b then Ok (rule_in t made a.path is_dir) else Err (stops.Unread a.text)) e
 
-pub read-is : (t : Names) (made : Made) (a : AskedPath) (is_dir : Bool) (rule : Option FoundRule) → is_read_in t made a.path ≡ true → rule ≡ rule_in t made a.path is_dir → looked_up t made a is_dir ≡ Ok rule
+pub read-is : (t : Names) (made : StackSetup) (a : AskedPath) (is_dir : Bool) (rule : Option FoundRule) → is_read_in t made a.path ≡ true → rule ≡ rule_in t made a.path is_dir → looked_up t made a is_dir ≡ Ok rule
 unfolding looked_up
 read-is t made a is_dir rule e is = ap (λ (b : Bool). if b then Ok (rule_in t made a.path is_dir) else Err (stops.Unread a.text)) e ∙ ap Ok (sym is)
 
@@ -127,14 +127,14 @@ gives-read {old = old} {new = new} t a is_dir rule platform told holds step kind
     let is = now (sources t) (h.in_step (sources t) tells step) a.path h.looked_up in
     read-is t (made_of old) a is_dir rule (read-answered t told holds step h)
     (is
-    ∙ ap (λ (m : Made). option_map found_by (exclude (rulebook m (sources t)) (components a.path) new.is_dir)) h.made
+    ∙ ap (λ (m : StackSetup). option_map found_by (exclude (rulebook m (sources t)) (components a.path) new.is_dir)) h.made
     ∙ ap (λ (d : Option Bool). option_map found_by (exclude (rulebook (made_of old) (sources t)) (components a.path) d)) (h.is_dir ∙ kind_is))
 
-abbrev Stopped : Names → Made → AskedPath → Bool → AtPathError → Type 0
-Stopped t made a is_dir e = GivesBy {A = Option FoundRule} stops.Fault stops.OutOfMemory (Err (stop_of a.text e)) (looked_up t made a is_dir)
+abbrev Stopped : Names → StackSetup → AskedPath → Bool → AtPathError → Type 0
+Stopped t made a is_dir e = IsFoundOrFailed {A = Option FoundRule} stops.Fault stops.OutOfMemory (Err (stop_of a.text e)) (looked_up t made a is_dir)
 
 -- a refused lookup of a path that is normal
-stopped-by : (t : Names) (made : Made) (a : AskedPath) (is_dir : Bool) (told : Option Names) (holds : _) (TreeFailed StoreFailed : Type 0) (e : AtPathError) → Tells told holds (sources t)
+stopped-by : (t : Names) (made : StackSetup) (a : AskedPath) (is_dir : Bool) (told : Option Names) (holds : _) (TreeFailed StoreFailed : Type 0) (e : AtPathError) → Tells told holds (sources t)
     → Refuses told holds TreeFailed StoreFailed made (components a.path) e → Stopped t made a is_dir e
 stopped-by t made a is_dir told holds TreeFailed StoreFailed errors.NotNormal tells refused = absurd refused
 stopped-by t made a is_dir told holds TreeFailed StoreFailed (errors.Component why) tells refused = absurd refused
@@ -172,7 +172,7 @@ stopped-refused {T = T} {w = w} {f = f} {w0 = w0} {w1 = w1} {o0 = o0} {o1 = o1} 
 
 -- ---- a fault has its cause
 
-cause-by : (text : List ℕ) (names : List (List ℕ)) (made : Made) (told : Option Names) (holds : _) (TreeFailed StoreFailed : Type 0) (e : AtPathError) → (StoreFailed → ⊥)
+cause-by : (text : List ℕ) (names : List (List ℕ)) (made : StackSetup) (told : Option Names) (holds : _) (TreeFailed StoreFailed : Type 0) (e : AtPathError) → (StoreFailed → ⊥)
     → Refuses told holds TreeFailed StoreFailed made names e → stop_of text e ≡ stops.Fault → TreeFailed
 cause-by text names made told holds TreeFailed StoreFailed errors.NotNormal none refused is = absurd refused
 cause-by text names made told holds TreeFailed StoreFailed (errors.Component why) none refused is = absurd refused

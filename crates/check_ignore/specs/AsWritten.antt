@@ -33,9 +33,9 @@ begins_with_star [] = false
 begins_with_star (b ∷ rest) = if b == 33 then is_star rest else b == 42
 
 -- the text of a rule that stands in a line
-abbrev pub written : List ℕ → List ℕ → List ℕ
-written line [] = []
-written line (b ∷ rest) = if b == 63 then (if begins_with_star line then rest else b ∷ rest) else b ∷ rest
+abbrev pub strip_added_question_mark : List ℕ → List ℕ → List ℕ
+strip_added_question_mark line [] = []
+strip_added_question_mark line (b ∷ rest) = if b == 63 then (if begins_with_star line then rest else b ∷ rest) else b ∷ rest
 
 -- ---- a rule outside the work tree
 
@@ -49,7 +49,7 @@ bytes_named outer source = option_or (bytes_if_named source outer.repository) (b
 
 abbrev pub text_in : FoundRule → Option (List ℕ) → List ℕ
 text_in rule None = rule.text
-text_in rule (Some bytes) = written (line_in bytes rule.line) rule.text
+text_in rule (Some bytes) = strip_added_question_mark (line_in bytes rule.line) rule.text
 
 abbrev pub with_text : FoundRule → List ℕ → FoundRule
 with_text rule text = record rule { text = text }

@@ -11,7 +11,7 @@ use Rattle.worktree_fs.specs.Paths.{all_but_last, fronts, is_normal, spelled}
 use Rattle.worktree_fs.specs.Tree.{Names}
 use Rattle.worktree_stack.specs.Excludes.{Decision, exclude}
 use Rattle.worktree_stack.specs.Reading.{Sources, is_read, reading, rulebook}
-use Rattle.worktree_stack.specs.Setup.{Made}
+use Rattle.worktree_stack.specs.Setup.{StackSetup}
 use Rattle.worktree_stack.specs.declared.error.AtPathError.{AtPathError}
 use Rattle.worktree_stack.specs.declared.error.AtPathError.TheVariants as lookups
 use Rattle.worktree_stack.specs.declared.error.BlobWhy.{BlobWhy}
@@ -58,18 +58,18 @@ abbrev pub sources : Names → Sources
 sources t = record { tree = t; objects = empty }
 
 -- the rules files of the directories above a path are read
-abbrev pub are_read : Made → Sources → List (List ℕ) → Bool
+abbrev pub are_read : StackSetup → Sources → List (List ℕ) → Bool
 are_read made s names = list_all (λ directory. is_read (reading made s (spelled directory))) (fronts (all_but_last names))
 
-abbrev pub is_read_in : Names → Made → List ℕ → Bool
+abbrev pub is_read_in : Names → StackSetup → List ℕ → Bool
 is_read_in t made path = is_normal path && are_read made (sources t) (components path)
 
 -- the rule that decides about a path, by all rules of the directories above it and of those outside the work tree
-abbrev pub rule_in : Names → Made → List ℕ → Bool → Option FoundRule
+abbrev pub rule_in : Names → StackSetup → List ℕ → Bool → Option FoundRule
 rule_in t made path is_dir = option_map found_by (exclude (rulebook made (sources t)) (components path) (Some is_dir))
 
 -- the same, if these are read
-unfoldable pub looked_up : Names → Made → AskedPath → Bool → Result (Option FoundRule) Stop
+unfoldable pub looked_up : Names → StackSetup → AskedPath → Bool → Result (Option FoundRule) Stop
 looked_up t made a is_dir = if is_read_in t made a.path then Ok (rule_in t made a.path is_dir) else Err (stops.Unread a.text)
 
 -- a path is that of a directory: it asks for one, or one stands there
@@ -84,8 +84,8 @@ excludes (Some rule) = not rule.is_negative
 abbrev pub wants_more : AskedPath → Option FoundRule → Bool
 wants_more a rule = a.names_directory && (is_empty a.path || not (excludes rule))
 
-abbrev pub unless_slash : AskedPath → Option FoundRule → Result (Option FoundRule) Stop
-unless_slash a rule = if wants_more a rule then Err (stops.Slash a.text) else Ok rule
+abbrev pub refuse_unexcluded_directory : AskedPath → Option FoundRule → Result (Option FoundRule) Stop
+refuse_unexcluded_directory a rule = if wants_more a rule then Err (stops.Slash a.text) else Ok rule
 
 -- that no rule excludes all
 abbrev pub unless_excluded : AskedPath → Option RulePlace → Result Bool Stop
@@ -93,15 +93,15 @@ unless_excluded a None = Ok true
 unless_excluded a (Some place) = Err (stops.Everything a.text place.file place.line)
 
 -- A rule that excludes a path without a name would exclude the top too, and all beneath it: this is not answered.
-abbrev pub unless_all : OuterRules → Checking → AskedPath → Result Bool Stop
-unless_all outer c a = unless_excluded a (all_excluder outer c.ignore_case)
+abbrev pub refuse_rule_excluding_top : OuterRules → Checking → AskedPath → Result Bool Stop
+refuse_rule_excluding_top outer c a = unless_excluded a (all_excluder outer c.ignore_case)
 
 -- the rule that decides about a path that the index does not have
 unfoldable pub ruled : Names → List ℕ → List IndexEntry → OuterRules → Checking → AskedPath → Result (Option FoundRule) Stop
 ruled t root index outer c a = do
-  some ← unless_all outer c a
+  some ← refuse_rule_excluding_top outer c a
   rule ← looked_up t (made root index outer c.ignore_case) a (is_dir_in t root a)
-  unless_slash a (as_written outer rule)
+  refuse_unexcluded_directory a (as_written outer rule)
 
 -- no rule decides about what the index has
 abbrev pub rule_of : Names → List ℕ → List IndexEntry → OuterRules → Checking → AskedPath → Result (Option FoundRule) Stop
@@ -111,9 +111,9 @@ rule_of t root index outer c a = if is_tracked index a.spec then Ok None else ru
 abbrev pub counted_one : Checking → FoundRule → Option FoundRule
 counted_one c rule = if rule.is_negative && not c.verbose then None else Some rule
 
-abbrev pub counted : Checking → Option FoundRule → Option FoundRule
-counted c None = None
-counted c (Some rule) = counted_one c rule
+abbrev pub drop_negative_unless_verbose : Checking → Option FoundRule → Option FoundRule
+drop_negative_unless_verbose c None = None
+drop_negative_unless_verbose c (Some rule) = counted_one c rule
 
 -- ---- refused lookups
 

@@ -68,13 +68,13 @@ abbrev pub is_anchored_at : List ℕ → ℕ → Bool
 is_anchored_at text number = is_anchored_if (slice_get (text_lines (without_mark text)) (number - 1))
 
 -- a mark, where it stands
-abbrev pub mark : Bool → List ℕ → List ℕ
-mark there bytes = if there then bytes else []
+abbrev pub bytes_if_present : Bool → List ℕ → List ℕ
+bytes_if_present there bytes = if there then bytes else []
 
 -- the pattern with the marks around it
 abbrev pub pattern_text : FoundRule → Bool → List ℕ
 pattern_text rule anchored =
-    mark rule.is_negative (codes "!") ++ mark anchored (codes "/") ++ rule.text ++ mark rule.must_be_dir (codes "/")
+    bytes_if_present rule.is_negative (codes "!") ++ bytes_if_present anchored (codes "/") ++ rule.text ++ bytes_if_present rule.must_be_dir (codes "/")
 
 abbrev pub pattern_in : Names → OuterRules → FoundRule → List ℕ
 pattern_in t outer rule = pattern_text rule (is_anchored_at (list_text t outer rule) rule.line)

@@ -54,12 +54,12 @@ beyond t root path = links_in t root (directories path)
 abbrev pub unless_link : AskedPath → Bool → Result AskedPath Stop
 unless_link a there = if there then Err (stops.Beyond a.text) else Ok a
 
-abbrev pub unless_beyond : Names → List ℕ → AskedPath → Result AskedPath Stop
-unless_beyond t root a = and_then (unless_link a) (beyond t root (named a.path a.names_directory))
+abbrev pub refuse_path_behind_link : Names → List ℕ → AskedPath → Result AskedPath Stop
+refuse_path_behind_link t root a = and_then (unless_link a) (beyond t root (named a.path a.names_directory))
 
 -- a path that is asked about in the directory `prefix`, unless a link stands above it
 abbrev pub asked_in : Names → List ℕ → List ℕ → List ℕ → Result AskedPath Stop
-asked_in t root prefix text = and_then (unless_beyond t root) (asked_of root prefix text)
+asked_in t root prefix text = and_then (refuse_path_behind_link t root) (asked_of root prefix text)
 
 -- some such paths behind others, or the first that is refused
 abbrev pub asked_after : Names → List ℕ → List ℕ → List AskedPath → List (List ℕ) → Result (List AskedPath) Stop

@@ -1,10 +1,10 @@
 -- Ignore rules, and what a stack of them is made with: gitignore(5).
 use Rattle.std.specs.Prelude.{ℕ, List, [], ◌∷◌, ◌++◌, Bool, true, false, codes, Option, Some, None, unwrap_or, if◌then◌else◌}
-use Rattle.git_setup.specs.BelowTop.{rules_below_top}
+use Rattle.git_setup.specs.BelowTop.{exempt_top_from_star_rules}
 use Rattle.gitbase_core.specs.declared.entry.IndexEntry.{IndexEntry}
 use Rattle.glob_rules.specs.Ignore.{Hit, Rules, entries, search_hit}
 use Rattle.worktree_stack.specs.Mappings.{case_of, mappings_in}
-use Rattle.worktree_stack.specs.Setup.{Setup, Made}
+use Rattle.worktree_stack.specs.Setup.{Setup, StackSetup}
 use Rattle.worktree_stack.specs.declared.ignore_source.Source.TheVariants.{WorktreeThenIdMappingIfNotSkipped}
 use Rattle.check_ignore.specs.declared.options.NamedRules.{NamedRules}
 use Rattle.check_ignore.specs.declared.options.OuterRules.{OuterRules}
@@ -12,7 +12,7 @@ use Rattle.check_ignore.specs.declared.found_rule.RulePlace.{RulePlace}
 
 -- the rules of a file outside the work tree: they are for every path beneath the top
 abbrev pub list_of : NamedRules → Rules
-list_of given = record { entries = entries false (rules_below_top given.bytes); source = Some given.name; base = [] }
+list_of given = record { entries = entries false (exempt_top_from_star_rules given.bytes); source = Some given.name; base = [] }
 
 abbrev pub lists_of : Option NamedRules → List Rules
 lists_of None = []
@@ -52,7 +52,7 @@ rules_of outer =
     }
 
 -- what the rules of the work tree at `root` are made with; skipped rules files are mapped to the blobs that the index has for them
-abbrev pub made_of : List ℕ → List IndexEntry → OuterRules → Bool → Made
+abbrev pub made_of : List ℕ → List IndexEntry → OuterRules → Bool → StackSetup
 made_of root index outer ignore_case =
     record {
       root = root;

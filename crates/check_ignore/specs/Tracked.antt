@@ -31,8 +31,8 @@ is_tracked index spec = list_any (takes_entry spec) index
 abbrev pub is_whole_directory : IndexEntry → Bool
 is_whole_directory e = mode_bits e.mode == dir_mode
 
-abbrev pub not_sparse : List IndexEntry → Result Bool Stop
-not_sparse index = if list_any is_whole_directory index then Err stops.SparseIndex else Ok true
+abbrev pub refuse_sparse_index : List IndexEntry → Result Bool Stop
+refuse_sparse_index index = if list_any is_whole_directory index then Err stops.SparseIndex else Ok true
 
 -- a path lies in the submodule of an entry
 abbrev pub lies_in : IndexEntry → AskedPath → Bool
@@ -51,6 +51,6 @@ and_rest (Ok outside) rest = rest
 and_rest (Err e) rest = Err e
 
 -- no path lies in a submodule; else it is told of the first submodule of the index in which one does
-abbrev pub outside_modules : List AskedPath → List IndexEntry → Result Bool Stop
-outside_modules asked [] = Ok true
-outside_modules asked (e ∷ entries) = and_rest (outside_of asked e) (outside_modules asked entries)
+abbrev pub refuse_paths_in_submodules : List AskedPath → List IndexEntry → Result Bool Stop
+refuse_paths_in_submodules asked [] = Ok true
+refuse_paths_in_submodules asked (e ∷ entries) = and_rest (outside_of asked e) (refuse_paths_in_submodules asked entries)

@@ -5,8 +5,8 @@ use Rattle.check_ignore.specs.declared.quotes.Meant.{Meant}
 
 -- the byte that a letter behind a backslash means: `a`, `b`, `t`, `n`, `v`, `f`, `r` the bytes from 7 to 13, the quote and the backslash
 -- themselves
-abbrev pub letter : ℕ → Option ℕ
-letter c =
+abbrev pub unescape_letter : ℕ → Option ℕ
+unescape_letter c =
     if c == 97 then Some 7
     else if c == 98 then Some 8
     else if c == 116 then Some 9
@@ -46,7 +46,7 @@ by_letter first rest (Some byte) = meant_by 2 (Some byte)
 -- behind a backslash a letter, or three octal digits
 abbrev pub escape_at : List ℕ → Option Meant
 escape_at [] = None
-escape_at (first ∷ rest) = by_letter first rest (letter first)
+escape_at (first ∷ rest) = by_letter first rest (unescape_letter first)
 
 -- what is meant first between quotes: behind a backslash another byte, and else the byte that stands there
 abbrev pub meant_at : List ℕ → Option Meant

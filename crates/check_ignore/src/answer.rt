@@ -4,13 +4,13 @@ ghost use Rattle.check_ignore.specs.Checked as words;
 ghost use Rattle.check_ignore.specs.Finds.{Finds};
 
 use crate::asked::AskedPath;
-use crate::decision::{counted, rule_of};
+use crate::decision::{drop_negative_unless_verbose, rule_of};
 use crate::found_rule::FoundRule;
 use crate::line::line;
 use crate::links::all_asked;
-use crate::options::{Checking, OuterRules};
+use crate::options::{CheckContext, Checking, OuterRules};
 use crate::stop::Stop;
-use crate::tracked::{not_sparse, outside_modules};
+use crate::tracked::{refuse_paths_in_submodules, refuse_sparse_index};
 use gitbase_core::{Bytes, OutOfMemory, State as Index};
 use std::alloc::Global;
 use worktree_fs::Worktree;
@@ -45,7 +45,7 @@ pub fn add_answer(alloc: Global, done: &mut Answered, now: &Answered) -> Result<
 }
 
 /// What is answered of a path by the rule that decides about it.
-fn said<W: Worktree>(
+fn answer_by_rule<W: Worktree>(
     alloc: Global,
     worktree: &mut W,
     root: &[u8],
@@ -54,7 +54,8 @@ fn said<W: Worktree>(
     asked: &AskedPath,
     rule: &Option<FoundRule>,
 ) -> Result<Answered, Stop>
-    ensures { Finds W.Worktree worktree.old worktree.new (λ t. Ok (words.said t root.now outer.now
+    ensures { Finds W.Worktree worktree.old worktree.new (λ t. Ok (words.answer_by_rule t root.now
+        outer.now
         checking.now asked.now rule.now)) result }
 {
     let path = asked.text.as_bytes();
@@ -80,8 +81,8 @@ fn answer_of<W: Worktree>(
         outer.now checking.now asked.now) result }
 {
     let rule = rule_of(alloc, worktree, root, index, outer, checking, asked)?;
-    let rule = counted(checking, rule);
-    said(alloc, worktree, root, outer, checking, asked, &rule)
+    let rule = drop_negative_unless_verbose(checking, rule);
+    answer_by_rule(alloc, worktree, root, outer, checking, asked, &rule)
 }
 
 /// What is answered of some paths.
@@ -105,9 +106,8 @@ fn answers<W: Worktree>(
     Ok(done)
 }
 
-/// What `git check-ignore` prints of `paths`, each as it was written in the directory `prefix` of
-/// the work tree at `root`, and whether it ends with 0. With `--no-index` the index is to be an
-/// empty one. The words have to be some that there are, which [`wrong_in`](crate::wrong_in) tests.
+/// What `git check-ignore` prints of `paths`, each as it was written in a directory of a work tree,
+/// and whether it ends with 0. The words have to be some that there are, which [`wrong_in`](crate::wrong_in) tests.
 ///
 /// Each path is looked up by itself: the rules files above it are read anew, and with `-v` the file
 /// of the rule that decides once more, as git writes the pattern as its line has it. The index is
@@ -136,19 +136,24 @@ fn answers<W: Worktree>(
 pub fn check_ignore<W: Worktree>(
     alloc: Global,
     worktree: &mut W,
-    root: &[u8],
-    prefix: &[u8],
-    index: &Index,
-    outer: &OuterRules,
-    checking: &Checking,
+    context: &CheckContext<'_>,
     paths: &[Bytes],
 ) -> Result<Answered, Stop>
-    ensures { Finds W.Worktree worktree.old worktree.new (λ t. words.checked t root.now prefix.now
-        index.now outer.now checking.now paths.now) result }
+    ensures { Finds W.Worktree worktree.old worktree.new (λ t. words.checked t context.now.root.now
+        context.now.prefix.now context.now.index.now context.now.outer.now
+        context.now.checking.now paths.now) result }
 {
-    not_sparse(index.entries())?;
-    let asked = all_asked(alloc, worktree, root, prefix, paths)?;
+    refuse_sparse_index(context.index.entries())?;
+    let asked = all_asked(alloc, worktree, context.root, context.prefix, paths)?;
     let each = asked.as_slice();
-    outside_modules(alloc, each, index.entries())?;
-    answers(alloc, worktree, root, index, outer, checking, each)
+    refuse_paths_in_submodules(alloc, each, context.index.entries())?;
+    answers(
+        alloc,
+        worktree,
+        context.root,
+        context.index,
+        context.outer,
+        context.checking,
+        each,
+    )
 }

@@ -31,8 +31,8 @@ fn begins_with_star(line: &[u8]) -> bool
 }
 
 /// The text of a rule that stands in a line: a rule of stars alone is asked with a `?` in front.
-fn written<'a>(line: &[u8], text: &'a [u8]) -> &'a [u8]
-    ensures { result.now ≡ words.written line.now text.now }
+fn strip_added_question_mark<'a>(line: &[u8], text: &'a [u8]) -> &'a [u8]
+    ensures { result.now ≡ words.strip_added_question_mark line.now text.now }
 {
     match text {
         [b'?', rest @ ..] if begins_with_star(line) => rest,
@@ -66,7 +66,7 @@ fn outer_text<'a>(outer: &OuterRules, rule: &'a FoundRule) -> &'a [u8]
 {
     let text = rule.text.as_bytes();
     match bytes_named(outer, rule.source.as_bytes()) {
-        Some(bytes) => written(line_in(bytes, rule.line), text),
+        Some(bytes) => strip_added_question_mark(line_in(bytes, rule.line), text),
         None => text,
     }
 }

@@ -54,12 +54,12 @@ fn wants_more(asked: &AskedPath, rule: &Option<FoundRule>) -> bool
 }
 
 /// The rule, unless they would.
-fn unless_slash(
+fn refuse_unexcluded_directory(
     alloc: Global,
     asked: &AskedPath,
     rule: Option<FoundRule>,
 ) -> Result<Option<FoundRule>, Stop>
-    ensures { Decides result (words.unless_slash asked.now rule) }
+    ensures { Decides result (words.refuse_unexcluded_directory asked.now rule) }
 {
     if wants_more(asked, &rule) {
         return Err(Stop::Slash {
@@ -70,13 +70,13 @@ fn unless_slash(
 }
 
 /// That no rule outside the work tree excludes all.
-fn unless_all(
+fn refuse_rule_excluding_top(
     alloc: Global,
     outer: &OuterRules,
     checking: &Checking,
     asked: &AskedPath,
 ) -> Result<bool, Stop>
-    ensures { Decides result (words.unless_all outer.now checking.now asked.now) }
+    ensures { Decides result (words.refuse_rule_excluding_top outer.now checking.now asked.now) }
 {
     match all_excluder(alloc, outer, checking.ignore_case)? {
         None => Ok(true),
@@ -120,12 +120,12 @@ fn ruled<W: Worktree>(
     ensures { Finds W.Worktree worktree.old worktree.new (λ t. words.ruled t root.now index.now
         outer.now checking.now asked.now) result }
 {
-    unless_all(alloc, outer, checking, asked)?;
+    refuse_rule_excluding_top(alloc, outer, checking, asked)?;
     let is_dir = is_dir_in(alloc, worktree, root, asked)?;
     let folds = checking.ignore_case;
     let rule = looked_up_in(alloc, worktree, root, index, outer, folds, asked, is_dir)?;
     let rule = as_written(alloc, outer, rule)?;
-    unless_slash(alloc, asked, rule)
+    refuse_unexcluded_directory(alloc, asked, rule)
 }
 
 /// The rule that decides about a path.
@@ -148,8 +148,11 @@ pub fn rule_of<W: Worktree>(
 }
 
 /// A rule that counts; without `-v` a negative one does not.
-pub fn counted(checking: &Checking, rule: Option<FoundRule>) -> Option<FoundRule>
-    ensures { result ≡ words.counted checking.now rule }
+pub fn drop_negative_unless_verbose(
+    checking: &Checking,
+    rule: Option<FoundRule>,
+) -> Option<FoundRule>
+    ensures { result ≡ words.drop_negative_unless_verbose checking.now rule }
 {
     match rule {
         None => None,

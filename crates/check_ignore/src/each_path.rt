@@ -6,9 +6,9 @@ ghost use Rattle.check_ignore.specs.Input as words;
 
 use crate::answer::{Answered, add_answer, check_ignore, nothing};
 use crate::input::{line_end, lines_of, path_of};
-use crate::options::{Checking, OuterRules};
+use crate::options::CheckContext;
 use crate::stop::Stop;
-use gitbase_core::{Bytes, State as Index};
+use gitbase_core::Bytes;
 use std::alloc::Global;
 use worktree_fs::Worktree;
 
@@ -16,41 +16,33 @@ use worktree_fs::Worktree;
 fn line_answer<W: Worktree>(
     alloc: Global,
     worktree: &mut W,
-    root: &[u8],
-    prefix: &[u8],
-    index: &Index,
-    outer: &OuterRules,
-    checking: &Checking,
+    context: &CheckContext<'_>,
     line: &[u8],
 ) -> Result<Answered, Stop>
-    ensures { Finds W.Worktree worktree.old worktree.new (λ t. words.line_answer t root.now
-        prefix.now index.now outer.now checking.now line.now) result }
+    ensures { Finds W.Worktree worktree.old worktree.new (λ t. words.line_answer t
+        context.now.root.now
+        context.now.prefix.now context.now.index.now context.now.outer.now
+        context.now.checking.now line.now) result }
 {
-    let path = path_of(alloc, checking, line)?;
+    let path = path_of(alloc, context.checking, line)?;
     let paths = [path];
-    check_ignore(
-        alloc, worktree, root, prefix, index, outer, checking, &paths,
-    )
+    check_ignore(alloc, worktree, context, &paths)
 }
 
 /// What is answered of some lines.
 fn all_answered<W: Worktree>(
     alloc: Global,
     worktree: &mut W,
-    root: &[u8],
-    prefix: &[u8],
-    index: &Index,
-    outer: &OuterRules,
-    checking: &Checking,
+    context: &CheckContext<'_>,
     lines: &[&[u8]],
 ) -> Result<Answered, Stop>
-    ensures { Finds W.Worktree worktree.old worktree.new (λ t. words.lines_after t root.now
-        prefix.now index.now outer.now checking.now nothing (map (λ line. line.now) lines.now))
-        result }
+    ensures { Finds W.Worktree worktree.old worktree.new (λ t. words.lines_after t
+        context.now.root.now context.now.prefix.now context.now.index.now context.now.outer.now
+        context.now.checking.now nothing (map (λ line. line.now) lines.now)) result }
 {
     let mut done = nothing(alloc);
     for line in lines {
-        let now = line_answer(alloc, worktree, root, prefix, index, outer, checking, line)?;
+        let now = line_answer(alloc, worktree, context, line)?;
         add_answer(alloc, &mut done, &now)?;
     }
     Ok(done)
@@ -60,20 +52,15 @@ fn all_answered<W: Worktree>(
 fn of_input<W: Worktree>(
     alloc: Global,
     worktree: &mut W,
-    root: &[u8],
-    prefix: &[u8],
-    index: &Index,
-    outer: &OuterRules,
-    checking: &Checking,
+    context: &CheckContext<'_>,
     input: &[u8],
 ) -> Result<Answered, Stop>
-    ensures { Finds W.Worktree worktree.old worktree.new (λ t. words.of_input t root.now
-        prefix.now index.now outer.now checking.now input.now) result }
+    ensures { Finds W.Worktree worktree.old worktree.new (λ t. words.of_input t context.now.root.now
+        context.now.prefix.now context.now.index.now context.now.outer.now
+        context.now.checking.now input.now) result }
 {
-    let lines = lines_of(alloc, input, line_end(checking))?;
-    all_answered(
-        alloc, worktree, root, prefix, index, outer, checking, &lines,
-    )
+    let lines = lines_of(alloc, input, line_end(context.checking))?;
+    all_answered(alloc, worktree, context, &lines)
 }
 
 /// What `git check-ignore` prints, and whether it ends with 0: of `paths`, as [`check_ignore`] has
@@ -97,19 +84,17 @@ fn of_input<W: Worktree>(
 pub fn check_asked<W: Worktree>(
     alloc: Global,
     worktree: &mut W,
-    root: &[u8],
-    prefix: &[u8],
-    index: &Index,
-    outer: &OuterRules,
-    checking: &Checking,
+    context: &CheckContext<'_>,
     paths: &[Bytes],
     input: &[u8],
 ) -> Result<Answered, Stop>
-    ensures { Finds W.Worktree worktree.old worktree.new (λ t. words.asked_or_read t root.now
-        prefix.now index.now outer.now checking.now paths.now input.now) result }
+    ensures { Finds W.Worktree worktree.old worktree.new (λ t. words.asked_or_read t
+        context.now.root.now
+        context.now.prefix.now context.now.index.now context.now.outer.now
+        context.now.checking.now paths.now input.now) result }
 {
-    if checking.stdin {
-        return of_input(alloc, worktree, root, prefix, index, outer, checking, input);
+    if context.checking.stdin {
+        return of_input(alloc, worktree, context, input);
     }
-    check_ignore(alloc, worktree, root, prefix, index, outer, checking, paths)
+    check_ignore(alloc, worktree, context, paths)
 }

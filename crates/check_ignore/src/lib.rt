@@ -23,7 +23,7 @@ mod wrong;
 
 pub use answer::{Answered, check_ignore};
 pub use each_path::check_asked;
-pub use options::{Checking, NamedRules, OuterRules};
+pub use options::{CheckContext, Checking, NamedRules, OuterRules};
 pub use refusal_text::told;
 pub use stop::Stop;
 pub use wrong::{WrongCheck, wrong_in};

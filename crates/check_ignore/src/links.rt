@@ -121,14 +121,14 @@ fn is_beyond<W: Worktree>(
 }
 
 /// A path that is asked about, unless a link stands above it.
-fn unless_beyond<W: Worktree>(
+fn refuse_path_behind_link<W: Worktree>(
     alloc: Global,
     worktree: &mut W,
     root: &[u8],
     asked: AskedPath,
 ) -> Result<AskedPath, Stop>
     ensures { Finds W.Worktree worktree.old worktree.new
-        (λ t. words.unless_beyond t root.now asked) result }
+        (λ t. words.refuse_path_behind_link t root.now asked) result }
 {
     let named = named(alloc, asked.path.as_bytes(), asked.names_directory)?;
     if is_beyond(alloc, worktree, root, named.as_bytes())? {
@@ -149,7 +149,7 @@ fn asked_in<W: Worktree>(
         (λ t. words.asked_in t root.now prefix.now text.now) result }
 {
     let asked = asked_of(alloc, root, prefix, text)?;
-    unless_beyond(alloc, worktree, root, asked)
+    refuse_path_behind_link(alloc, worktree, root, asked)
 }
 
 /// That none of some paths is empty.

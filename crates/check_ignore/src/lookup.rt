@@ -29,7 +29,7 @@ fn found_of(alloc: Global, group: RuleGroup, found: &Match<'_>) -> Result<FoundR
     Ok(FoundRule {
         group,
         source: Bytes::from_slice(alloc, source_of(found))?,
-        line: found.sequence_number,
+        line: found.sequence_number as usize,
         text: Bytes::from_slice(alloc, found.pattern.text())?,
         is_negative: found.pattern.is_negative(),
         must_be_dir: found.pattern.must_be_dir(),

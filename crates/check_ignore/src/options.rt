@@ -1,5 +1,5 @@
 //! What is asked, and the rules outside the work tree.
-use gitbase_core::Bytes;
+use gitbase_core::{Bytes, State as Index};
 
 /// The options of `git check-ignore`, each as git-check-ignore(1) has it, and what the
 /// configuration says.
@@ -39,4 +39,19 @@ pub struct OuterRules {
     pub user: Option<NamedRules>,
     /// Those of `info/exclude`.
     pub repository: Option<NamedRules>,
+}
+
+/// What paths are checked by: a work tree, what its index and its rules say, and what is asked.
+#[derive(Clone, Copy)]
+pub struct CheckContext<'a> {
+    /// The top of the work tree, as a whole path.
+    pub root: &'a [u8],
+    /// The directory below it in which the paths were written; empty for the top.
+    pub prefix: &'a [u8],
+    /// The index; with `--no-index` an empty one.
+    pub index: &'a Index,
+    /// The rules outside the work tree.
+    pub outer: &'a OuterRules,
+    /// The options, and what the configuration says.
+    pub checking: &'a Checking,
 }

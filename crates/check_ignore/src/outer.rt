@@ -8,7 +8,7 @@ ghost use Rattle.check_ignore.specs.Outer as words;
 
 use crate::found_rule::RulePlace;
 use crate::options::{NamedRules, OuterRules};
-use git_setup::rules_below_top;
+use git_setup::exempt_top_from_star_rules;
 use gitbase_core::{Bytes, OutOfMemory, PathText, State as Index};
 use glob_rules::Case;
 use glob_rules::ignore::{List, Match, ParseIgnore, Search};
@@ -26,7 +26,7 @@ fn list_of(alloc: Global, given: &NamedRules) -> Result<List, OutOfMemory>
     ensures { IfOk result (λ list. list ≡ words.list_of given.now) }
 {
     let name = PathText::from_bytes(alloc, given.name.as_bytes())?;
-    let rules = rules_below_top(alloc, given.bytes.as_bytes())?;
+    let rules = exempt_top_from_star_rules(alloc, given.bytes.as_bytes())?;
     List::from_bytes(
         alloc,
         rules.as_bytes(),
@@ -76,7 +76,7 @@ fn place_of(alloc: Global, found: &Match<'_>) -> Result<RulePlace, OutOfMemory>
 {
     Ok(RulePlace {
         file: Bytes::from_slice(alloc, source_of(found))?,
-        line: found.sequence_number,
+        line: found.sequence_number as usize,
     })
 }
 

@@ -14,8 +14,8 @@ pub struct Meant {
 }
 
 /// The byte that a letter behind a backslash means, if it means one.
-fn letter(byte: u8) -> Option<u8>
-    ensures { result ≡ words.letter byte }
+fn unescape_letter(byte: u8) -> Option<u8>
+    ensures { result ≡ words.unescape_letter byte }
 {
     match byte {
         b'a' => Some(7),
@@ -84,7 +84,7 @@ fn escape_at(bytes: &[u8]) -> Option<Meant>
     ensures some { IfSome result (λ m. 1 ≤ m.length) }
 {
     match bytes {
-        [first, rest @ ..] => match letter(*first) {
+        [first, rest @ ..] => match unescape_letter(*first) {
             Some(byte) => meant_by(2, Some(byte)),
             None => digits_at(*first, rest),
         },

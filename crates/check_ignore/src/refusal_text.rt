@@ -64,7 +64,12 @@ fn excluder_text(alloc: Global, file: &[u8], line: usize) -> Result<Bytes, OutOf
 }
 
 /// What is told of a path that is asked about where that rule stands.
-fn everything(alloc: Global, text: &[u8], file: &[u8], line: usize) -> Result<Bytes, OutOfMemory>
+fn everything_excluded_text(
+    alloc: Global,
+    text: &[u8],
+    file: &[u8],
+    line: usize,
+) -> Result<Bytes, OutOfMemory>
     ensures { IfOk result
         (λ told. told ≡ words.unsupported (words.excluder_text file.now line) text.now) }
 {
@@ -105,7 +110,7 @@ pub fn told(alloc: Global, root: &[u8], stop: &Stop) -> Result<Bytes, OutOfMemor
             text.as_bytes(),
         ),
         Stop::Everything { text, file, line } => {
-            everything(alloc, text.as_bytes(), file.as_bytes(), *line)
+            everything_excluded_text(alloc, text.as_bytes(), file.as_bytes(), *line)
         }
         Stop::Unread { text } => unsupported(
             alloc,

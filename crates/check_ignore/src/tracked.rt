@@ -47,8 +47,8 @@ fn some_sparse(index: &[IndexEntry]) -> bool
 }
 
 /// That no entry stands for all that is beneath a directory.
-pub fn not_sparse(index: &[IndexEntry]) -> Result<bool, Stop>
-    ensures { Decides result (words.not_sparse index.now) }
+pub fn refuse_sparse_index(index: &[IndexEntry]) -> Result<bool, Stop>
+    ensures { Decides result (words.refuse_sparse_index index.now) }
 {
     if some_sparse(index) {
         return Err(Stop::SparseIndex);
@@ -92,12 +92,12 @@ fn outside_of(alloc: Global, asked: &[AskedPath], entry: &IndexEntry) -> Result<
 }
 
 /// That no path lies in a submodule.
-pub fn outside_modules(
+pub fn refuse_paths_in_submodules(
     alloc: Global,
     asked: &[AskedPath],
     index: &[IndexEntry],
 ) -> Result<bool, Stop>
-    ensures { Decides result (words.outside_modules asked.now index.now) }
+    ensures { Decides result (words.refuse_paths_in_submodules asked.now index.now) }
 {
     for entry in index {
         outside_of(alloc, asked, entry)?;

@@ -111,7 +111,8 @@ fn is_anchored_at(alloc: Global, text: &[u8], number: usize) -> Result<bool, Out
 
 /// Adds a mark, where it stands.
 fn add_mark(text: &mut Vec<u8>, there: bool, mark: &[u8]) -> Result<(), OutOfMemory>
-    ensures { OnOk result (text.new.items ≡ text.old.items ++ words.mark there mark.now) }
+    ensures { OnOk result (text.new.items ≡ text.old.items ++ words.bytes_if_present there
+        mark.now) }
 {
     if there {
         text.extend_from_slice(mark)?;

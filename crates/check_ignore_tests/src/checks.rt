@@ -2,10 +2,10 @@
 use crate::answers::{REFUSED, ROWS, TREES};
 use crate::given::{checking_of, index_of, leaves_index, outer_of, paths_of};
 use bstr::ByteSlice;
-use check_ignore::{Answered, OuterRules, Stop, check_asked, told, wrong_in};
+use check_ignore::{Answered, CheckContext, OuterRules, Stop, check_asked, told, wrong_in};
 use gitbase_core::{Bytes, State};
 use std::alloc::Global;
-use test_cases::{lines_of, number, parted, tree_of};
+use test_cases::{lines_of, number, split_at_byte, tree_of};
 use worktree_fs::MemoryWorktree;
 
 /// The status, what is written, and what stands behind `fatal: `, as a row has them.
@@ -45,9 +45,14 @@ fn text_of(
     if let Some(wrong) = wrong_in(&checking, paths.len()) {
         return answer_text(alloc, b"128", b"", wrong.text());
     }
-    match check_asked(
-        alloc, tree, b"/w/r", prefix, index, outer, &checking, paths, input,
-    ) {
+    let context = CheckContext {
+        root: b"/w/r",
+        prefix,
+        index,
+        outer,
+        checking: &checking,
+    };
+    match check_asked(alloc, tree, &context, paths, input) {
         Ok(answered) => answered_text(alloc, &answered),
         Err(stop) => stopped_text(alloc, &stop),
     }
@@ -67,8 +72,8 @@ fn text_in(
     paths: &[Bytes],
     input: &[u8],
 ) -> Option<Vec<u8>> {
-    let (outer, rest) = parted(given, b'^');
-    let (words, steps) = parted(rest, b'^');
+    let (outer, rest) = split_at_byte(given, b'^');
+    let (words, steps) = split_at_byte(rest, b'^');
     let words: &[u8] = if leaves_index(options) { b"" } else { words };
     let index = index_of(alloc, words)?;
     let outer = outer_of(alloc, outer)?;
@@ -80,11 +85,11 @@ fn text_in(
 
 /// What is answered by the words of a row, and what git says.
 fn both(alloc: Global, row: &[u8]) -> Option<(Vec<u8>, Vec<u8>)> {
-    let (tree, rest) = parted(row, b'^');
-    let (prefix, rest) = parted(rest, b'^');
-    let (options, rest) = parted(rest, b'^');
-    let (count, rest) = parted(rest, b'^');
-    let (words, want) = parted(rest, b'^');
+    let (tree, rest) = split_at_byte(row, b'^');
+    let (prefix, rest) = split_at_byte(rest, b'^');
+    let (options, rest) = split_at_byte(rest, b'^');
+    let (count, rest) = split_at_byte(rest, b'^');
+    let (words, want) = split_at_byte(rest, b'^');
     let paths = paths_of(alloc, number(count), words)?;
     let input = lines_of(alloc, words, b'$')?;
     let text = text_in(alloc, tree_at(tree)?, prefix, options, &paths, &input)?;

@@ -3,7 +3,7 @@ use check_ignore::{Checking, NamedRules, OuterRules};
 use gitbase_core::{Bytes, Flags, IndexEntry, Mode, ObjectId, PathText, State};
 use hex;
 use std::alloc::Global;
-use test_cases::{lines_of, parted};
+use test_cases::{lines_of, split_at_byte};
 
 /// What is asked where there is no word.
 fn usual() -> Checking {
@@ -62,7 +62,7 @@ pub fn paths_of(alloc: Global, count: usize, words: &[u8]) -> Option<Vec<Bytes>>
 
 /// The entry of a path; that of a submodule is marked by `m`.
 fn entry_of(alloc: Global, word: &[u8]) -> Option<IndexEntry> {
-    let (mark, path) = parted(word, b' ');
+    let (mark, path) = split_at_byte(word, b' ');
     let mode = match mark {
         b"m" => Mode::COMMIT,
         _ => Mode::FILE,
@@ -89,7 +89,7 @@ pub fn index_of(alloc: Global, words: &[u8]) -> Option<State> {
 
 /// The rules of a word: the name and the text.
 fn rules_of(alloc: Global, word: &[u8]) -> Option<NamedRules> {
-    let (name, text) = parted(word, b'=');
+    let (name, text) = split_at_byte(word, b'=');
     Some(NamedRules {
         name: Bytes::from_slice(alloc, name).ok()?,
         bytes: Bytes::from_vec(lines_of(alloc, text, b'$')?),
@@ -98,7 +98,7 @@ fn rules_of(alloc: Global, word: &[u8]) -> Option<NamedRules> {
 
 /// The rules of a word: the name, and the text by its hexadecimal digits.
 fn rules_by_digits(alloc: Global, word: &[u8]) -> Option<NamedRules> {
-    let (name, digits) = parted(word, b'=');
+    let (name, digits) = split_at_byte(word, b'=');
     Some(NamedRules {
         name: Bytes::from_slice(alloc, name).ok()?,
         bytes: Bytes::from_vec(hex::decode(alloc, digits).ok()?),
@@ -112,7 +112,7 @@ pub fn outer_of(alloc: Global, words: &[u8]) -> Option<OuterRules> {
         repository: None,
     };
     for word in words.split(|byte| *byte == b';') {
-        let (mark, rest) = parted(word, b' ');
+        let (mark, rest) = split_at_byte(word, b' ');
         match mark {
             b"U" => outer.user = Some(rules_of(alloc, rest)?),
             b"R" => outer.repository = Some(rules_of(alloc, rest)?),

@@ -9,7 +9,7 @@ use Rattle.dir_classify.specs.declared.options.ForDeletionMode.TheVariants.{Igno
 use Rattle.worktree_report.specs.declared.setup.SetupOptions.{SetupOptions}
 use Rattle.clean_plan.specs.declared.what.Finding.{Finding}
 use Rattle.clean_plan.specs.declared.what.Finding.TheVariants.{NonBare, All}
-use Rattle.clean_plan.specs.Prepared.{deletion_of, finds_bare, is_bare_if, is_finding, is_for_deletion, is_matching, is_matching_if, is_open, is_prepared, is_short, is_unfolded, prepared}
+use Rattle.clean_plan.specs.Prepared.{deletion_of, finds_bare, fits_bare_option, is_finding, is_for_deletion, is_matching, is_matching_if, emits_pruned_tracked_and_empty, is_prepared, omits_submodules_and_origins, is_unfolded, prepared}
 use Rattle.clean_plan.proofs.Directories.{and_both}
 
 -- ---- what a test of an option says
@@ -39,7 +39,7 @@ is-deletion NonBare (Some FindRepositoriesInIgnoredDirectories) h = absurd (cc h
 is-deletion All (Some FindNonBareRepositoriesInIgnoredDirectories) h = absurd (cc h)
 is-deletion All (Some FindRepositoriesInIgnoredDirectories) h = refl
 
-is-bare : (finding : Finding) (bare : Bool) → is_bare_if finding bare ≡ true → bare ≡ finds_bare finding
+is-bare : (finding : Finding) (bare : Bool) → fits_bare_option finding bare ≡ true → bare ≡ finds_bare finding
 is-bare NonBare true h = absurd (cc h)
 is-bare NonBare false h = refl
 is-bare All bare h = h
@@ -69,15 +69,15 @@ with-same o deletion bare recurse submodules origins untracked ignored collapsed
 
 prepared-same : (finding : Finding) (o : SetupOptions) → is_prepared finding o ≡ true → prepared finding o ≡ o
 prepared-same finding o is =
-    let parts = and_both (is_unfolded o) (is_open o && (is_for_deletion finding o && is_short o)) is in
-    let more = and_both (is_open o) (is_for_deletion finding o && is_short o) parts.1 in
-    let last = and_both (is_for_deletion finding o) (is_short o) more.1 in
+    let parts = and_both (is_unfolded o) (emits_pruned_tracked_and_empty o && (is_for_deletion finding o && omits_submodules_and_origins o)) is in
+    let more = and_both (emits_pruned_tracked_and_empty o) (is_for_deletion finding o && omits_submodules_and_origins o) parts.1 in
+    let last = and_both (is_for_deletion finding o) (omits_submodules_and_origins o) more.1 in
     let unfolded = and_both (is_matching o.emit_untracked) (is_matching_if o.emit_ignored && is_none o.emit_collapsed) parts.0 in
     let folds = and_both (is_matching_if o.emit_ignored) (is_none o.emit_collapsed) unfolded.1 in
     let opened = and_both o.emit_pruned (o.emit_tracked && o.emit_empty_directories) more.0 in
     let shown = and_both o.emit_tracked o.emit_empty_directories opened.1 in
-    let deletion = and_both (is_finding finding o.for_deletion) (is_bare_if finding o.classify_untracked_bare_repositories && not o.recurse_repositories) last.0 in
-    let found = and_both (is_bare_if finding o.classify_untracked_bare_repositories) (not o.recurse_repositories) deletion.1 in
+    let deletion = and_both (is_finding finding o.for_deletion) (fits_bare_option finding o.classify_untracked_bare_repositories && not o.recurse_repositories) last.0 in
+    let found = and_both (fits_bare_option finding o.classify_untracked_bare_repositories) (not o.recurse_repositories) deletion.1 in
     let short = and_both (not o.submodules) (not o.origins) last.1 in
     with-same o (Some (deletion_of finding)) (finds_bare finding) false false false Matching (Some Matching) None true true true
     (is-deletion finding o.for_deletion deletion.0) (is-bare finding o.classify_untracked_bare_repositories found.0) (is-not o.recurse_repositories found.1)

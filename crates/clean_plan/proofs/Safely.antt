@@ -18,11 +18,11 @@ use Rattle.clean_plan.specs.declared.what.OtherNodes.TheVariants.{Go}
 use Rattle.clean_plan.specs.declared.what.What.{What}
 use Rattle.clean_plan.specs.Above.{IsTarget, fronts, some_above, some_front}
 use Rattle.clean_plan.specs.Asked.{Asked}
-use Rattle.clean_plan.specs.Closed.{is_closed}
+use Rattle.clean_plan.specs.Closed.{stays_in_excluded_directory}
 use Rattle.clean_plan.specs.Kept.{has_dot_git, holds_current, is_indexed, is_kept}
 use Rattle.clean_plan.specs.Paths.{is_among}
 use Rattle.clean_plan.specs.Plans.{IsPlan, is_planned, may_be_planned, removable_paths}
-use Rattle.clean_plan.specs.Removable.{is_plain, is_removable, is_taken, may_go}
+use Rattle.clean_plan.specs.Removable.{is_plain, is_removable, is_status_requested, may_go}
 use Rattle.clean_plan.specs.Staying.{is_staying, stays, stays_at}
 use Rattle.clean_plan.specs.Safe.{AreApart, AreSafe, AreSpared, IsCovered, IsSafe, IsSpared, is_left, must_stay}
 use Rattle.clean_plan.specs.Whole.{is_whole, lies_in}
@@ -45,7 +45,7 @@ not_true : (b : Bool) → not b ≡ true → b ≡ false
 not_true true e = absurd (cc e)
 not_true false e = refl
 
-taken-unguarded : (what : What) (s : Status) (kind : Option Kind) → is_taken what s ≡ true → is_plain kind ≡ true
+taken-unguarded : (what : What) (s : Status) (kind : Option Kind) → is_status_requested what s ≡ true → is_plain kind ≡ true
     → (is_pruned_status s || (is_precious_status s || (is_tracked_status s || is_repository kind))) ≡ false
 taken-unguarded what Pruned kind e f = absurd (cc e)
 taken-unguarded what Tracked kind e f = absurd (cc e)
@@ -58,16 +58,16 @@ taken-unguarded what Untracked (Some k) e f = not_true (is_repository (Some k)) 
 pub removable-unguarded : (asked : Asked) (e : Entry) → is_removable asked e ≡ true → must_stay e ≡ false
 removable-unguarded asked e h =
     let one = and_both (may_go asked e) _ h in
-    let two = and_both (is_taken asked.what e.status) _ one.0 in
+    let two = and_both (is_status_requested asked.what e.status) _ one.0 in
     let three = and_both (is_plain e.disk_kind) _ two.1 in
     taken-unguarded asked.what e.status e.disk_kind two.0 three.0
 
 -- and it does not stay with a directory that the path specs take out, nor is its path kept
-pub removable-says : (asked : Asked) (e : Entry) → is_removable asked e ≡ true → (is_closed asked.taken_out asked.specs e ≡ false) × (is_kept asked e.rela_path ≡ false)
+pub removable-says : (asked : Asked) (e : Entry) → is_removable asked e ≡ true → (stays_in_excluded_directory asked.taken_out asked.specs e ≡ false) × (is_kept asked e.rela_path ≡ false)
 removable-says asked e h =
     let one = and_both (may_go asked e) _ h in
-    let two = and_both (not (is_closed asked.taken_out asked.specs e)) (not (is_kept asked e.rela_path)) one.1 in
-    (not_true (is_closed asked.taken_out asked.specs e) two.0, not_true (is_kept asked e.rela_path) two.1)
+    let two = and_both (not (stays_in_excluded_directory asked.taken_out asked.specs e)) (not (is_kept asked e.rela_path)) one.1 in
+    (not_true (stays_in_excluded_directory asked.taken_out asked.specs e) two.0, not_true (is_kept asked e.rela_path) two.1)
 
 -- ---- one path
 
@@ -162,8 +162,8 @@ module _ (asked : Asked) (entries : List Entry) (flat : AreFlat entries) where
         elsewhere = left.elsewhere;
         unguarded = none-any (λ (e : Entry). is_path_prefix path e.rela_path && must_stay e) entries
             (λ e here. by (is_path_prefix path e.rela_path) (must_stay e) (λ over. removable-unguarded asked e (planned-takes path e left.spared.below planned.which here over)));
-        unclosed = none-any (λ (e : Entry). is_path_prefix path e.rela_path && is_closed asked.taken_out asked.specs e) entries
-            (λ e here. by (is_path_prefix path e.rela_path) (is_closed asked.taken_out asked.specs e) (λ over. (removable-says asked e (planned-takes path e left.spared.below planned.which here over)).0));
+        unclosed = none-any (λ (e : Entry). is_path_prefix path e.rela_path && stays_in_excluded_directory asked.taken_out asked.specs e) entries
+            (λ e here. by (is_path_prefix path e.rela_path) (stays_in_excluded_directory asked.taken_out asked.specs e) (λ over. (removable-says asked e (planned-takes path e left.spared.below planned.which here over)).0));
       }
     where
       by : (a b : Bool) → (a ≡ true → b ≡ false) → (a && b) ≡ false

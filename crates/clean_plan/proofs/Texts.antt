@@ -89,7 +89,7 @@ module _ {W F I : Type 0} {w : WorktreeOf W} {f : FindOf F} {i : InterruptOf I} 
       subst (λ (x : W). w.lists x ≤ w.lists w0 + 1) (sym ends.1) once
 
 -- a refused report is refused alike, with a plan or without
-same_refusal : (e : ReportError) → top.of_clean (of_report e) ≡ converted.of_report e
+same_refusal : (e : ReportError) → top.refusal_of_clean_error (of_report e) ≡ converted.refusal_of_report_error e
 same_refusal (reports.Config at line) = refl
 same_refusal (reports.Modules line) = refl
 same_refusal (reports.ActiveSpec at) = refl
@@ -103,14 +103,14 @@ which is = cc
 module _ {W F I : Type 0} {w : WorktreeOf W} {f : FindOf F} {i : InterruptOf I} {w0 w1 : W} {o0 o1 : F} {i0 i1 : I} {root : List ℕ} {setup : Setup} where
   -- why there is no text, by the report that was made or refused
   refused-text : (wanted : Wanted) (made : Result Report ReportError) (between : W) (e : CleanError) (refusal : Refusal) → MakesReport w f i w0 between o0 o1 i0 i1 root setup made
-      → EndsAs w between w1 root setup wanted made (Err e) → f.holds o0 ≡ Some setup.blobs → NotIncreased (f.faults o0) (f.faults o1) → refusal ≡ top.of_clean e
+      → EndsAs w between w1 root setup wanted made (Err e) → f.holds o0 ≡ Some setup.blobs → NotIncreased (f.faults o0) (f.faults o1) → refusal ≡ top.refusal_of_clean_error e
       → RefusesText w i (w.precomposes w0) w0 w1 i0 i1 root setup 0 refusal
   refused-text wanted (Ok r) between (errors.Report e) refusal reported ends held kept same = absurd ends.refused
   refused-text wanted (Ok r) between errors.Fault refusal reported ends held kept same = inr (inl (same, FailsMeanwhile-behind 0 r reported held ends.asks (omega (arith, ends.reads)) ends.refused))
   refused-text wanted (Ok r) between errors.OutOfMemory refusal reported ends held kept same = inl same
   refused-text wanted (Err e2) between e refusal reported ends held kept same =
       inr (inr (subst (λ (x : W). Texts w i (w.precomposes w0) w0 x i0 i1 root setup (Err refusal)) (sym ends.1)
-      (Texts-refused e2 refusal reported held kept (same ∙ ap top.of_clean (which (ends.0)) ∙ same_refusal e2))))
+      (Texts-refused e2 refusal reported held kept (same ∙ ap top.refusal_of_clean_error (which (ends.0)) ∙ same_refusal e2))))
 
 module _ {W F I : Type 0} {w : WorktreeOf W} {f : FindOf F} {i : InterruptOf I} {w0 w1 : W} {o0 o1 : F} {i0 i1 : I} {root : List ℕ} {setup : Setup} {wanted : Wanted} where
   -- the text of a plan, where nothing failed
@@ -171,7 +171,7 @@ module _ {W F I : Type 0} {w : WorktreeOf W} {f : FindOf F} {i : InterruptOf I} 
 
   -- the refusal that stands for that of a plan
   pub PlanTexts-refused : (e : CleanError) (refusal : Refusal) → MakesPlan w f i w0 w1 o0 o1 i0 i1 root setup wanted (Err e) → f.holds o0 ≡ Some setup.blobs → NotIncreased (f.faults o0) (f.faults o1)
-      → refusal ≡ top.of_clean e → top.PlanTexts w i (w.precomposes w0) w0 w1 i0 i1 root setup wanted (Err refusal)
+      → refusal ≡ top.refusal_of_clean_error e → top.PlanTexts w i (w.precomposes w0) w0 w1 i0 i1 root setup wanted (Err refusal)
   PlanTexts-refused e refusal made held kept same =
       record {
         gives = λ t told. tt;

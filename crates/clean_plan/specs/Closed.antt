@@ -13,20 +13,20 @@ use Rattle.clean_plan.specs.declared.what.TakenOut.{TakenOut}
 use Rattle.clean_plan.specs.declared.what.TakenOut.TheVariants.{Open, Closed}
 
 -- The specs, all together, take out a directory below the top: by its path, or by its name. So they take out each one that git does not look
--- into, as `takes_out` and `is_closed` of ls_files say it: there, too, some spec excludes the path or the name, and more is asked for. Git
+-- into, as `takes_out` and `stays_in_excluded_directory` of ls_files say it: there, too, some spec excludes the path or the name, and more is asked for. Git
 -- does look into one that is taken out by its path alone, as `b1` by `:!b[1]`, and into one of which the index has something.
-abbrev pub is_out : List PathSpec → List ℕ → Bool
-is_out specs d = not (is_top d) && (takes_out specs d || takes_out specs (d ++ 47 ∷ []))
+abbrev pub is_excluded_with_or_without_slash : List PathSpec → List ℕ → Bool
+is_excluded_with_or_without_slash specs d = not (is_top d) && (takes_out specs d || takes_out specs (d ++ 47 ∷ []))
 
 -- a path lies in such a directory
 abbrev pub lies_out : List PathSpec → List ℕ → Bool
-lies_out specs path = some_above (is_out specs) path
+lies_out specs path = some_above (is_excluded_with_or_without_slash specs) path
 
 -- an entry does, or is one
 abbrev pub is_entry_out : List PathSpec → Entry → Bool
-is_entry_out specs e = lies_out specs e.rela_path || (is_directory e.disk_kind && is_out specs e.rela_path)
+is_entry_out specs e = lies_out specs e.rela_path || (is_directory e.disk_kind && is_excluded_with_or_without_slash specs e.rela_path)
 
 -- and it stays for that
-unfoldable pub is_closed : TakenOut → List PathSpec → Entry → Bool
-is_closed Open specs e = false
-is_closed Closed specs e = is_entry_out specs e
+unfoldable pub stays_in_excluded_directory : TakenOut → List PathSpec → Entry → Bool
+stays_in_excluded_directory Open specs e = false
+stays_in_excluded_directory Closed specs e = is_entry_out specs e

@@ -44,9 +44,9 @@ is_finding finding (Some FindNonBareRepositoriesInIgnoredDirectories) = not (fin
 is_finding finding (Some FindRepositoriesInIgnoredDirectories) = finds_bare finding
 
 -- bare repositories are looked for just where they are to be found
-abbrev pub is_bare_if : Finding → Bool → Bool
-is_bare_if NonBare bare = not bare
-is_bare_if All bare = bare
+abbrev pub fits_bare_option : Finding → Bool → Bool
+fits_bare_option NonBare bare = not bare
+fits_bare_option All bare = bare
 
 -- paths are reported one by one
 abbrev pub is_matching : EmissionMode → Bool
@@ -63,19 +63,19 @@ abbrev pub is_unfolded : SetupOptions → Bool
 is_unfolded options = is_matching options.emit_untracked && (is_matching_if options.emit_ignored && is_none options.emit_collapsed)
 
 -- nothing is hidden
-abbrev pub is_open : SetupOptions → Bool
-is_open options = options.emit_pruned && (options.emit_tracked && options.emit_empty_directories)
+abbrev pub emits_pruned_tracked_and_empty : SetupOptions → Bool
+emits_pruned_tracked_and_empty options = options.emit_pruned && (options.emit_tracked && options.emit_empty_directories)
 
 -- paths are to be deleted, with repositories found as asked and not looked into
 abbrev pub is_for_deletion : Finding → SetupOptions → Bool
 is_for_deletion finding options =
     is_finding finding options.for_deletion
-    && (is_bare_if finding options.classify_untracked_bare_repositories && not options.recurse_repositories)
+    && (fits_bare_option finding options.classify_untracked_bare_repositories && not options.recurse_repositories)
 
 -- nothing is told of submodules and of the rules that decided
-abbrev pub is_short : SetupOptions → Bool
-is_short options = not options.submodules && not options.origins
+abbrev pub omits_submodules_and_origins : SetupOptions → Bool
+omits_submodules_and_origins options = not options.submodules && not options.origins
 
 -- Options are prepared for a plan.
 abbrev pub is_prepared : Finding → SetupOptions → Bool
-is_prepared finding options = is_unfolded options && (is_open options && (is_for_deletion finding options && is_short options))
+is_prepared finding options = is_unfolded options && (emits_pruned_tracked_and_empty options && (is_for_deletion finding options && omits_submodules_and_origins options))

@@ -10,7 +10,7 @@ use Rattle.dir_walk.specs.Emissions.{is_unmatched}
 use Rattle.clean_plan.specs.declared.what.What.{What}
 use Rattle.clean_plan.specs.declared.what.What.TheVariants as what
 use Rattle.clean_plan.specs.Asked.{Asked}
-use Rattle.clean_plan.specs.Closed.{is_closed}
+use Rattle.clean_plan.specs.Closed.{stays_in_excluded_directory}
 use Rattle.clean_plan.specs.Kept.{is_kept, takes_out}
 
 -- untracked paths may go
@@ -26,12 +26,12 @@ takes_ignored what.UntrackedAndIgnored = true
 takes_ignored what.IgnoredOnly = true
 
 -- what is asked for may have this status: untracked, or ignored and expendable
-abbrev pub is_taken : What → Status → Bool
-is_taken what Untracked = takes_untracked what
-is_taken what (Ignored Expendable) = takes_ignored what
-is_taken what (Ignored Precious) = false
-is_taken what Tracked = false
-is_taken what Pruned = false
+abbrev pub is_status_requested : What → Status → Bool
+is_status_requested what Untracked = takes_untracked what
+is_status_requested what (Ignored Expendable) = takes_ignored what
+is_status_requested what (Ignored Precious) = false
+is_status_requested what Tracked = false
+is_status_requested what Pruned = false
 
 -- something is on disk, and no repository
 abbrev pub is_plain : Option Kind → Bool
@@ -42,7 +42,7 @@ is_plain (Some kind) = not (is_repository (Some kind))
 -- and, where it is a directory, do not take that out
 abbrev pub may_go : Asked → Entry → Bool
 may_go asked e =
-    is_taken asked.what e.status
+    is_status_requested asked.what e.status
     && (is_plain e.disk_kind
     && (not (is_unmatched e.pathspec_match)
     && not (is_directory e.disk_kind && takes_out asked.specs e.rela_path)))
@@ -50,4 +50,4 @@ may_go asked e =
 -- An entry may go by itself: what is said of it lets it go, it does not stay with a directory that the path specs take out, and its path
 -- is not kept.
 abbrev pub is_removable : Asked → Entry → Bool
-is_removable asked e = may_go asked e && (not (is_closed asked.taken_out asked.specs e) && not (is_kept asked e.rela_path))
+is_removable asked e = may_go asked e && (not (stays_in_excluded_directory asked.taken_out asked.specs e) && not (is_kept asked e.rela_path))

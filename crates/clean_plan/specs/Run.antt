@@ -39,7 +39,7 @@ usage = codes "usage: clean untracked|all|ignored nonbare|all ROOT SETUP\n"
 
 -- the request of the words
 abbrev pub asked : Bool → List (List ℕ) → Option Request
-asked = words.asked
+asked = words.parse_clean_request
 
 -- ---- the text
 
@@ -117,10 +117,10 @@ IsOutput composes t words text = IsOutputAt composes t (asked composes words) te
 -- ---- refusals
 
 -- the refusal that stands for that of a plan
-abbrev pub of_clean : CleanError → Refusal
-of_clean (errors.Report e) = converted.of_report e
-of_clean errors.Fault = refusals.Fault
-of_clean errors.OutOfMemory = refusals.OutOfMemory
+abbrev pub refusal_of_clean_error : CleanError → Refusal
+refusal_of_clean_error (errors.Report e) = converted.refusal_of_report_error e
+refusal_of_clean_error errors.Fault = refusals.Fault
+refusal_of_clean_error errors.OutOfMemory = refusals.OutOfMemory
 
 -- The text of the plan, or why there is none, where a worktree was `w0` and is `w1`, and an interrupt was `i0` and is `i1`. `composes`
 -- says whether the worktree composes names.

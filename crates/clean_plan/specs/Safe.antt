@@ -10,7 +10,7 @@ use Rattle.dir_walk.specs.Fold.{is_precious, is_pruned}
 use Rattle.clean_plan.specs.declared.what.OtherNodes.TheVariants.{Go}
 use Rattle.clean_plan.specs.Above.{some_above}
 use Rattle.clean_plan.specs.Asked.{Asked}
-use Rattle.clean_plan.specs.Closed.{is_closed}
+use Rattle.clean_plan.specs.Closed.{stays_in_excluded_directory}
 use Rattle.clean_plan.specs.Kept.{has_dot_git, holds_current, is_indexed}
 use Rattle.clean_plan.specs.Paths.{Ascends, is_among}
 use Rattle.clean_plan.specs.Staying.{is_staying}
@@ -26,7 +26,7 @@ takes_what_must_stay entries path = list_any (λ (e : Entry). is_path_prefix pat
 
 -- at a path or beneath it stands an entry that stays with a directory that the path specs take out
 abbrev pub takes_what_is_closed : Asked → List Entry → List ℕ → Bool
-takes_what_is_closed asked entries path = list_any (λ (e : Entry). is_path_prefix path e.rela_path && is_closed asked.taken_out asked.specs e) entries
+takes_what_is_closed asked entries path = list_any (λ (e : Entry). is_path_prefix path e.rela_path && stays_in_excluded_directory asked.taken_out asked.specs e) entries
 
 -- ---- over any worktree
 

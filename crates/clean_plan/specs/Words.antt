@@ -1,7 +1,7 @@
 -- The words of a command line that ask for a plan.
 use Rattle.std.specs.Prelude.{ℕ, List, [], ◌∷◌, Bool, codes, Option, Some, None, option_and_then, if◌then◌else◌}
 use Rattle.std.specs.Str.{bytes_eq}
-use Rattle.worktree_report.specs.Words.{Places, behind, command_words, places_of}
+use Rattle.worktree_report.specs.Words.{Places, words_after_name, command_words, places_of}
 use Rattle.clean_plan.specs.declared.what.Finding.{Finding}
 use Rattle.clean_plan.specs.declared.what.Finding.TheVariants as finding
 use Rattle.clean_plan.specs.declared.what.What.{What}
@@ -29,19 +29,19 @@ finding_of word =
     else None
 
 -- the request in some places, if they are named
-abbrev at : What → Finding → Option Places → Option Request
-at what finding None = None
-at what finding (Some places) = Some (record { what = what; finding = finding; places = places })
+abbrev request_at_places : What → Finding → Option Places → Option Request
+request_at_places what finding None = None
+request_at_places what finding (Some places) = Some (record { what = what; finding = finding; places = places })
 
 -- the request by a word that says how repositories are found
-abbrev finding_at : What → Option Finding → List (List ℕ) → Option Request
-finding_at what None words = None
-finding_at what (Some finding) words = at what finding (places_of words)
+abbrev request_by_finding : What → Option Finding → List (List ℕ) → Option Request
+request_by_finding what None words = None
+request_by_finding what (Some finding) words = request_at_places what finding (places_of words)
 
 -- the request by a word that says what may go
 abbrev what_at : Option What → List ℕ → List (List ℕ) → Option Request
 what_at None word words = None
-what_at (Some what) word words = finding_at what (finding_of word) words
+what_at (Some what) word words = request_by_finding what (finding_of word) words
 
 -- WHAT, FIND, ROOT and SETUP
 unfoldable pub request_of : List (List ℕ) → Option Request
@@ -51,5 +51,5 @@ request_of [] = None
 
 -- The words are `clean WHAT FIND ROOT SETUP`, with `composed` before them exactly where the worktree composes names. Any other words
 -- ask for nothing.
-unfoldable pub asked : Bool → List (List ℕ) → Option Request
-asked composes words = option_and_then request_of (option_and_then (behind (codes "clean")) (command_words composes words))
+unfoldable pub parse_clean_request : Bool → List (List ℕ) → Option Request
+parse_clean_request composes words = option_and_then request_of (option_and_then (words_after_name (codes "clean")) (command_words composes words))

@@ -13,10 +13,10 @@ use glob_rules::pathspec::Search;
 use std::alloc::Global;
 
 /// Whether path specs take out a directory that is not the top; `name` is its path and a slash.
-fn is_out(specs: &Search, path: &[u8], name: &[u8]) -> bool
+fn is_excluded_with_or_without_slash(specs: &Search, path: &[u8], name: &[u8]) -> bool
     requires name { name.now ≡ path.now ++ 47 ∷ [] }
     requires below { is_top path.now ≡ false }
-    ensures { result ≡ words.is_out specs.now path.now }
+    ensures { result ≡ words.is_excluded_with_or_without_slash specs.now path.now }
 {
     takes_out(specs, path) || takes_out(specs, name)
 }
@@ -25,7 +25,7 @@ fn is_out(specs: &Search, path: &[u8], name: &[u8]) -> bool
 fn is_front_out(specs: &Search, path: &[u8], at: usize) -> bool
     requires { at < length path.now }
     ensures { result ≡ (lies_beneath (take at path.now) path.now
-        && words.is_out specs.now (take at path.now)) }
+        && words.is_excluded_with_or_without_slash specs.now (take at path.now)) }
 {
     if !is_above(path, at) {
         return false;
@@ -33,7 +33,7 @@ fn is_front_out(specs: &Search, path: &[u8], at: usize) -> bool
     if is_top(&path[..at]) {
         return false;
     }
-    is_out(specs, &path[..at], &path[..at + 1])
+    is_excluded_with_or_without_slash(specs, &path[..at], &path[..at + 1])
 }
 
 /// Whether a path lies in a directory that path specs take out.
@@ -50,14 +50,15 @@ fn lies_out(specs: &Search, path: &[u8]) -> bool
 
 /// Whether path specs take out a directory.
 fn is_directory_out(alloc: Global, specs: &Search, path: &[u8]) -> Result<bool, OutOfMemory>
-    ensures { IfOk result (λ out. out ≡ words.is_out specs.now path.now) }
+    ensures { IfOk result (λ out. out ≡ words.is_excluded_with_or_without_slash specs.now
+        path.now) }
 {
     if is_top(path) {
         return Ok(false);
     }
     let mut name = Bytes::from_slice(alloc, path)?;
     name.extend(alloc, b"/")?;
-    Ok(is_out(specs, path, name.as_bytes()))
+    Ok(is_excluded_with_or_without_slash(specs, path, name.as_bytes()))
 }
 
 /// Whether an entry lies in a directory that path specs take out, or is one.
@@ -75,14 +76,15 @@ fn is_entry_out(alloc: Global, specs: &Search, entry: &Entry) -> Result<bool, Ou
 }
 
 /// Whether an entry stays for that.
-#[tactic(auto, unfolding(crate::specs::Closed::is_closed))]
-pub(crate) fn is_closed(
+#[tactic(auto, unfolding(crate::specs::Closed::stays_in_excluded_directory))]
+pub(crate) fn stays_in_excluded_directory(
     alloc: Global,
     cleaning: &Cleaning<'_>,
     entry: &Entry,
 ) -> Result<bool, OutOfMemory>
     ensures { IfOk result (λ stays.
-        stays ≡ words.is_closed cleaning.now.taken_out cleaning.now.specs.now entry.now) }
+        stays ≡ words.stays_in_excluded_directory cleaning.now.taken_out cleaning.now.specs.now
+        entry.now) }
 {
     match cleaning.taken_out {
         TakenOut::Open => Ok(false),

@@ -26,7 +26,11 @@ fn rest_behind<'a>(directory: &[u8], path: &'a [u8]) -> Option<&'a [u8]>
 }
 
 /// A path as it reads from a directory that it is or lies beneath, made normal as a relative path.
-fn below(alloc: Global, directory: &[u8], path: &[u8]) -> Result<Option<PathText>, OutOfMemory>
+fn normal_path_below(
+    alloc: Global,
+    directory: &[u8],
+    path: &[u8],
+) -> Result<Option<PathText>, OutOfMemory>
     ensures { IfOk result (λ below. below ≡ option_and_then (λ rest. normalized (past_slashes rest))
         (rest_behind directory.now path.now)) }
 {
@@ -53,7 +57,7 @@ pub(crate) fn current_below<W: Worktree>(
     ensures reads { W.reads worktree.new ≡ W.reads worktree.old }
 {
     match worktree.real_path(alloc, root, current_dir) {
-        Ok(Some(real)) => Ok(below(alloc, real.as_bytes(), current_dir)?),
+        Ok(Some(real)) => Ok(normal_path_below(alloc, real.as_bytes(), current_dir)?),
         Ok(None) => Ok(None),
         Err(ReadError::Fault) => Err(CleanError::Fault),
         Err(ReadError::OutOfMemory) => Err(CleanError::OutOfMemory),

@@ -38,7 +38,7 @@ fn holds_current(current: &Option<PathText>, path: &[u8]) -> bool
 
 /// Whether the index has an entry at a path or beneath it, letters compared as they stand; `prefix`
 /// is the path and a slash.
-fn is_there(index: &State, path: &[u8], prefix: &[u8]) -> bool
+fn has_index_entry_at_or_beneath(index: &State, path: &[u8], prefix: &[u8]) -> bool
     requires prefix { prefix.now ≡ path.now ++ 47 ∷ [] }
     requires below { is_top path.now ≡ false }
     ensures { result ≡ kept.is_indexed false index.now path.now }
@@ -64,7 +64,7 @@ fn is_indexed(cleaning: &Cleaning<'_>, path: &[u8], prefix: &[u8]) -> bool
 {
     match cleaning.lookup {
         Some(lookup) => is_there_folded(cleaning.index, lookup, path),
-        None => is_there(cleaning.index, path, prefix),
+        None => has_index_entry_at_or_beneath(cleaning.index, path, prefix),
     }
 }
 

@@ -54,8 +54,8 @@ fn is_finding(finding: Finding, mode: Option<ForDeletionMode>) -> bool
 }
 
 /// Whether bare repositories are looked for just where they are to be found.
-fn is_bare_if(finding: Finding, bare: bool) -> bool
-    ensures { result ≡ prepared.is_bare_if finding bare }
+fn fits_bare_option(finding: Finding, bare: bool) -> bool
+    ensures { result ≡ prepared.fits_bare_option finding bare }
 {
     match finding {
         Finding::NonBare => !bare,
@@ -73,8 +73,8 @@ fn is_unfolded(options: &SetupOptions) -> bool
 }
 
 /// Whether nothing is hidden.
-fn is_open(options: &SetupOptions) -> bool
-    ensures { result ≡ prepared.is_open options.now }
+fn emits_pruned_tracked_and_empty(options: &SetupOptions) -> bool
+    ensures { result ≡ prepared.emits_pruned_tracked_and_empty options.now }
 {
     options.emit_pruned && options.emit_tracked && options.emit_empty_directories
 }
@@ -84,7 +84,7 @@ fn is_for_deletion(options: &SetupOptions, finding: Finding) -> bool
     ensures { result ≡ prepared.is_for_deletion finding options.now }
 {
     is_finding(finding, options.for_deletion)
-        && is_bare_if(finding, options.classify_untracked_bare_repositories)
+        && fits_bare_option(finding, options.classify_untracked_bare_repositories)
         && !options.recurse_repositories
 }
 
@@ -95,14 +95,14 @@ pub fn is_prepared(options: &SetupOptions, finding: Finding) -> bool
     ensures same { (result ≡ true) ↔ (prepared.prepared finding options.now ≡ options.now) }
 {
     is_unfolded(options)
-        && is_open(options)
+        && emits_pruned_tracked_and_empty(options)
         && is_for_deletion(options, finding)
-        && is_short(options)
+        && omits_submodules_and_origins(options)
 }
 
 /// Whether nothing is told of submodules and of the rules that decided.
-fn is_short(options: &SetupOptions) -> bool
-    ensures { result ≡ prepared.is_short options.now }
+fn omits_submodules_and_origins(options: &SetupOptions) -> bool
+    ensures { result ≡ prepared.omits_submodules_and_origins options.now }
 {
     !options.submodules && !options.origins
 }

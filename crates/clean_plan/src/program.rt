@@ -13,12 +13,13 @@ use crate::error::CleanError;
 use crate::outcome::Plan;
 use crate::prepared::prepare;
 use crate::what::{Finding, Wanted};
-use crate::words::{Request, asked};
+use crate::words::{Request, parse_clean_request};
 use gitbase_core::{Bytes, Find, OutOfMemory, PathText};
 use std::alloc::Global;
 use worktree_fs::{Interrupt, Sink};
 use worktree_report::{
-    CountsFaults, Refusal, Setup, add_escaped, finish, has_failed_since, of_report, read_setup,
+    CountsFaults, Refusal, Setup, add_escaped, has_failed_since, read_setup,
+    refusal_of_report_error, write_answer,
 };
 
 /// The line for words that ask for nothing.
@@ -45,11 +46,11 @@ fn plan_bytes(alloc: Global, plan: &Plan) -> Result<Bytes, OutOfMemory>
 }
 
 /// Why there is no text, where there is no plan.
-fn of_clean(alloc: Global, error: CleanError) -> Result<Refusal, OutOfMemory>
-    ensures { IfOk result (λ refusal. refusal ≡ top.of_clean error) }
+fn refusal_of_clean_error(alloc: Global, error: CleanError) -> Result<Refusal, OutOfMemory>
+    ensures { IfOk result (λ refusal. refusal ≡ top.refusal_of_clean_error error) }
 {
     match error {
-        CleanError::Report(error) => of_report(alloc, error),
+        CleanError::Report(error) => refusal_of_report_error(alloc, error),
         CleanError::Fault => Ok(Refusal::Fault),
         CleanError::OutOfMemory => Ok(Refusal::OutOfMemory),
     }
@@ -99,7 +100,7 @@ pub fn text_of_plan<W: CountsFaults, I: Interrupt>(
             }
             Ok(plan_bytes(alloc, &plan)?)
         }
-        Err(error) => Err(of_clean(alloc, error)?),
+        Err(error) => Err(refusal_of_clean_error(alloc, error)?),
     }
 }
 
@@ -141,7 +142,7 @@ fn text_asked<W: CountsFaults, I: Interrupt>(
     ensures { top.Answers W.Worktree I.Interrupt worktree.old worktree.new interrupt.old
         interrupt.new (top.asked (W.precomposes worktree.old) words.now) result }
 {
-    match asked(worktree.precomposes(), words) {
+    match parse_clean_request(worktree.precomposes(), words) {
         Some(request) => text_at(alloc, request, worktree, interrupt),
         None => Err(Refusal::Usage),
     }
@@ -204,5 +205,5 @@ pub fn run_clean<W: CountsFaults, I: Interrupt, S: Sink, E: Sink>(
         → NotIncreased (S.refusals out.old) (S.refusals out.new) → (result ≡ 0) ⊎ (result ≡ 8) }
 {
     let answer = text_asked(alloc, words, worktree, interrupt);
-    finish(alloc, USAGE, answer, out, err)
+    write_answer(alloc, USAGE, answer, out, err)
 }

@@ -8,7 +8,7 @@ ghost use Rattle.clean_plan.specs.Kept as kept;
 ghost use Rattle.dir_classify.specs.Layers.{IsLookupIf};
 ghost use Rattle.clean_plan.specs.Removable as removable;
 
-use crate::closed::is_closed;
+use crate::closed::stays_in_excluded_directory;
 use crate::inputs::Cleaning;
 use crate::kept::{is_kept, takes_out};
 use crate::what::What;
@@ -18,8 +18,8 @@ use glob_rules::ignore;
 use std::alloc::Global;
 
 /// Whether what is asked for may have this status.
-fn is_taken(what: What, status: Status) -> bool
-    ensures { result ≡ removable.is_taken what status }
+fn is_status_requested(what: What, status: Status) -> bool
+    ensures { result ≡ removable.is_status_requested what status }
 {
     match status {
         Status::Untracked => matches!(what, What::Untracked | What::UntrackedAndIgnored),
@@ -77,7 +77,7 @@ fn is_path_kept(alloc: Global, cleaning: &Cleaning<'_>, path: &[u8]) -> Result<b
 fn may_go(cleaning: &Cleaning<'_>, entry: &Entry) -> bool
     ensures { result ≡ removable.may_go (asked_by cleaning.now) entry.now }
 {
-    is_taken(cleaning.what, entry.status)
+    is_status_requested(cleaning.what, entry.status)
         && is_plain(entry.disk_kind)
         && !is_unmatched(entry.pathspec_match)
         && !is_directory_out(cleaning, entry)
@@ -95,7 +95,7 @@ pub(crate) fn is_removable(
     if !may_go(cleaning, entry) {
         return Ok(false);
     }
-    if is_closed(alloc, cleaning, entry)? {
+    if stays_in_excluded_directory(alloc, cleaning, entry)? {
         return Ok(false);
     }
     Ok(!is_path_kept(alloc, cleaning, entry.rela_path.as_bytes())?)

@@ -95,7 +95,7 @@ pub(crate) fn target<'a>(
 }
 
 /// Whether the path lies beneath its front of so many bytes, and the path specs take that out.
-fn is_out(specs: &Search, path: &[u8], at: usize) -> bool
+fn is_parent_excluded(specs: &Search, path: &[u8], at: usize) -> bool
     requires { at < length path.now }
     ensures { result ≡ (lies_beneath (take at path.now) path.now
         && kept.takes_out specs.now (take at path.now)) }
@@ -105,12 +105,12 @@ fn is_out(specs: &Search, path: &[u8], at: usize) -> bool
 
 /// The bytes of a front of a path and one more, if the path specs take that out; else what there
 /// was.
-fn longer(specs: &Search, path: &[u8], at: usize, reach: usize) -> usize
+fn reach_past_excluded(specs: &Search, path: &[u8], at: usize, reach: usize) -> usize
     requires { at < length path.now }
     ensures { result ≡ (if lies_beneath (take at path.now) path.now
         && kept.takes_out specs.now (take at path.now) then at + 1 else reach) }
 {
-    if is_out(specs, path, at) {
+    if is_parent_excluded(specs, path, at) {
         return at + 1;
     }
     reach
@@ -129,7 +129,7 @@ pub(crate) fn reach_of(specs: &Search, path: &[u8], begin: usize, shared: usize)
 {
     let mut reach = begin;
     for at in shared..path.len() {
-        reach = longer(specs, path, at, reach);
+        reach = reach_past_excluded(specs, path, at, reach);
     }
     reach
 }

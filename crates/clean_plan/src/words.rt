@@ -1,11 +1,11 @@
 //! The words of a command line that ask for a plan.
 ghost use Rattle.std.specs.Prelude.{◌≡◌, option_map};
 ghost use Rattle.clean_plan.specs.Named.{requested_by};
-ghost use Rattle.clean_plan.specs.Words.{asked, finding_of, request_of, what_of};
+ghost use Rattle.clean_plan.specs.Words.{parse_clean_request, finding_of, request_of, what_of};
 
 use crate::what::{Finding, What};
 use gitbase_core::Bytes;
-use worktree_report::{Places, behind, command_words, places_of};
+use worktree_report::{Places, command_words, places_of, words_after_name};
 
 /// What may be removed, how repositories are looked for, and where.
 #[derive(Clone, Copy, Debug)]
@@ -60,9 +60,9 @@ fn request_of(words: &[Bytes]) -> Option<Request<'_>>
 
 /// What words ask for, over a worktree that composes names or not: `clean WHAT FIND ROOT SETUP`,
 /// with `composed` before it exactly where the worktree composes names. None for any other words.
-#[tactic(auto, unfolding(crate::specs::Words::asked))]
-pub(crate) fn asked(composes: bool, words: &[Bytes]) -> Option<Request<'_>>
-    ensures { option_map requested_by result ≡ asked composes words.now }
+#[tactic(auto, unfolding(crate::specs::Words::parse_clean_request))]
+pub(crate) fn parse_clean_request(composes: bool, words: &[Bytes]) -> Option<Request<'_>>
+    ensures { option_map requested_by result ≡ parse_clean_request composes words.now }
 {
-    request_of(behind(b"clean", command_words(composes, words)?)?)
+    request_of(words_after_name(b"clean", command_words(composes, words)?)?)
 }

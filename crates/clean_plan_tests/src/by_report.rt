@@ -5,7 +5,7 @@ use bstr::ByteSlice;
 use clean_plan::{Finding, What, plan_by_report};
 use gitbase_core::MemoryStore;
 use std::alloc::Global;
-use test_cases::{held, parted_by};
+use test_cases::{held, split_at_mark};
 use worktree_fs::PlannedInterrupt;
 use worktree_report::{Report, worktree_report};
 
@@ -55,8 +55,8 @@ fn report_of(alloc: Global) -> Option<Report> {
 /// Whether the plan by the report is the one that is wanted, and a fault was counted where it is
 /// one and nowhere else.
 fn holds(alloc: Global, report: &Report, row: &[u8]) -> bool {
-    let (_, rest) = parted_by(row, b"nodes:");
-    let (nodes, want) = parted_by(rest, b"\nwanted:");
+    let (_, rest) = split_at_mark(row, b"nodes:");
+    let (nodes, want) = split_at_mark(rest, b"\nwanted:");
     let want = held(want);
     let Some(mut tree) = tree_of(alloc, held(nodes), false) else {
         return false;

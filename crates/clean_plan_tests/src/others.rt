@@ -4,7 +4,7 @@ use crate::tree::tree_of;
 use bstr::ByteSlice;
 use clean_plan::{Finding, Wanted, What, is_prepared, text_of_plan};
 use std::alloc::Global;
-use test_cases::{held, parted_by, text_of};
+use test_cases::{held, split_at_mark, text_of};
 use worktree_fs::{MemoryWorktree, PlannedInterrupt};
 use worktree_report::Setup;
 
@@ -123,10 +123,10 @@ fn text_is(
 }
 
 fn holds(alloc: Global, row: &[u8], reversed: bool) -> bool {
-    let (_, rest) = parted_by(row, b"nodes:");
-    let (nodes, rest) = parted_by(rest, b"\nsetup:");
-    let (setup, rest) = parted_by(rest, b"\nreported:");
-    let (reported, seen) = parted_by(rest, b"\nseen:");
+    let (_, rest) = split_at_mark(row, b"nodes:");
+    let (nodes, rest) = split_at_mark(rest, b"\nsetup:");
+    let (setup, rest) = split_at_mark(rest, b"\nreported:");
+    let (reported, seen) = split_at_mark(rest, b"\nseen:");
     let Some(mut tree) = tree_of(alloc, held(nodes), reversed) else {
         return false;
     };

@@ -4,7 +4,7 @@ use bstr::ByteSlice;
 use clean_plan::{CleanError, Finding, Plan, What, is_prepared, plan, prepare};
 use gitbase_core::MemoryStore;
 use std::alloc::Global;
-use test_cases::{held, parted_by, text_of};
+use test_cases::{held, split_at_mark, text_of};
 use worktree_fs::{MemoryWorktree, PlannedInterrupt};
 use worktree_report::Setup;
 
@@ -293,10 +293,10 @@ fn is_answered(
 }
 
 fn holds(alloc: Global, row: &[u8], reversed: bool) -> bool {
-    let (_, rest) = parted_by(row, b"nodes:");
-    let (nodes, rest) = parted_by(rest, b"\nsetup:");
-    let (setup, rest) = parted_by(rest, b"\nasked:");
-    let (words, want) = parted_by(rest, b"\nwanted:");
+    let (_, rest) = split_at_mark(row, b"nodes:");
+    let (nodes, rest) = split_at_mark(rest, b"\nsetup:");
+    let (setup, rest) = split_at_mark(rest, b"\nasked:");
+    let (words, want) = split_at_mark(rest, b"\nwanted:");
     let (what, finding) = asked(held(words));
     let Some(mut tree) = tree_of(alloc, held(nodes), reversed) else {
         return false;

@@ -5,7 +5,7 @@ use bstr::ByteSlice;
 use clean_plan::{Finding, Wanted, What, is_prepared, text_of_plan};
 use gitbase_core::{Bytes, is_path_prefix};
 use std::alloc::Global;
-use test_cases::{held, parted_by};
+use test_cases::{held, split_at_mark};
 use worktree_fs::PlannedInterrupt;
 use worktree_report::Setup;
 
@@ -205,11 +205,11 @@ fn are_lines(text: &[u8], paths: &[u8]) -> bool {
 }
 
 /// Whether both plans are those that are wanted, and git names whatever the second one has.
-fn holds(alloc: Global, row: &[u8], reversed: bool) -> Option<bool> {
-    let (_, rest) = parted_by(row, b"setup:");
-    let (setup, rest) = parted_by(rest, b"\nreported:");
-    let (reported, rest) = parted_by(rest, b"\nseen:");
-    let (seen, named) = parted_by(rest, b"\nnamed:");
+fn row_holds(alloc: Global, row: &[u8], reversed: bool) -> Option<bool> {
+    let (_, rest) = split_at_mark(row, b"setup:");
+    let (setup, rest) = split_at_mark(rest, b"\nreported:");
+    let (reported, rest) = split_at_mark(rest, b"\nseen:");
+    let (seen, named) = split_at_mark(rest, b"\nnamed:");
     let setup = setup_in(alloc, setup, Finding::NonBare)?;
     let what = What::UntrackedAndIgnored;
     let all = text_of(alloc, &setup, Wanted::as_reported(what), reversed)?;
@@ -222,7 +222,7 @@ fn holds(alloc: Global, row: &[u8], reversed: bool) -> Option<bool> {
 /// The first row that does not hold, with names listed in either order.
 fn first_lie(alloc: Global) -> Option<&'static [u8]> {
     for row in ROWS.split_str(b"\n@\n") {
-        let told = (holds(alloc, row, false), holds(alloc, row, true));
+        let told = (row_holds(alloc, row, false), row_holds(alloc, row, true));
         if !matches!(told, (Some(true), Some(true))) {
             return Some(row);
         }

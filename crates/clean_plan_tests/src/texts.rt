@@ -2,7 +2,7 @@
 use clean_plan::CleanError;
 use std::alloc::Global;
 use std::fmt::Display;
-use test_cases::parted;
+use test_cases::split_at_byte;
 use worktree_report::ReportError;
 
 /// Rows, parted by bars: an error and its text, parted by a backquote.
@@ -21,7 +21,7 @@ fn is_shown<E: Display + Drop>(alloc: Global, error: E, want: &[u8]) -> bool {
 
 /// Whether a row holds.
 fn holds(alloc: Global, row: &[u8]) -> bool {
-    let (error, text) = parted(row, b'`');
+    let (error, text) = split_at_byte(row, b'`');
     match error {
         b"report" => is_shown(alloc, CleanError::Report(ReportError::ReadFault), text),
         b"fault" => is_shown(alloc, CleanError::Fault, text),

@@ -1,17 +1,17 @@
 //! Trees in memory, from a row.
 use bstr::ByteSlice;
 use std::alloc::Global;
-use test_cases::{is_put, parted};
+use test_cases::{is_put, split_at_byte};
 use worktree_fs::{CallKind, MemoryWorktree};
 
 /// Whether a step was taken: a node put at a path, or the real path of the root planned not to be
 /// told.
 fn is_taken(alloc: Global, tree: &mut MemoryWorktree, step: &[u8]) -> bool {
-    let (what, rest) = parted(step, b'`');
-    let (path, text) = parted(rest, b'`');
+    let (what, rest) = split_at_byte(step, b'`');
+    let (path, text) = split_at_byte(rest, b'`');
     match what {
-        b"first real path fails" => tree.fail(alloc, CallKind::RealPath, 1).is_ok(),
-        b"last real path fails" => tree.fail(alloc, CallKind::RealPath, 2).is_ok(),
+        b"first real path fails" => tree.plan_fault(alloc, CallKind::RealPath, 1).is_ok(),
+        b"last real path fails" => tree.plan_fault(alloc, CallKind::RealPath, 2).is_ok(),
         _ => is_put(alloc, tree, what, path, text),
     }
 }

@@ -80,16 +80,16 @@ is_line bytes = not (has_feed bytes) && not (ends_blank bytes)
 -- ---- how often `-f` stands
 
 -- once more
-abbrev pub more : Force → Force
-more forces.Unsaid = forces.Once
-more forces.Dropped = forces.Alone
-more forces.Once = forces.Twice
-more forces.Alone = forces.Twice
-more forces.Twice = forces.Twice
+abbrev pub with_one_more_force : Force → Force
+with_one_more_force forces.Unsaid = forces.Once
+with_one_more_force forces.Dropped = forces.Alone
+with_one_more_force forces.Once = forces.Twice
+with_one_more_force forces.Alone = forces.Twice
+with_one_more_force forces.Twice = forces.Twice
 
 -- once more, or not at all behind `--no-force`
 abbrev pub forced : Bool → Force → Force
-forced is_on force = if is_on then more force else forces.Dropped
+forced is_on force = if is_on then with_one_more_force force else forces.Dropped
 
 -- Something may be removed without `-n`. `clean.requireForce` counts as one `-f` where it is false, which is lax.
 abbrev pub is_forced : Force → Bool → Bool

@@ -25,15 +25,15 @@ default_comparing =
     }
 
 -- with one choice made or dropped; `-q` changes nothing
-abbrev pub told_apart : CompareChoice → Bool → Comparing → Comparing
-told_apart choices.Raw on comparing = record comparing { raw = on }
-told_apart choices.Names on comparing = record comparing { names = on }
-told_apart choices.Statuses on comparing = record comparing { statuses = on }
-told_apart choices.Nul on comparing = record comparing { ends_in_nul = on }
-told_apart choices.Silent on comparing = comparing
-told_apart choices.TellsChanges on comparing = record comparing { tells_changes = on }
-told_apart choices.Quiet on comparing = record comparing { is_quiet = on }
-told_apart (choices.Ignores ignoring) on comparing = record comparing { ignoring = ignoring }
+abbrev pub comparing_with_choice : CompareChoice → Bool → Comparing → Comparing
+comparing_with_choice choices.Raw on comparing = record comparing { raw = on }
+comparing_with_choice choices.Names on comparing = record comparing { names = on }
+comparing_with_choice choices.Statuses on comparing = record comparing { statuses = on }
+comparing_with_choice choices.Nul on comparing = record comparing { ends_in_nul = on }
+comparing_with_choice choices.Silent on comparing = comparing
+comparing_with_choice choices.TellsChanges on comparing = record comparing { tells_changes = on }
+comparing_with_choice choices.Quiet on comparing = record comparing { is_quiet = on }
+comparing_with_choice (choices.Ignores ignoring) on comparing = record comparing { ignoring = ignoring }
 
 -- those that nothing turns off
 abbrev pub form_of : List ℕ → Option CompareChoice
@@ -51,13 +51,13 @@ telling_of name =
     else None
 
 -- the option of a choice, made or dropped
-abbrev pub compares : Bool → Option CompareChoice → Option Opt
-compares is_on choice = option_map (λ (c : CompareChoice). opts.Compares c is_on) choice
+abbrev pub compare_choice_option : Bool → Option CompareChoice → Option Opt
+compare_choice_option is_on choice = option_map (λ (c : CompareChoice). opts.Compares c is_on) choice
 
 -- the option of a choice by its name, dropped behind `no-`
 abbrev pub telling_by : List ℕ → Option Opt
 telling_by name =
-    if starts_with nat_eq name (codes "no-") then compares false (telling_of (drop 3 name)) else compares true (telling_of name)
+    if starts_with nat_eq name (codes "no-") then compare_choice_option false (telling_of (drop 3 name)) else compare_choice_option true (telling_of name)
 
 -- git's, of patches; not answered here
 abbrev pub is_left_patch : List ℕ → Bool
@@ -128,7 +128,7 @@ ignoring_of value =
 
 -- the option that a long name means to `diff-files`: a form of the answer, or a choice
 abbrev pub comparing_by : List ℕ → Option Opt
-comparing_by name = first_of (compares true (form_of name)) (telling_by name)
+comparing_by name = first_of (compare_choice_option true (form_of name)) (telling_by name)
 
 -- the option of this name that is not answered here, or a choice
 unfoldable pub left_or_choice : List ℕ → Option Opt

@@ -34,7 +34,7 @@ use Rattle.command_line.specs.declared.opt.Switch.TheVariants as switches
 use Rattle.command_line.specs.ChangeWords.{no_changes, with_change}
 use Rattle.command_line.specs.Checkings.{default_checking, told_of}
 use Rattle.command_line.specs.Cleanings.{forced}
-use Rattle.command_line.specs.Comparings.{default_comparing, told_apart}
+use Rattle.command_line.specs.Comparings.{default_comparing, comparing_with_choice}
 use Rattle.command_line.specs.declared.check_options.CheckChoice.{CheckChoice}
 use Rattle.command_line.specs.declared.compare_options.CompareChoice.{CompareChoice}
 
@@ -142,33 +142,33 @@ turned switches.BareRepositories on options = record options { classify_untracke
 turned switches.LinksAsDirectories on options = record options { symlinks_to_directories_are_ignored_like_directories = on }
 
 -- a listing with one choice made or dropped; what changed is told beside it
-abbrev pub chosen : Choice → Bool → Listing → Listing
-chosen choices.Cached on listing = record listing { cached = on }
-chosen choices.Stages on listing = record listing { stages = on }
-chosen choices.Unmerged on listing = record listing { unmerged = on }
-chosen choices.Others on listing = record listing { others = on }
-chosen choices.Killed on listing = record listing { killed = on }
-chosen choices.Deleted on listing = listing
-chosen choices.Modified on listing = listing
-chosen choices.Ignored on listing = record listing { ignored = on }
-chosen choices.Directories on listing = record listing { directories = on }
-chosen choices.EmptyDirectories on listing = record listing { empty_directories = on }
-chosen choices.ExcludesStandard on listing = record listing { excludes_standard = on }
-chosen choices.ExcludesDirectories on listing = record listing { excludes_directories = on }
-chosen choices.ErrorUnmatch on listing = record listing { error_unmatch = on }
-chosen choices.Tags on listing = record listing { tags = on }
-chosen choices.Valid on listing = record listing { valid = on }
-chosen choices.Nul on listing = record listing { ends_in_nul = on }
-chosen choices.Deduplicates on listing = record listing { deduplicates = on }
-chosen choices.FullNames on listing = record listing { full_names = on }
+abbrev pub listing_with_choice : Choice → Bool → Listing → Listing
+listing_with_choice choices.Cached on listing = record listing { cached = on }
+listing_with_choice choices.Stages on listing = record listing { stages = on }
+listing_with_choice choices.Unmerged on listing = record listing { unmerged = on }
+listing_with_choice choices.Others on listing = record listing { others = on }
+listing_with_choice choices.Killed on listing = record listing { killed = on }
+listing_with_choice choices.Deleted on listing = listing
+listing_with_choice choices.Modified on listing = listing
+listing_with_choice choices.Ignored on listing = record listing { ignored = on }
+listing_with_choice choices.Directories on listing = record listing { directories = on }
+listing_with_choice choices.EmptyDirectories on listing = record listing { empty_directories = on }
+listing_with_choice choices.ExcludesStandard on listing = record listing { excludes_standard = on }
+listing_with_choice choices.ExcludesDirectories on listing = record listing { excludes_directories = on }
+listing_with_choice choices.ErrorUnmatch on listing = record listing { error_unmatch = on }
+listing_with_choice choices.Tags on listing = record listing { tags = on }
+listing_with_choice choices.Valid on listing = record listing { valid = on }
+listing_with_choice choices.Nul on listing = record listing { ends_in_nul = on }
+listing_with_choice choices.Deduplicates on listing = record listing { deduplicates = on }
+listing_with_choice choices.FullNames on listing = record listing { full_names = on }
 
 -- what is asked of `clean` with one choice made or dropped
-abbrev pub swept : CleanChoice → Bool → Cleaning → Cleaning
-swept cleans.DryRun on cleaning = record cleaning { dry_run = on }
-swept cleans.Directories on cleaning = record cleaning { directories = on }
-swept cleans.IgnoredToo on cleaning = record cleaning { ignored_too = on }
-swept cleans.IgnoredAlone on cleaning = record cleaning { ignored_only = on }
-swept cleans.Quiet on cleaning = record cleaning { quiet = on }
+abbrev pub cleaning_with_choice : CleanChoice → Bool → Cleaning → Cleaning
+cleaning_with_choice cleans.DryRun on cleaning = record cleaning { dry_run = on }
+cleaning_with_choice cleans.Directories on cleaning = record cleaning { directories = on }
+cleaning_with_choice cleans.IgnoredToo on cleaning = record cleaning { ignored_too = on }
+cleaning_with_choice cleans.IgnoredAlone on cleaning = record cleaning { ignored_only = on }
+cleaning_with_choice cleans.Quiet on cleaning = record cleaning { quiet = on }
 
 -- the configurations that may be read
 abbrev pub permissions_of : Bool → Permissions
@@ -238,11 +238,11 @@ with_depth depth draft = record draft { depth = depth }
 
 -- one choice of `ls-files` is made or dropped
 abbrev pub with_choice : Choice → Bool → Draft → Draft
-with_choice choice on draft = record draft { listing = chosen choice on draft.listing; changes = with_change choice on draft.changes }
+with_choice choice on draft = record draft { listing = listing_with_choice choice on draft.listing; changes = with_change choice on draft.changes }
 
 -- one choice of `clean` is made or dropped
 abbrev pub with_clean_choice : CleanChoice → Bool → Draft → Draft
-with_clean_choice choice on draft = record draft { cleaning = swept choice on draft.cleaning }
+with_clean_choice choice on draft = record draft { cleaning = cleaning_with_choice choice on draft.cleaning }
 
 -- force is asked for once more, or no more
 abbrev pub with_force : Bool → Draft → Draft
@@ -250,7 +250,7 @@ with_force on draft = record draft { force = forced on draft.force }
 
 -- one choice of `diff-files` is made or dropped
 abbrev pub with_compare_choice : CompareChoice → Bool → Draft → Draft
-with_compare_choice choice on draft = record draft { comparing = told_apart choice on draft.comparing }
+with_compare_choice choice on draft = record draft { comparing = comparing_with_choice choice on draft.comparing }
 
 -- one choice of `check-ignore` is made or dropped
 abbrev pub with_check_choice : CheckChoice → Bool → Draft → Draft

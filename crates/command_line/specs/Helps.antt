@@ -24,8 +24,8 @@ abbrev text : List (List ℕ) → List ℕ
 text lines = flat_map (λ line. line ++ 10 ∷ []) lines
 
 -- the help text where no command is named
-abbrev whole : List ℕ
-whole =
+abbrev general_help_text : List ℕ
+general_help_text =
     text
     (codes "usage: tizhagor [-C DIR] report|plan|modules|state|ls-files|clean|diff-files|check-ignore [OPTION..] [--] [PATH..]"
     ∷ codes ""
@@ -284,7 +284,7 @@ clean =
 
 -- the help text of a command, or of the whole program
 abbrev pub help_of : Topic → List ℕ
-help_of topics.Whole = whole
+help_of topics.Whole = general_help_text
 help_of (topics.Of verbs.Report) = report
 help_of (topics.Of verbs.Plan) = plan
 help_of (topics.Of verbs.Modules) = modules

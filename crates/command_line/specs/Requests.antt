@@ -100,23 +100,23 @@ listed None want listing rules = files want listing rules
 listed (Some standings) want listing rules = changed want listing rules standings
 
 -- the command of a verb, where its words are right
-abbrev done : Verb → Draft → List (List ℕ) → RulesGiven → Command
-done verbs.Report draft paths rules = report (want_in verbs.Report draft paths) draft.form
-done verbs.Plan draft paths rules = plan (want_in verbs.Plan draft paths) draft.what draft.finding draft.form
-done verbs.Modules draft paths rules = modules (want_in verbs.Modules draft paths)
-done verbs.State draft paths rules = state (want_in verbs.State draft paths) draft.form draft.by_stat
-done verbs.Files draft paths rules = listed (standings_of draft.changes) (want_in verbs.Files draft paths) draft.listing rules
-done verbs.Clean draft paths rules = clean (want_in verbs.Clean draft paths) (cleaning_in draft.cleaning paths) draft.force rules.patterns
-done verbs.Compare draft paths rules = compare (want_in verbs.Compare draft paths) draft.comparing
-done verbs.Check draft paths rules = check (want_in verbs.Check draft paths) draft.checking
+abbrev command_of_verb : Verb → Draft → List (List ℕ) → RulesGiven → Command
+command_of_verb verbs.Report draft paths rules = report (want_in verbs.Report draft paths) draft.form
+command_of_verb verbs.Plan draft paths rules = plan (want_in verbs.Plan draft paths) draft.what draft.finding draft.form
+command_of_verb verbs.Modules draft paths rules = modules (want_in verbs.Modules draft paths)
+command_of_verb verbs.State draft paths rules = state (want_in verbs.State draft paths) draft.form draft.by_stat
+command_of_verb verbs.Files draft paths rules = listed (standings_of draft.changes) (want_in verbs.Files draft paths) draft.listing rules
+command_of_verb verbs.Clean draft paths rules = clean (want_in verbs.Clean draft paths) (cleaning_in draft.cleaning paths) draft.force rules.patterns
+command_of_verb verbs.Compare draft paths rules = compare (want_in verbs.Compare draft paths) draft.comparing
+command_of_verb verbs.Check draft paths rules = check (want_in verbs.Check draft paths) draft.checking
 
 -- what a command is to do, by what its words say
-abbrev pub told : Verb → Draft → List (List ℕ) → RulesGiven → Command
-told verb draft paths rules = if draft.is_help then help (topics.Of verb) else done verb draft paths rules
+abbrev pub command_from_draft : Verb → Draft → List (List ℕ) → RulesGiven → Command
+command_from_draft verb draft paths rules = if draft.is_help then help (topics.Of verb) else command_of_verb verb draft paths rules
 
 -- the answer by what was read of the words
 abbrev answer_by : Verb → Reading → Answer
-answer_by verb (said draft paths rules) = does (told verb draft paths rules)
+answer_by verb (said draft paths rules) = does (command_from_draft verb draft paths rules)
 answer_by verb (wrong how word) = misuses_word (topics.Of verb) how word
 
 -- the words behind a command
@@ -171,14 +171,14 @@ directory_of [] = None
 directory_of (b ∷ bytes) = Some (b ∷ bytes)
 
 -- the words behind `-C`
-abbrev pub elsewhere : List (List ℕ) → Asking
-elsewhere [] = in_directory None (misused wrongs.NoValue (codes "-C"))
-elsewhere (word ∷ words) = in_directory (directory_of word) (command_in words)
+abbrev pub parse_directory_and_command : List (List ℕ) → Asking
+parse_directory_and_command [] = in_directory None (misused wrongs.NoValue (codes "-C"))
+parse_directory_and_command (word ∷ words) = in_directory (directory_of word) (command_in words)
 
 -- the words of a command line
 abbrev pub request_in : List (List ℕ) → Asking
 request_in [] = in_directory None (command_in [])
-request_in (word ∷ words) = if bytes_eq word (codes "-C") then elsewhere words else in_directory None (command_in (word ∷ words))
+request_in (word ∷ words) = if bytes_eq word (codes "-C") then parse_directory_and_command words else in_directory None (command_in (word ∷ words))
 
 -- ---- an answer of the code is the one that is defined, unless memory was wanting
 

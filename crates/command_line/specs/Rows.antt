@@ -80,13 +80,13 @@ body_in Words end words path = in_words end words path
 body_in Letters end words path = in_letters end words path
 
 -- the text of a line in a style, without colours
-abbrev pub body : Style → List ℕ → List ℕ → List ℕ
-body style words path = body_in style.wording style.end words path
+abbrev pub uncolored_styled_line : Style → List ℕ → List ℕ → List ℕ
+uncolored_styled_line style words path = body_in style.wording style.end words path
 
 -- in the colour of the status
 abbrev pub row : Style → List ℕ → List ℕ → List ℕ
 row style words path =
-    opening style.is_colored (first_word words) ++ body style words path ++ closing (opening style.is_colored (first_word words))
+    opening style.is_colored (first_word words) ++ uncolored_styled_line style words path ++ closing (opening style.is_colored (first_word words))
 
 -- a line that has a tab is written in the style; any other stays
 abbrev row_at : Option ℕ → Style → List ℕ → List ℕ

@@ -36,42 +36,42 @@ use Rattle.command_line.specs.Options.{opt_of, opt_of_letter, takes, emission_of
 use Rattle.command_line.specs.Verbs.{needs_dashes, takes_paths}
 
 -- something more is said, and the next word may be anything
-abbrev pub on : Draft → Step
-on draft = Said draft nexts.Any
+abbrev pub proceed_with : Draft → Step
+proceed_with draft = Said draft nexts.Any
 
 -- this is told of submodules
 abbrev pub ignoring_as : Ignoring → Draft → Step
-ignoring_as ignoring draft = on (with_compare_choice (compare_choices.Ignores ignoring) true draft)
+ignoring_as ignoring draft = proceed_with (with_compare_choice (compare_choices.Ignores ignoring) true draft)
 
 -- an option without a value
 abbrev pub bare : Opt → Draft → Step
-bare (opts.With switch) draft = on (with_switch switch true draft)
-bare (opts.Without switch) draft = on (with_switch switch false draft)
-bare opts.Untracked draft = on (with_untracked Matching draft)
-bare opts.Ignored draft = on (with_ignored (Some Matching) draft)
+bare (opts.With switch) draft = proceed_with (with_switch switch true draft)
+bare (opts.Without switch) draft = proceed_with (with_switch switch false draft)
+bare opts.Untracked draft = proceed_with (with_untracked Matching draft)
+bare opts.Ignored draft = proceed_with (with_ignored (Some Matching) draft)
 bare opts.Collapsed draft = is_wrong wrongs.NoValue
 bare opts.Deletion draft = is_wrong wrongs.NoValue
 bare opts.Permissions draft = is_wrong wrongs.NoValue
 bare opts.Strategy draft = is_wrong wrongs.NoValue
 bare opts.Depth draft = Said draft nexts.Depth
-bare opts.IgnoredToo draft = on (with_what whats.UntrackedAndIgnored draft)
-bare opts.IgnoredAlone draft = on (with_what whats.IgnoredOnly draft)
-bare opts.NonBare draft = on (with_finding findings.NonBare draft)
-bare opts.ByStat draft = on (with_by_stat draft)
-bare opts.Nul draft = on (with_end Nul draft)
-bare opts.Plain draft = on (with_wording Letters draft)
-bare opts.Color draft = on (with_color Always draft)
-bare opts.NoColor draft = on (with_color Never draft)
-bare opts.Help draft = on (with_help draft)
-bare (opts.Chooses choice) draft = on (with_choice choice true draft)
-bare (opts.Drops choice) draft = on (with_choice choice false draft)
-bare (opts.Cleans choice is_on) draft = on (with_clean_choice choice is_on draft)
-bare (opts.Forces is_on) draft = on (with_force is_on draft)
+bare opts.IgnoredToo draft = proceed_with (with_what whats.UntrackedAndIgnored draft)
+bare opts.IgnoredAlone draft = proceed_with (with_what whats.IgnoredOnly draft)
+bare opts.NonBare draft = proceed_with (with_finding findings.NonBare draft)
+bare opts.ByStat draft = proceed_with (with_by_stat draft)
+bare opts.Nul draft = proceed_with (with_end Nul draft)
+bare opts.Plain draft = proceed_with (with_wording Letters draft)
+bare opts.Color draft = proceed_with (with_color Always draft)
+bare opts.NoColor draft = proceed_with (with_color Never draft)
+bare opts.Help draft = proceed_with (with_help draft)
+bare (opts.Chooses choice) draft = proceed_with (with_choice choice true draft)
+bare (opts.Drops choice) draft = proceed_with (with_choice choice false draft)
+bare (opts.Cleans choice is_on) draft = proceed_with (with_clean_choice choice is_on draft)
+bare (opts.Forces is_on) draft = proceed_with (with_force is_on draft)
 bare opts.Pattern draft = Said draft nexts.Pattern
 bare opts.ExcludeFrom draft = Said draft nexts.File
 bare opts.Standard draft = Rules (with_choice choices.ExcludesStandard true draft) rulings.Standard
-bare (opts.Compares choice is_on) draft = on (with_compare_choice choice is_on draft)
-bare (opts.Checks choice is_on) draft = on (with_check_choice choice is_on draft)
+bare (opts.Compares choice is_on) draft = proceed_with (with_compare_choice choice is_on draft)
+bare (opts.Checks choice is_on) draft = proceed_with (with_check_choice choice is_on draft)
 bare opts.RulesFile draft = is_wrong wrongs.Left
 bare opts.Submodules draft = ignoring_as ignorings.All draft
 bare opts.Left draft = is_wrong wrongs.Left
@@ -80,7 +80,7 @@ bare opts.Left draft = is_wrong wrongs.Left
 
 -- untracked paths in a mode, where the value names one
 abbrev untracked_as : Option EmissionMode → Draft → Step
-untracked_as (Some mode) draft = on (with_untracked mode draft)
+untracked_as (Some mode) draft = proceed_with (with_untracked mode draft)
 untracked_as None draft = is_wrong wrongs.UnknownValue
 
 -- the step of `-u`, or of its long name, with a value
@@ -89,56 +89,56 @@ untracked_by value draft = untracked_as (emission_of value) draft
 
 -- ignored paths in a mode, where the value names one
 abbrev ignored_as : Option EmissionMode → Draft → Step
-ignored_as (Some mode) draft = on (with_ignored (Some mode) draft)
+ignored_as (Some mode) draft = proceed_with (with_ignored (Some mode) draft)
 ignored_as None draft = is_wrong wrongs.UnknownValue
 
 -- the step of `--ignored` with its value
 abbrev pub ignored_by : List ℕ → Draft → Step
-ignored_by value draft = if bytes_eq value (codes "no") then on (with_ignored None draft) else ignored_as (emission_of value) draft
+ignored_by value draft = if bytes_eq value (codes "no") then proceed_with (with_ignored None draft) else ignored_as (emission_of value) draft
 
 -- what a folded directory covers, where the value names a mode
 abbrev collapsed_as : Option CollapsedEntriesEmissionMode → Draft → Step
-collapsed_as (Some mode) draft = on (with_collapsed (Some mode) draft)
+collapsed_as (Some mode) draft = proceed_with (with_collapsed (Some mode) draft)
 collapsed_as None draft = is_wrong wrongs.UnknownValue
 
 -- the step of `--collapsed` with its value
 abbrev pub collapsed_by : List ℕ → Draft → Step
-collapsed_by value draft = if bytes_eq value (codes "no") then on (with_collapsed None draft) else collapsed_as (collapsed_of value) draft
+collapsed_by value draft = if bytes_eq value (codes "no") then proceed_with (with_collapsed None draft) else collapsed_as (collapsed_of value) draft
 
 -- looking for what must not be deleted, where the value names a mode
 abbrev deletion_as : Option ForDeletionMode → Draft → Step
-deletion_as (Some mode) draft = on (with_deletion (Some mode) draft)
+deletion_as (Some mode) draft = proceed_with (with_deletion (Some mode) draft)
 deletion_as None draft = is_wrong wrongs.UnknownValue
 
 -- the step of `--for-deletion` with its value
 abbrev pub deletion_by : List ℕ → Draft → Step
-deletion_by value draft = if bytes_eq value (codes "no") then on (with_deletion None draft) else deletion_as (deletion_of value) draft
+deletion_by value draft = if bytes_eq value (codes "no") then proceed_with (with_deletion None draft) else deletion_as (deletion_of value) draft
 
 -- what is safe in a repository of anybody is all, since nothing that is read is run
 abbrev pub permissions_by : List ℕ → Draft → Step
 permissions_by value draft =
-    if bytes_eq value (codes "isolated") then on (with_permissions true draft)
-    else if bytes_eq value (codes "secure") || bytes_eq value (codes "all") then on (with_permissions false draft)
+    if bytes_eq value (codes "isolated") then proceed_with (with_permissions true draft)
+    else if bytes_eq value (codes "secure") || bytes_eq value (codes "all") then proceed_with (with_permissions false draft)
     else is_wrong wrongs.UnknownValue
 
 -- the step of `--strategy` with its value
 abbrev pub strategy_by : List ℕ → Draft → Step
 strategy_by value draft =
-    if bytes_eq value (codes "held") then on (with_strategy Held draft)
-    else if bytes_eq value (codes "at-once") then on (with_strategy AtOnce draft)
+    if bytes_eq value (codes "held") then proceed_with (with_strategy Held draft)
+    else if bytes_eq value (codes "at-once") then proceed_with (with_strategy AtOnce draft)
     else is_wrong wrongs.UnknownValue
 
 -- the step of `--color` with its value
 abbrev pub color_by : List ℕ → Draft → Step
 color_by value draft =
-    if bytes_eq value (codes "auto") then on (with_color Auto draft)
-    else if bytes_eq value (codes "always") then on (with_color Always draft)
-    else if bytes_eq value (codes "never") then on (with_color Never draft)
+    if bytes_eq value (codes "auto") then proceed_with (with_color Auto draft)
+    else if bytes_eq value (codes "always") then proceed_with (with_color Always draft)
+    else if bytes_eq value (codes "never") then proceed_with (with_color Never draft)
     else is_wrong wrongs.UnknownValue
 
 -- a limit of the depth, where the value is a number
 abbrev depth_as : Option ℕ → Draft → Step
-depth_as (Some depth) draft = on (with_depth depth draft)
+depth_as (Some depth) draft = proceed_with (with_depth depth draft)
 depth_as None draft = is_wrong wrongs.NotADepth
 
 -- a decimal number from 0 to 1000, without zeros in front
@@ -156,7 +156,7 @@ file_by value draft = Rules draft (rulings.File (length value))
 -- the name of the rules files of directories: `.gitignore`, or another, which is not answered here
 abbrev pub rules_file_by : List ℕ → Draft → Step
 rules_file_by value draft =
-    if bytes_eq value (codes ".gitignore") then on (with_choice choices.ExcludesDirectories true draft) else is_wrong wrongs.Left
+    if bytes_eq value (codes ".gitignore") then proceed_with (with_choice choices.ExcludesDirectories true draft) else is_wrong wrongs.Left
 
 -- submodules are ignored so, where the value names how
 abbrev ignoring_said : Option Ignoring → Draft → Step
@@ -294,7 +294,7 @@ by_letter (Some opt) letter text onward draft =
 
 -- letters, each an option; `u`, `e`, `x` and `X` take what is behind them as their value
 unfoldable pub letters : Verb → List ℕ → Draft → Step
-letters verb [] draft = on draft
+letters verb [] draft = proceed_with draft
 letters verb (letter ∷ text) draft = by_letter (known_letter verb letter) letter text (λ d. letters verb text d) draft
 
 -- ---- words
@@ -319,13 +319,13 @@ dashed verb (b ∷ text) draft = if b == 45 then twice_dashed verb text draft el
 
 -- A word that may be an option: `--` ends the options, `--NAME` and `--NAME=VALUE` are one, `-LETTERS` some; a `-` alone, and what does
 -- not begin with one, is a path.
-abbrev pub any : Verb → List ℕ → Draft → Step
-any verb [] draft = undashed verb
-any verb (b ∷ text) draft = if b == 45 then dashed verb text draft else undashed verb
+abbrev pub parse_option_or_path : Verb → List ℕ → Draft → Step
+parse_option_or_path verb [] draft = undashed verb
+parse_option_or_path verb (b ∷ text) draft = if b == 45 then dashed verb text draft else undashed verb
 
 -- what a word says, by what was said before it
 abbrev pub word_step : Verb → Next → List ℕ → Draft → Step
-word_step verb nexts.Any word draft = any verb word draft
+word_step verb nexts.Any word draft = parse_option_or_path verb word draft
 word_step verb nexts.Depth word draft = depth_by word draft
 word_step verb nexts.Pattern word draft = pattern_by word draft
 word_step verb (nexts.LetterPattern letter) word draft = pattern_by word draft

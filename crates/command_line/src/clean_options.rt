@@ -36,8 +36,8 @@ pub enum Force {
 }
 
 impl Force {
-    fn more(self) -> Force
-        ensures { result ≡ cleanings.more self }
+    fn with_one_more_force(self) -> Force
+        ensures { result ≡ cleanings.with_one_more_force self }
     {
         match self {
             Force::Unsaid => Force::Once,
@@ -50,7 +50,11 @@ impl Force {
     pub fn with(self, is_on: bool) -> Force
         ensures { result ≡ cleanings.forced is_on self }
     {
-        if is_on { self.more() } else { Force::Dropped }
+        if is_on {
+            self.with_one_more_force()
+        } else {
+            Force::Dropped
+        }
     }
 
     /// Whether something may be removed without `-n`; `is_lax` says that `clean.requireForce` is

@@ -72,8 +72,8 @@ pub fn default_comparing() -> Comparing
 }
 
 /// The same with one choice made or dropped; all others stay.
-pub fn told_apart(comparing: Comparing, choice: CompareChoice, on: bool) -> Comparing
-    ensures { result ≡ comparings.told_apart choice on comparing }
+pub fn comparing_with_choice(comparing: Comparing, choice: CompareChoice, on: bool) -> Comparing
+    ensures { result ≡ comparings.comparing_with_choice choice on comparing }
 {
     let mut comparing = comparing;
     match choice {
@@ -118,8 +118,8 @@ fn telling_of(name: &[u8]) -> Option<CompareChoice>
 }
 
 /// A choice that is made or dropped, if there is one.
-fn compares(is_on: bool, choice: Option<CompareChoice>) -> Option<Opt>
-    ensures { result ≡ comparings.compares is_on choice }
+fn compare_choice_option(is_on: bool, choice: Option<CompareChoice>) -> Option<Opt>
+    ensures { result ≡ comparings.compare_choice_option is_on choice }
 {
     match choice {
         Some(choice) => Some(Opt::Compares(choice, is_on)),
@@ -133,9 +133,9 @@ fn telling_by(name: &[u8]) -> Option<Opt>
 {
     if name.starts_with(b"no-") {
         let (_, rest) = name.split_at(3);
-        return compares(false, telling_of(rest));
+        return compare_choice_option(false, telling_of(rest));
     }
-    compares(true, telling_of(name))
+    compare_choice_option(true, telling_of(name))
 }
 
 /// Whether git has an option of this name, of patches, that is not answered here.
@@ -237,7 +237,7 @@ pub fn ignoring_of(value: &[u8]) -> Option<Ignoring>
 fn comparing_by(name: &[u8]) -> Option<Opt>
     ensures { result ≡ comparings.comparing_by name.now }
 {
-    match compares(true, form_of(name)) {
+    match compare_choice_option(true, form_of(name)) {
         Some(opt) => Some(opt),
         None => telling_by(name),
     }

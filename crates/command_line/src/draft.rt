@@ -6,7 +6,7 @@ use crate::change_words::{ChangeWords, no_changes, with_change};
 use crate::check_options::{CheckAsked, CheckChoice, default_checking, told_of};
 use crate::choice::Choice;
 use crate::clean_options::{CleanChoice, Force};
-use crate::compare_options::{CompareChoice, Comparing, default_comparing, told_apart};
+use crate::compare_options::{CompareChoice, Comparing, comparing_with_choice, default_comparing};
 use crate::form::{Color, Form, LineEnd, Wording};
 use crate::opt::Switch;
 use clean_plan::{Finding, What};
@@ -170,8 +170,8 @@ fn turned(options: SetupOptions, switch: Switch, on: bool) -> SetupOptions
 }
 
 /// The listing with one choice made or dropped; all others stay.
-fn chosen(listing: Listing, choice: Choice, on: bool) -> Listing
-    ensures { result ≡ drafts.chosen choice on listing }
+fn listing_with_choice(listing: Listing, choice: Choice, on: bool) -> Listing
+    ensures { result ≡ drafts.listing_with_choice choice on listing }
 {
     let mut listing = listing;
     match choice {
@@ -198,8 +198,8 @@ fn chosen(listing: Listing, choice: Choice, on: bool) -> Listing
 }
 
 /// What is asked of `clean` with one choice made or dropped; all others stay.
-fn swept(cleaning: Cleaning, choice: CleanChoice, on: bool) -> Cleaning
-    ensures { result ≡ drafts.swept choice on cleaning }
+fn cleaning_with_choice(cleaning: Cleaning, choice: CleanChoice, on: bool) -> Cleaning
+    ensures { result ≡ drafts.cleaning_with_choice choice on cleaning }
 {
     let mut cleaning = cleaning;
     match choice {
@@ -362,7 +362,7 @@ impl Draft {
         ensures { result ≡ drafts.with_choice choice on self }
     {
         let mut draft = self;
-        draft.listing = chosen(draft.listing, choice, on);
+        draft.listing = listing_with_choice(draft.listing, choice, on);
         draft.changes = with_change(draft.changes, choice, on);
         draft
     }
@@ -372,7 +372,7 @@ impl Draft {
         ensures { result ≡ drafts.with_clean_choice choice on self }
     {
         let mut draft = self;
-        draft.cleaning = swept(draft.cleaning, choice, on);
+        draft.cleaning = cleaning_with_choice(draft.cleaning, choice, on);
         draft
     }
 
@@ -390,7 +390,7 @@ impl Draft {
         ensures { result ≡ drafts.with_compare_choice choice on self }
     {
         let mut draft = self;
-        draft.comparing = told_apart(draft.comparing, choice, on);
+        draft.comparing = comparing_with_choice(draft.comparing, choice, on);
         draft
     }
 

@@ -58,8 +58,8 @@ fn listed(standings: Option<Standings>, asked: Asked, files: FilesAsked) -> Comm
 }
 
 /// What a command is to do, by what its words say.
-fn told(verb: Verb, draft: Draft, paths: Vec<Bytes>, rules: RulesGiven) -> Command
-    ensures { requests.seen result ≡ requests.told verb draft paths.items rules }
+fn command_from_draft(verb: Verb, draft: Draft, paths: Vec<Bytes>, rules: RulesGiven) -> Command
+    ensures { requests.seen result ≡ requests.command_from_draft verb draft paths.items rules }
 {
     if draft.is_help {
         return Command::Help(Topic::Of(verb));
@@ -118,7 +118,7 @@ fn of_verb(alloc: Global, verb: Verb, words: &[Bytes]) -> Result<Command, Misuse
     ensures { requests.Commands result (requests.of_verb verb words.now) }
 {
     match read_words(alloc, verb, words)? {
-        Read::Said(draft, paths, rules) => Ok(told(verb, draft, paths, rules)),
+        Read::Said(draft, paths, rules) => Ok(command_from_draft(verb, draft, paths, rules)),
         Read::Wrong(wrong, word) => Err(Misuse::Word {
             topic: Topic::Of(verb),
             wrong,
@@ -196,8 +196,8 @@ fn directory_of(alloc: Global, word: &[u8]) -> Result<Option<Bytes>, Misuse>
 }
 
 /// What words ask for in the directory that `-C` says.
-fn elsewhere(alloc: Global, words: &[Bytes]) -> Result<Request, Misuse>
-    ensures { requests.Answers result (requests.elsewhere words.now) }
+fn parse_directory_and_command(alloc: Global, words: &[Bytes]) -> Result<Request, Misuse>
+    ensures { requests.Answers result (requests.parse_directory_and_command words.now) }
 {
     match words {
         [] => {
@@ -226,7 +226,9 @@ pub fn request_of(alloc: Global, words: &[Bytes]) -> Result<Request, Misuse>
     ensures { requests.Answers result (requests.request_in words.now) }
 {
     match words {
-        [word, rest @ ..] if word.as_bytes() == b"-C".as_slice() => elsewhere(alloc, rest),
+        [word, rest @ ..] if word.as_bytes() == b"-C".as_slice() => parse_directory_and_command(
+            alloc, rest,
+        ),
         _ => {
             let command = command_of(alloc, words)?;
             Ok(Request {

@@ -143,7 +143,8 @@ fn add_letters(
 }
 
 fn add_body(text: &mut Vec<u8>, style: Style, words: &[u8], path: &[u8]) -> Result<(), OutOfMemory>
-    ensures { OnOk result (text.new.items ≡ text.old.items ++ rows.body style words.now path.now) }
+    ensures { OnOk result (text.new.items ≡ text.old.items ++ rows.uncolored_styled_line style
+        words.now path.now) }
 {
     match style.wording {
         Wording::Words => add_words(text, style.end, words, path)?,

@@ -56,8 +56,8 @@ pub enum Step {
     Wrong(Wrong),
 }
 
-fn on(draft: Draft) -> Step
-    ensures { result ≡ steps.on draft }
+fn proceed_with(draft: Draft) -> Step
+    ensures { result ≡ steps.proceed_with draft }
 {
     Step::Said(draft, Next::Any)
 }
@@ -66,7 +66,7 @@ fn on(draft: Draft) -> Step
 fn ignoring_as(ignoring: Ignoring, draft: Draft) -> Step
     ensures { result ≡ steps.ignoring_as ignoring draft }
 {
-    on(draft.with_compare_choice(CompareChoice::Ignores(ignoring), true))
+    proceed_with(draft.with_compare_choice(CompareChoice::Ignores(ignoring), true))
 }
 
 /// An option without a value.
@@ -74,35 +74,35 @@ fn bare(opt: Opt, draft: Draft) -> Step
     ensures { result ≡ steps.bare opt draft }
 {
     match opt {
-        Opt::With(switch) => on(draft.with_switch(switch, true)),
-        Opt::Without(switch) => on(draft.with_switch(switch, false)),
-        Opt::Untracked => on(draft.with_untracked(EmissionMode::Matching)),
-        Opt::Ignored => on(draft.with_ignored(Some(EmissionMode::Matching))),
+        Opt::With(switch) => proceed_with(draft.with_switch(switch, true)),
+        Opt::Without(switch) => proceed_with(draft.with_switch(switch, false)),
+        Opt::Untracked => proceed_with(draft.with_untracked(EmissionMode::Matching)),
+        Opt::Ignored => proceed_with(draft.with_ignored(Some(EmissionMode::Matching))),
         Opt::Collapsed | Opt::Deletion | Opt::Permissions | Opt::Strategy => {
             Step::Wrong(Wrong::NoValue)
         }
         Opt::Depth => Step::Said(draft, Next::Depth),
-        Opt::IgnoredToo => on(draft.with_what(What::UntrackedAndIgnored)),
-        Opt::IgnoredAlone => on(draft.with_what(What::IgnoredOnly)),
-        Opt::NonBare => on(draft.with_finding(Finding::NonBare)),
-        Opt::ByStat => on(draft.with_by_stat()),
-        Opt::Nul => on(draft.with_end(LineEnd::Nul)),
-        Opt::Plain => on(draft.with_wording(Wording::Letters)),
-        Opt::Color => on(draft.with_color(Color::Always)),
-        Opt::NoColor => on(draft.with_color(Color::Never)),
-        Opt::Help => on(draft.with_help()),
-        Opt::Chooses(choice) => on(draft.with_choice(choice, true)),
-        Opt::Drops(choice) => on(draft.with_choice(choice, false)),
-        Opt::Cleans(choice, is_on) => on(draft.with_clean_choice(choice, is_on)),
-        Opt::Forces(is_on) => on(draft.with_force(is_on)),
+        Opt::IgnoredToo => proceed_with(draft.with_what(What::UntrackedAndIgnored)),
+        Opt::IgnoredAlone => proceed_with(draft.with_what(What::IgnoredOnly)),
+        Opt::NonBare => proceed_with(draft.with_finding(Finding::NonBare)),
+        Opt::ByStat => proceed_with(draft.with_by_stat()),
+        Opt::Nul => proceed_with(draft.with_end(LineEnd::Nul)),
+        Opt::Plain => proceed_with(draft.with_wording(Wording::Letters)),
+        Opt::Color => proceed_with(draft.with_color(Color::Always)),
+        Opt::NoColor => proceed_with(draft.with_color(Color::Never)),
+        Opt::Help => proceed_with(draft.with_help()),
+        Opt::Chooses(choice) => proceed_with(draft.with_choice(choice, true)),
+        Opt::Drops(choice) => proceed_with(draft.with_choice(choice, false)),
+        Opt::Cleans(choice, is_on) => proceed_with(draft.with_clean_choice(choice, is_on)),
+        Opt::Forces(is_on) => proceed_with(draft.with_force(is_on)),
         Opt::Pattern => Step::Said(draft, Next::Pattern),
         Opt::ExcludeFrom => Step::Said(draft, Next::File),
         Opt::Standard => Step::Rules(
             draft.with_choice(Choice::ExcludesStandard, true),
             Ruling::Standard,
         ),
-        Opt::Compares(choice, is_on) => on(draft.with_compare_choice(choice, is_on)),
-        Opt::Checks(choice, is_on) => on(draft.with_check_choice(choice, is_on)),
+        Opt::Compares(choice, is_on) => proceed_with(draft.with_compare_choice(choice, is_on)),
+        Opt::Checks(choice, is_on) => proceed_with(draft.with_check_choice(choice, is_on)),
         Opt::RulesFile => Step::Wrong(Wrong::Left),
         Opt::Submodules => ignoring_as(Ignoring::All, draft),
         Opt::Left => Step::Wrong(Wrong::Left),
@@ -113,7 +113,7 @@ fn untracked_by(value: &[u8], draft: Draft) -> Step
     ensures { result ≡ steps.untracked_by value.now draft }
 {
     match emission_of(value) {
-        Some(mode) => on(draft.with_untracked(mode)),
+        Some(mode) => proceed_with(draft.with_untracked(mode)),
         None => Step::Wrong(Wrong::UnknownValue),
     }
 }
@@ -122,10 +122,10 @@ fn ignored_by(value: &[u8], draft: Draft) -> Step
     ensures { result ≡ steps.ignored_by value.now draft }
 {
     if value == b"no".as_slice() {
-        return on(draft.with_ignored(None));
+        return proceed_with(draft.with_ignored(None));
     }
     match emission_of(value) {
-        Some(mode) => on(draft.with_ignored(Some(mode))),
+        Some(mode) => proceed_with(draft.with_ignored(Some(mode))),
         None => Step::Wrong(Wrong::UnknownValue),
     }
 }
@@ -134,10 +134,10 @@ fn collapsed_by(value: &[u8], draft: Draft) -> Step
     ensures { result ≡ steps.collapsed_by value.now draft }
 {
     if value == b"no".as_slice() {
-        return on(draft.with_collapsed(None));
+        return proceed_with(draft.with_collapsed(None));
     }
     match collapsed_of(value) {
-        Some(mode) => on(draft.with_collapsed(Some(mode))),
+        Some(mode) => proceed_with(draft.with_collapsed(Some(mode))),
         None => Step::Wrong(Wrong::UnknownValue),
     }
 }
@@ -146,10 +146,10 @@ fn deletion_by(value: &[u8], draft: Draft) -> Step
     ensures { result ≡ steps.deletion_by value.now draft }
 {
     if value == b"no".as_slice() {
-        return on(draft.with_deletion(None));
+        return proceed_with(draft.with_deletion(None));
     }
     match deletion_of(value) {
-        Some(mode) => on(draft.with_deletion(Some(mode))),
+        Some(mode) => proceed_with(draft.with_deletion(Some(mode))),
         None => Step::Wrong(Wrong::UnknownValue),
     }
 }
@@ -158,9 +158,9 @@ fn permissions_by(value: &[u8], draft: Draft) -> Step
     ensures { result ≡ steps.permissions_by value.now draft }
 {
     if value == b"isolated".as_slice() {
-        on(draft.with_permissions(true))
+        proceed_with(draft.with_permissions(true))
     } else if value == b"secure".as_slice() || value == b"all".as_slice() {
-        on(draft.with_permissions(false))
+        proceed_with(draft.with_permissions(false))
     } else {
         Step::Wrong(Wrong::UnknownValue)
     }
@@ -170,9 +170,9 @@ fn strategy_by(value: &[u8], draft: Draft) -> Step
     ensures { result ≡ steps.strategy_by value.now draft }
 {
     if value == b"held".as_slice() {
-        on(draft.with_strategy(Strategy::Held))
+        proceed_with(draft.with_strategy(Strategy::Held))
     } else if value == b"at-once".as_slice() {
-        on(draft.with_strategy(Strategy::AtOnce))
+        proceed_with(draft.with_strategy(Strategy::AtOnce))
     } else {
         Step::Wrong(Wrong::UnknownValue)
     }
@@ -182,11 +182,11 @@ fn color_by(value: &[u8], draft: Draft) -> Step
     ensures { result ≡ steps.color_by value.now draft }
 {
     if value == b"auto".as_slice() {
-        on(draft.with_color(Color::Auto))
+        proceed_with(draft.with_color(Color::Auto))
     } else if value == b"always".as_slice() {
-        on(draft.with_color(Color::Always))
+        proceed_with(draft.with_color(Color::Always))
     } else if value == b"never".as_slice() {
-        on(draft.with_color(Color::Never))
+        proceed_with(draft.with_color(Color::Never))
     } else {
         Step::Wrong(Wrong::UnknownValue)
     }
@@ -197,7 +197,7 @@ fn depth_by(value: &[u8], draft: Draft) -> Step
     ensures { result ≡ steps.depth_by value.now draft }
 {
     match depth_of(value) {
-        Some(depth) => on(draft.with_depth(depth)),
+        Some(depth) => proceed_with(draft.with_depth(depth)),
         None => Step::Wrong(Wrong::NotADepth),
     }
 }
@@ -226,7 +226,7 @@ fn rules_file_by(value: &[u8], draft: Draft) -> Step
     ensures { result ≡ steps.rules_file_by value.now draft }
 {
     if value == b".gitignore".as_slice() {
-        on(draft.with_choice(Choice::ExcludesDirectories, true))
+        proceed_with(draft.with_choice(Choice::ExcludesDirectories, true))
     } else {
         Step::Wrong(Wrong::Left)
     }
@@ -431,7 +431,7 @@ fn letters(verb: Verb, text: &[u8], draft: Draft) -> Step
         said = lettered(opt, said);
         rest = after;
     }
-    on(said)
+    proceed_with(said)
 }
 
 /// A path, where the command takes paths.
@@ -477,8 +477,8 @@ fn dashed(verb: Verb, text: &[u8], draft: Draft) -> Step
 }
 
 /// A word that may be an option.
-fn any(verb: Verb, word: &[u8], draft: Draft) -> Step
-    ensures { result ≡ steps.any verb word.now draft }
+fn parse_option_or_path(verb: Verb, word: &[u8], draft: Draft) -> Step
+    ensures { result ≡ steps.parse_option_or_path verb word.now draft }
 {
     match word {
         [b'-', text @ ..] => dashed(verb, text, draft),
@@ -491,7 +491,7 @@ pub fn word_step(verb: Verb, next: Next, word: &[u8], draft: Draft) -> Step
     ensures { result ≡ steps.word_step verb next word.now draft }
 {
     match next {
-        Next::Any => any(verb, word, draft),
+        Next::Any => parse_option_or_path(verb, word, draft),
         Next::Depth => depth_by(word, draft),
         Next::Pattern | Next::LetterPattern { letter: _ } => pattern_by(word, draft),
         Next::File | Next::LetterFile { letter: _ } => file_by(word, draft),

@@ -8,7 +8,7 @@ use Rattle.worktree_fs.specs.declared.worktree.Worktree.{Ghosts as WorktreeOf}
 use Rattle.worktree_fs.specs.Kept.{Asks}
 use Rattle.diff_files.specs.declared.comparison.Comparison.{Comparison}
 use Rattle.diff_files.specs.declared.stats.Stats.{Ghosts as StatsOf}
-use Rattle.diff_files.specs.KeptStats.{AsksStats, FailsNot, Outside, Tells}
+use Rattle.diff_files.specs.KeptStats.{AsksStats, KeepsFaultCounts, TreeAndStats, Tells}
 use Rattle.diff_files.specs.Rows.{Row, rows_from}
 use Rattle.diff_files.specs.Stats.{Told}
 use Rattle.diff_files.specs.There.{IsKnown, has_directories_only}
@@ -25,7 +25,7 @@ pub record IsAlong {W S : Type 0} (w : WorktreeOf W) (s : StatsOf S) (w0 w1 : W)
     (entries_left : List IndexEntry) (details_left : List Detail) : Type 0 where
   pub worktree : Asks w w0 w1
   pub stats : AsksStats s s0 s1
-  pub unfaulted : FailsNot w s w0 w1 s0 s1
+  pub unfaulted : KeepsFaultCounts w s w0 w1 s0 s1
   pub knows : IsKnown (s.told s0) root known
-  pub same : (outside : Outside) → Tells (w.told w0) (s.told s0) outside
+  pub same : (outside : TreeAndStats) → Tells (w.told w0) (s.told s0) outside
       → rows_from outside root o specs rows last entries_left details_left ≡ rows_from outside root o specs [] None entries details

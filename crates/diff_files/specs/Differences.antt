@@ -13,7 +13,7 @@ use Rattle.diff_files.specs.declared.error.DiffError.TheVariants as errors
 use Rattle.diff_files.specs.declared.error.Unanswered.{Unanswered}
 use Rattle.diff_files.specs.declared.error.Unsupported.TheVariants as forms
 use Rattle.diff_files.specs.declared.stats.Stats.{Ghosts as StatsOf}
-use Rattle.diff_files.specs.KeptStats.{AsksStats, Fails, FailsNot, Outside, Tells}
+use Rattle.diff_files.specs.KeptStats.{AsksStats, Fails, KeepsFaultCounts, TreeAndStats, Tells}
 use Rattle.diff_files.specs.Lines.{rows_text}
 use Rattle.diff_files.specs.Rows.{Row, rows_from}
 use Rattle.diff_files.specs.Texts.{refused_at}
@@ -25,11 +25,11 @@ unless_sparse None rows = rows
 unless_sparse (Some e) rows = Err (refused_at forms.SparseIndex e)
 
 -- the rows of all entries over a work tree, or the first form that is not answered
-abbrev pub changes_in : Outside → List ℕ → List IndexEntry → List Detail → Comparison → List PathSpec → Result (List Row) Unanswered
+abbrev pub changes_in : TreeAndStats → List ℕ → List IndexEntry → List Detail → Comparison → List PathSpec → Result (List Row) Unanswered
 changes_in s root entries details o specs = unless_sparse (find is_directory entries) (rows_from s root o specs [] None entries details)
 
 -- Their lines, or the first form that is not answered, with the path of the entry that has it.
-abbrev pub differences_in : Outside → List ℕ → List IndexEntry → List Detail → Comparison → List PathSpec → Result (List ℕ) Unanswered
+abbrev pub differences_in : TreeAndStats → List ℕ → List IndexEntry → List Detail → Comparison → List PathSpec → Result (List ℕ) Unanswered
 differences_in s root entries details o specs =
     and_then (λ (rows : List Row). Ok (rows_text o rows)) (changes_in s root entries details o specs)
 
@@ -60,10 +60,10 @@ out_of (Err refused) = Err refused
 pub record FindsDifferences {W S : Type 0} (w : WorktreeOf W) (s : StatsOf S) (w0 w1 : W) (s0 s1 : S) (root : List ℕ) (entries : List IndexEntry)
     (details : List Detail) (o : Comparison) (specs : List PathSpec) (answer : Result Differences DiffError) : Type 0 where
   -- Over a told tree and told stats it is exactly what `git diff-files` prints, or the form that is not answered.
-  pub gives : (outside : Outside) → Tells (w.told w0) (s.told s0) outside → Answers (out_of (differences_in outside root entries details o specs)) answer
+  pub gives : (outside : TreeAndStats) → Tells (w.told w0) (s.told s0) outside → Answers (out_of (differences_in outside root entries details o specs)) answer
   -- a fault is told only where one was counted
   pub cause : IsErrOf answer errors.Fault → Fails w s w0 w1 s0 s1
   -- and none was counted that is not told
-  pub unfaulted : UnlessFault answer (FailsNot w s w0 w1 s0 s1)
+  pub unfaulted : UnlessFault answer (KeepsFaultCounts w s w0 w1 s0 s1)
   pub worktree : Asks w w0 w1
   pub stats : AsksStats s s0 s1

@@ -12,12 +12,12 @@ pub record AsksStats {S : Type 0} (s : StatsOf S) (before now : S) : Type 0 wher
   pub faults : s.faults before ≤ s.faults now
 
 -- what there is: a tree, and what is told of its nodes
-pub record Outside : Type 0 where
+pub record TreeAndStats : Type 0 where
   pub tree : Names
   pub stats : Told
 
 -- it is told
-abbrev pub Tells : Option Names → Option Told → Outside → Type 0
+abbrev pub Tells : Option Names → Option Told → TreeAndStats → Type 0
 Tells tree stats outside = (tree ≡ Some outside.tree) × (stats ≡ Some outside.stats)
 
 -- the worktree failed, or what is asked for stats did
@@ -25,5 +25,5 @@ abbrev pub Fails : {W S : Type 0} → WorktreeOf W → StatsOf S → W → W →
 Fails w s w0 w1 s0 s1 = Increased (w.faults w0) (w.faults w1) ⊎ Increased (s.faults s0) (s.faults s1)
 
 -- neither did
-abbrev pub FailsNot : {W S : Type 0} → WorktreeOf W → StatsOf S → W → W → S → S → Type 0
-FailsNot w s w0 w1 s0 s1 = (w.faults w1 ≡ w.faults w0) × (s.faults s1 ≡ s.faults s0)
+abbrev pub KeepsFaultCounts : {W S : Type 0} → WorktreeOf W → StatsOf S → W → W → S → S → Type 0
+KeepsFaultCounts w s w0 w1 s0 s1 = (w.faults w1 ≡ w.faults w0) × (s.faults s1 ≡ s.faults s0)

@@ -17,8 +17,8 @@ use Rattle.diff_files.specs.declared.error.Unanswered.{Unanswered}
 use Rattle.diff_files.specs.declared.error.Unsupported.{Unsupported}
 use Rattle.diff_files.specs.declared.error.Unsupported.TheVariants as forms
 use Rattle.diff_files.specs.declared.parts.Parts.{Parts}
-use Rattle.diff_files.specs.KeptStats.{Outside}
-use Rattle.diff_files.specs.States.{compared, is_merged, settled, unmerged}
+use Rattle.diff_files.specs.KeptStats.{TreeAndStats}
+use Rattle.diff_files.specs.States.{compared, is_merged, resolve_judged_change, unmerged}
 use Rattle.diff_files.specs.Texts.{refused_at}
 
 -- an entry, and how its path changed
@@ -62,10 +62,10 @@ AddsParts e parts before now (Err errors.Fault) = ⊥
 AddsParts e parts before now (Err errors.OutOfMemory) = Unit {0}
 
 -- the changes of one entry; `first` says whether it is the first of its path
-abbrev pub parts_of : Outside → List ℕ → Comparison → Bool → IndexEntry → Detail → Result Parts Unsupported
+abbrev pub parts_of : TreeAndStats → List ℕ → Comparison → Bool → IndexEntry → Detail → Result Parts Unsupported
 parts_of s root o first e d =
-    both (settled s.tree (joined root e.path) e.id (unmerged s.stats o root first e))
-    (settled s.tree (joined root e.path) e.id (compared s.stats o root e d))
+    both (resolve_judged_change s.tree (joined root e.path) e.id (unmerged s.stats o root first e))
+    (resolve_judged_change s.tree (joined root e.path) e.id (compared s.stats o root e d))
 
 -- a spec matches, and does not exclude
 abbrev pub is_inclusion : Option Match → Bool
@@ -91,7 +91,7 @@ unmerged_path e = if is_merged e then None else Some e.path
 
 -- Rows with those of some entries, in the order of the index, behind an entry of the path `last`, if that is not merged; or the first form
 -- that is not answered, with the path of its entry.
-abbrev pub rows_from : Outside → List ℕ → Comparison → List PathSpec → List Row → Option (List ℕ) → List IndexEntry → List Detail → Result (List Row) Unanswered
+abbrev pub rows_from : TreeAndStats → List ℕ → Comparison → List PathSpec → List Row → Option (List ℕ) → List IndexEntry → List Detail → Result (List Row) Unanswered
 rows_from s root o specs rows last [] details = Ok rows
 rows_from s root o specs rows last (e ∷ entries) [] = Err (refused_at forms.Details e)
 rows_from s root o specs rows last (e ∷ entries) (d ∷ details) =

@@ -17,9 +17,9 @@ use Rattle.diff_files.specs.declared.judged.Judged.{Judged}
 use Rattle.diff_files.specs.declared.judged.Judged.TheVariants as judge
 use Rattle.diff_files.specs.declared.stats.node_stat.NodeStat.{NodeStat}
 use Rattle.diff_files.specs.Fields.{differs_in_mode, is_changed, is_racy}
-use Rattle.diff_files.specs.KeptStats.{Outside}
+use Rattle.diff_files.specs.KeptStats.{TreeAndStats}
 use Rattle.diff_files.specs.Modes.{is_directory}
-use Rattle.diff_files.specs.States.{added, changed, is_skipped, is_submodule_entry, judged_racy, settled}
+use Rattle.diff_files.specs.States.{added, changed, is_skipped, is_submodule_entry, judged_racy, resolve_judged_change}
 use Rattle.diff_files.specs.Stats.{Told}
 use Rattle.diff_files.specs.There.{holds_git}
 
@@ -32,14 +32,14 @@ abbrev pub is_other : Comparison → IndexEntry → Detail → NodeStat → Bool
 is_other o e d at = differs_in_mode o (mode_bits e.mode) at.mode || is_resized d at
 
 -- a field differs, or it may have changed unseen
-abbrev pub is_open : Comparison → IndexEntry → Detail → NodeStat → Bool
-is_open o e d at = is_changed o e d at || is_racy o d
+abbrev pub needs_byte_comparison : Comparison → IndexEntry → Detail → NodeStat → Bool
+needs_byte_comparison o e d at = is_changed o e d at || is_racy o d
 
 -- how a file differs from its entry, by the stat fields and where they leave it open by its bytes
 abbrev pub standing_file : Told → Comparison → List ℕ → IndexEntry → Detail → NodeStat → Judged
 standing_file told o full e d at =
     if is_other o e d at then judge.Known (changed o e at)
-    else if is_open o e d at then judged_racy told o full e at
+    else if needs_byte_comparison o e d at then judged_racy told o full e at
     else judge.Known changes.Same
 
 -- of a submodule a directory stands there, in which no repository may be: its state would have to be asked
@@ -67,8 +67,8 @@ abbrev pub standing : Told → Comparison → List ℕ → IndexEntry → Detail
 standing told o full e d = standing_at told o full e d (told.stat_at full)
 
 -- how what stands there differs from its entry, or the form that is not answered
-abbrev pub standing_in : Outside → List ℕ → Comparison → IndexEntry → Detail → Result PathChange Unsupported
-standing_in s root o e d = settled s.tree (joined root e.path) e.id (standing s.stats o (joined root e.path) e d)
+abbrev pub standing_in : TreeAndStats → List ℕ → Comparison → IndexEntry → Detail → Result PathChange Unsupported
+standing_in s root o e d = resolve_judged_change s.tree (joined root e.path) e.id (standing s.stats o (joined root e.path) e d)
 
 -- whether anything stands there
 abbrev pub presence : Option NodeStat → PathChange

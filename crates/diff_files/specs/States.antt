@@ -20,7 +20,7 @@ use Rattle.diff_files.specs.declared.stats.node_stat.NodeStat.{NodeStat}
 use Rattle.diff_files.specs.Fields.{is_changed, is_racy}
 use Rattle.diff_files.specs.Modes.{is_directory, is_link, is_submodule, kind_bits, mode_there}
 use Rattle.diff_files.specs.Stats.{Told}
-use Rattle.diff_files.specs.There.{holds_git, there}
+use Rattle.diff_files.specs.There.{holds_git, stat_unless_behind_link}
 
 -- ---- what stands there
 
@@ -119,13 +119,13 @@ abbrev pub is_ignored : Comparison → IndexEntry → Bool
 is_ignored o e = is_submodule_entry e && are_left_out o.submodules
 
 -- what is new where a submodule is to be added later and none stands
-abbrev pub in_place : Comparison → IndexEntry → Option NodeStat → PathChange
-in_place o e None = changes.Same
-in_place o e (Some at) = if is_directory at.mode then changes.Same else added o e at
+abbrev pub change_in_submodule_place : Comparison → IndexEntry → Option NodeStat → PathChange
+change_in_submodule_place o e None = changes.Same
+change_in_submodule_place o e (Some at) = if is_directory at.mode then changes.Same else added o e at
 
 -- of a submodule that is left out nothing is told, but for what is new in the place of one
 unfoldable pub ignored : Told → Comparison → List ℕ → IndexEntry → Detail → Judged
-ignored told o root e d = if d.intent_to_add then judge.Known (in_place o e (there told root e.path)) else judge.Known changes.Same
+ignored told o root e d = if d.intent_to_add then judge.Known (change_in_submodule_place o e (stat_unless_behind_link told root e.path)) else judge.Known changes.Same
 
 -- a submodule that the configuration may leave out
 abbrev pub is_ignorable : Comparison → IndexEntry → Bool
@@ -137,7 +137,7 @@ looked_at told o root e d =
     if is_left_out told o (joined root e.path) e then judge.Known changes.Same
     else if is_ignored o e then ignored told o root e d
     else if is_ignorable o e then judge.Refused forms.IgnoredSubmodule
-    else judged told o (joined root e.path) e d (there told root e.path)
+    else judged told o (joined root e.path) e d (stat_unless_behind_link told root e.path)
 
 -- an entry of a path that is merged
 abbrev pub is_merged : IndexEntry → Bool
@@ -170,7 +170,7 @@ tells_unmerged e first = not (is_merged e) && first
 -- the first entry of a path that is not merged tells that
 abbrev pub unmerged : Told → Comparison → List ℕ → Bool → IndexEntry → Judged
 unmerged told o root first e =
-    if tells_unmerged e first then unmerged_there told o (joined root e.path) e (there told root e.path) else judge.Known changes.Same
+    if tells_unmerged e first then unmerged_there told o (joined root e.path) e (stat_unless_behind_link told root e.path) else judge.Known changes.Same
 
 -- ---- by the bytes
 
@@ -188,7 +188,7 @@ by_bytes id otherwise absent = otherwise
 by_bytes id otherwise too_many_links = otherwise
 
 -- what was judged, with the bytes at the path where they are asked for
-abbrev pub settled : Names → List ℕ → List ℕ → Judged → Result PathChange Unsupported
-settled t full id (judge.Known change) = Ok change
-settled t full id (judge.Refused form) = Err form
-settled t full id (judge.ByBytes otherwise) = Ok (by_bytes id otherwise (look t full false))
+abbrev pub resolve_judged_change : Names → List ℕ → List ℕ → Judged → Result PathChange Unsupported
+resolve_judged_change t full id (judge.Known change) = Ok change
+resolve_judged_change t full id (judge.Refused form) = Err form
+resolve_judged_change t full id (judge.ByBytes otherwise) = Ok (by_bytes id otherwise (look t full false))

@@ -25,8 +25,8 @@ abbrev pub is_led : Told → List ℕ → List ℕ → Bool
 is_led told root path = has_directories_only told root (components (directory_of path))
 
 -- what stands at a path below a root; behind a link nothing does
-abbrev pub there : Told → List ℕ → List ℕ → Option NodeStat
-there told root path = if is_led told root path then told.stat_at (joined root path) else None
+abbrev pub stat_unless_behind_link : Told → List ℕ → List ℕ → Option NodeStat
+stat_unless_behind_link told root path = if is_led told root path then told.stat_at (joined root path) else None
 
 -- a repository may stand in a directory: something is called `.git` there
 abbrev pub holds_git : Told → List ℕ → Bool

@@ -3,7 +3,7 @@ ghost use Rattle.std.specs.Prelude.{◌≡◌, [], None, Ok, IsErrOf, IfOk, IfEr
 ghost use Rattle.worktree_fs.specs.Kept.{Asks};
 ghost use Rattle.diff_files.specs.declared.error.DiffError.TheVariants.{Fault as fault};
 ghost use Rattle.diff_files.specs.Differences as words;
-ghost use Rattle.diff_files.specs.KeptStats.{AsksStats, Fails, FailsNot, Outside, Tells};
+ghost use Rattle.diff_files.specs.KeptStats.{AsksStats, Fails, KeepsFaultCounts, TreeAndStats, Tells};
 ghost use Rattle.diff_files.specs.Lines.{rows_text};
 ghost use Rattle.diff_files.specs.Rows.{rows_from};
 
@@ -37,16 +37,16 @@ fn changes_of<'a, W: Worktree, S: Stats>(
     comparison: &Comparison,
     specs: &Search,
 ) -> Result<Vec<Row<'a>>, DiffError>
-    ensures gives { (o : Outside) → Tells (W.told worktree.old) (S.told stats.old) o
+    ensures gives { (o : TreeAndStats) → Tells (W.told worktree.old) (S.told stats.old) o
         → IfOk result (λ rows. rows_from o root.now comparison.now specs.now [] None entries.now
         details.now ≡ Ok rows.items) }
-    ensures refused { (o : Outside) → Tells (W.told worktree.old) (S.told stats.old) o
+    ensures refused { (o : TreeAndStats) → Tells (W.told worktree.old) (S.told stats.old) o
         → IfErr result (words.RefusesBy (rows_from o root.now comparison.now specs.now [] None
         entries.now details.now)) }
     ensures cause { IsErrOf result fault
         → Fails W.Worktree S.Stats worktree.old worktree.new stats.old stats.new }
     ensures unfaulted { words.UnlessFault result
-        (FailsNot W.Worktree S.Stats worktree.old worktree.new stats.old stats.new) }
+        (KeepsFaultCounts W.Worktree S.Stats worktree.old worktree.new stats.old stats.new) }
     ensures worktree { Asks W.Worktree worktree.old worktree.new }
     ensures stats { AsksStats S.Stats stats.old stats.new }
 {
@@ -110,16 +110,16 @@ pub fn changed_rows<'a, W: Worktree, S: Stats>(
     comparison: &Comparison,
     specs: &Search,
 ) -> Result<Vec<Row<'a>>, DiffError>
-    ensures gives { (o : Outside) → Tells (W.told worktree.old) (S.told stats.old) o
+    ensures gives { (o : TreeAndStats) → Tells (W.told worktree.old) (S.told stats.old) o
         → IfOk result (λ rows. words.changes_in o root.now index.now details.now comparison.now
         specs.now ≡ Ok rows.items) }
-    ensures refused { (o : Outside) → Tells (W.told worktree.old) (S.told stats.old) o
+    ensures refused { (o : TreeAndStats) → Tells (W.told worktree.old) (S.told stats.old) o
         → IfErr result (words.RefusesBy (words.changes_in o root.now index.now details.now
         comparison.now specs.now)) }
     ensures cause { IsErrOf result fault
         → Fails W.Worktree S.Stats worktree.old worktree.new stats.old stats.new }
     ensures unfaulted { words.UnlessFault result
-        (FailsNot W.Worktree S.Stats worktree.old worktree.new stats.old stats.new) }
+        (KeepsFaultCounts W.Worktree S.Stats worktree.old worktree.new stats.old stats.new) }
     ensures worktree { Asks W.Worktree worktree.old worktree.new }
     ensures stats { AsksStats S.Stats stats.old stats.new }
 {

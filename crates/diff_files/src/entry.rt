@@ -14,7 +14,7 @@ use crate::error::Unsupported;
 use crate::fields::{is_changed, is_racy};
 use crate::judged::Judged;
 use crate::modes::{is_directory, is_link, is_submodule, kind_bits, mode_there};
-use crate::place::{full_path, holds_git, there};
+use crate::place::{full_path, holds_git, stat_unless_behind_link};
 use crate::racy::leads_there;
 use crate::stats::Stats;
 use crate::stats::node_stat::NodeStat;
@@ -292,8 +292,12 @@ fn is_ignored(comparison: &Comparison, entry: &IndexEntry) -> bool
 }
 
 /// What is new where a submodule is to be added later and none stands.
-fn in_place(comparison: &Comparison, entry: &IndexEntry, at: Option<NodeStat>) -> PathChange
-    ensures { result ≡ words.in_place comparison.now entry.now at }
+fn change_in_submodule_place(
+    comparison: &Comparison,
+    entry: &IndexEntry,
+    at: Option<NodeStat>,
+) -> PathChange
+    ensures { result ≡ words.change_in_submodule_place comparison.now entry.now at }
 {
     let Some(at) = at else {
         return PathChange::Same;
@@ -329,8 +333,8 @@ fn ignored<S: Stats>(
         return Ok(Judged::Known(PathChange::Same));
     }
     let full = full_path(alloc, root, entry)?;
-    let at = there(alloc, stats, root, known, &full, entry)?;
-    Ok(Judged::Known(in_place(comparison, entry, at)))
+    let at = stat_unless_behind_link(alloc, stats, root, known, &full, entry)?;
+    Ok(Judged::Known(change_in_submodule_place(comparison, entry, at)))
 }
 
 /// Whether an entry is a submodule that may be left out.
@@ -372,7 +376,7 @@ fn looked_at<S: Stats>(
     if is_ignorable(comparison, entry) {
         return Ok(Judged::Refused(Unsupported::IgnoredSubmodule));
     }
-    let at = there(alloc, stats, root, known, &full, entry)?;
+    let at = stat_unless_behind_link(alloc, stats, root, known, &full, entry)?;
     judged(alloc, stats, comparison, &full, entry, detail, at)
 }
 
@@ -458,7 +462,7 @@ pub fn unmerged<S: Stats>(
         return Ok(Judged::Known(PathChange::Same));
     }
     let full = full_path(alloc, root, entry)?;
-    match there(alloc, stats, root, known, &full, entry)? {
+    match stat_unless_behind_link(alloc, stats, root, known, &full, entry)? {
         Some(at) => unmerged_at(alloc, stats, comparison, &full, entry, &at),
         None => Ok(Judged::Known(PathChange::Unmerged { mode: 0 })),
     }

@@ -2,7 +2,7 @@
 ghost use Rattle.std.specs.Prelude.{◌≡◌, IfOk, IsErrOf};
 ghost use Rattle.worktree_fs.specs.Answers.{UnlessFault};
 ghost use Rattle.worktree_fs.specs.Kept.{Asks};
-ghost use Rattle.diff_files.specs.KeptStats.{AsksStats, Fails, FailsNot, Outside, Tells};
+ghost use Rattle.diff_files.specs.KeptStats.{AsksStats, Fails, KeepsFaultCounts, TreeAndStats, Tells};
 ghost use Rattle.diff_files.specs.Rows as rows;
 ghost use Rattle.diff_files.specs.There.{IsKnown};
 
@@ -10,7 +10,7 @@ use crate::change::PathChange;
 use crate::comparison::Comparison;
 use crate::entry::{compared, unmerged};
 use crate::error::Unsupported;
-use crate::racy::settled;
+use crate::racy::resolve_judged_change;
 use crate::stats::Stats;
 use git_index::Detail;
 use gitbase_core::{Bytes, IndexEntry};
@@ -52,7 +52,7 @@ pub fn parts_of<W: Worktree, S: Stats>(
     detail: &Detail,
 ) -> Result<Result<Parts, Unsupported>, ReadError>
     requires known { IsKnown (S.told stats.old) root.now known.old }
-    ensures parts { (o : Outside) → Tells (W.told worktree.old) (S.told stats.old) o
+    ensures parts { (o : TreeAndStats) → Tells (W.told worktree.old) (S.told stats.old) o
         → IfOk result (λ parts. parts
         ≡ rows.parts_of o root.now comparison.now first entry.now detail.now) }
     ensures known { IsKnown (S.told stats.old) root.now known.new }
@@ -61,11 +61,11 @@ pub fn parts_of<W: Worktree, S: Stats>(
     ensures cause { IsErrOf result ReadError.Fault
         → Fails W.Worktree S.Stats worktree.old worktree.new stats.old stats.new }
     ensures unfaulted { UnlessFault result
-        (FailsNot W.Worktree S.Stats worktree.old worktree.new stats.old stats.new) }
+        (KeepsFaultCounts W.Worktree S.Stats worktree.old worktree.new stats.old stats.new) }
 {
     let told = unmerged(alloc, stats, root, comparison, known, first, entry)?;
     let judged = compared(alloc, stats, root, comparison, known, entry, detail)?;
-    let told = settled(alloc, worktree, root, entry, told)?;
-    let change = settled(alloc, worktree, root, entry, judged)?;
+    let told = resolve_judged_change(alloc, worktree, root, entry, told)?;
+    let change = resolve_judged_change(alloc, worktree, root, entry, judged)?;
     Ok(both(told, change))
 }

@@ -5,7 +5,7 @@ ghost use Rattle.gitbase_core.specs.Kinds.{has_flag};
 ghost use Rattle.worktree_fs.specs.Answers.{UnlessFault};
 ghost use Rattle.worktree_fs.specs.Causes.{Increased};
 ghost use Rattle.worktree_fs.specs.Kept.{Asks};
-ghost use Rattle.diff_files.specs.KeptStats.{AsksStats, Fails, FailsNot, Outside, Tells};
+ghost use Rattle.diff_files.specs.KeptStats.{AsksStats, Fails, KeepsFaultCounts, TreeAndStats, Tells};
 ghost use Rattle.diff_files.specs.Standing as words;
 ghost use Rattle.diff_files.specs.Stats.{Told};
 
@@ -17,7 +17,7 @@ use crate::fields::{differs_in_mode, is_changed, is_racy};
 use crate::judged::Judged;
 use crate::modes::is_directory;
 use crate::place::{full_path, holds_git};
-use crate::racy::settled;
+use crate::racy::resolve_judged_change;
 use crate::stats::Stats;
 use crate::stats::node_stat::NodeStat;
 use git_index::Detail;
@@ -46,8 +46,13 @@ fn is_other(comparison: &Comparison, entry: &IndexEntry, detail: &Detail, at: &N
 }
 
 /// Whether the bytes have to be compared.
-fn is_open(comparison: &Comparison, entry: &IndexEntry, detail: &Detail, at: &NodeStat) -> bool
-    ensures { result ≡ words.is_open comparison.now entry.now detail.now at.now }
+fn needs_byte_comparison(
+    comparison: &Comparison,
+    entry: &IndexEntry,
+    detail: &Detail,
+    at: &NodeStat,
+) -> bool
+    ensures { result ≡ words.needs_byte_comparison comparison.now entry.now detail.now at.now }
 {
     is_changed(comparison, entry, detail, at) || is_racy(comparison, detail)
 }
@@ -72,7 +77,7 @@ fn standing_file<S: Stats>(
     if is_other(comparison, entry, detail, at) {
         return Ok(Judged::Known(changed(comparison, entry, at)));
     }
-    if is_open(comparison, entry, detail, at) {
+    if needs_byte_comparison(comparison, entry, detail, at) {
         return judged_racy(alloc, stats, comparison, full, entry, at);
     }
     Ok(Judged::Known(PathChange::Same))
@@ -204,7 +209,7 @@ pub fn standing_of<W: Worktree, S: Stats>(
     entry: &IndexEntry,
     detail: &Detail,
 ) -> Result<Result<PathChange, Unsupported>, ReadError>
-    ensures standing { (o : Outside) → Tells (W.told worktree.old) (S.told stats.old) o
+    ensures standing { (o : TreeAndStats) → Tells (W.told worktree.old) (S.told stats.old) o
         → IfOk result (λ change. change
         ≡ words.standing_in o root.now comparison.now entry.now detail.now) }
     ensures worktree { Asks W.Worktree worktree.old worktree.new }
@@ -212,11 +217,11 @@ pub fn standing_of<W: Worktree, S: Stats>(
     ensures cause { IsErrOf result ReadError.Fault
         → Fails W.Worktree S.Stats worktree.old worktree.new stats.old stats.new }
     ensures unfaulted { UnlessFault result
-        (FailsNot W.Worktree S.Stats worktree.old worktree.new stats.old stats.new) }
+        (KeepsFaultCounts W.Worktree S.Stats worktree.old worktree.new stats.old stats.new) }
 {
     let full = full_path(alloc, root, entry)?;
     let judged = standing(alloc, stats, comparison, &full, entry, detail)?;
-    settled(alloc, worktree, root, entry, judged)
+    resolve_judged_change(alloc, worktree, root, entry, judged)
 }
 
 /// Whether what stands at a path is nothing.

@@ -114,7 +114,7 @@ fn is_led<S: Stats>(
 }
 
 /// What stands at the path of an entry; behind a link nothing does.
-pub fn there<S: Stats>(
+pub fn stat_unless_behind_link<S: Stats>(
     alloc: Global,
     stats: &mut S,
     root: &[u8],
@@ -125,7 +125,7 @@ pub fn there<S: Stats>(
     requires full { full.now ≡ joined root.now entry.now.path }
     requires known { words.IsKnown (S.told stats.old) root.now known.old }
     ensures there { (t : Told) → S.told stats.old ≡ Some t
-        → IfOk result (λ at. at ≡ words.there t root.now entry.now.path) }
+        → IfOk result (λ at. at ≡ words.stat_unless_behind_link t root.now entry.now.path) }
     ensures known { words.IsKnown (S.told stats.old) root.now known.new }
     ensures kept { AsksStats S.Stats stats.old stats.new }
     ensures cause { IsErrOf result ReadError.Fault

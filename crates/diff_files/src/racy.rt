@@ -102,7 +102,7 @@ fn by_bytes<W: Worktree>(
 }
 
 /// What was judged, with the bytes at the path of an entry where they are asked for.
-pub fn settled<W: Worktree>(
+pub fn resolve_judged_change<W: Worktree>(
     alloc: Global,
     worktree: &mut W,
     root: &[u8],
@@ -111,7 +111,7 @@ pub fn settled<W: Worktree>(
 ) -> Result<Result<PathChange, Unsupported>, ReadError>
     ensures change { (t : Names) → W.told worktree.old ≡ Some t
         → IfOk result (λ change. change
-        ≡ words.settled t (joined root.now entry.now.path) entry.now.id judged) }
+        ≡ words.resolve_judged_change t (joined root.now entry.now.path) entry.now.id judged) }
     ensures keeps { Asks W.Worktree worktree.old worktree.new }
     ensures cause { IsErrOf result ReadError.Fault
         → Increased (W.faults worktree.old) (W.faults worktree.new) }

@@ -1,10 +1,11 @@
 //! Differences, each compared with what git prints.
 use crate::answers::{ROWS, TREES};
-use crate::tree::{index_of, meant, number, parted, tree_of};
+use crate::tree::{index_of, meant, number, tree_of};
 use crate::words::{comparison_of, specs_of};
 use bstr::ByteSlice;
 use diff_files::{Comparison, DiffError, Differences, Unsupported, diff_files};
 use std::alloc::Global;
+use test_cases::split_at_byte;
 
 /// What is answered of a tree.
 fn answered(
@@ -13,8 +14,8 @@ fn answered(
     words: &[u8],
     specs: &[u8],
 ) -> Option<Result<Differences, DiffError>> {
-    let (time, rest) = parted(tree, b'^');
-    let (entries, nodes) = parted(rest, b'^');
+    let (time, rest) = split_at_byte(tree, b'^');
+    let (entries, nodes) = split_at_byte(rest, b'^');
     let comparison = comparison_of((number(time) % 0x1_0000_0000) as u32, words);
     answered_in(alloc, entries, nodes, &comparison, specs)
 }
@@ -73,9 +74,9 @@ pub fn tree_at(number: u64) -> &'static [u8] {
 
 /// Whether a row is as git says.
 fn is_as_git_says(alloc: Global, row: &[u8]) -> bool {
-    let (tree, rest) = parted(row, b'^');
-    let (words, rest) = parted(rest, b'^');
-    let (specs, want) = parted(rest, b'^');
+    let (tree, rest) = split_at_byte(row, b'^');
+    let (words, rest) = split_at_byte(rest, b'^');
+    let (specs, want) = split_at_byte(rest, b'^');
     match answered(alloc, tree_at(number(tree)), words, specs) {
         Some(answer) => is_answer(alloc, &answer, want),
         None => false,

@@ -1,10 +1,10 @@
 //! What is asked of a listing by the words of a row.
-use crate::tree::parted;
 use crate::words::spec_of;
 use gitbase_core::Bytes;
 use glob_rules::pathspec::Search;
 use ls_files::{Listing, NamedSpec, Standings};
 use std::alloc::Global;
+use test_cases::split_at_byte;
 
 /// What is asked where there is no word.
 fn usual() -> Listing {
@@ -86,7 +86,7 @@ pub fn all_named(alloc: Global, words: &[u8]) -> Option<Vec<NamedSpec>> {
     let mut named = Vec::new(alloc);
     for word in words.split(|byte| *byte == b'|') {
         if !word.is_empty() {
-            let (told, text) = parted(word, b'&');
+            let (told, text) = split_at_byte(word, b'&');
             named.push(named_of(alloc, told, text)?).ok()?;
         }
     }
@@ -98,7 +98,7 @@ pub fn all_specs(alloc: Global, words: &[u8]) -> Option<Search> {
     let mut specs = Vec::new(alloc);
     for word in words.split(|byte| *byte == b'|') {
         if !word.is_empty() {
-            let (_, text) = parted(word, b'&');
+            let (_, text) = split_at_byte(word, b'&');
             specs.push(spec_of(alloc, text)?).ok()?;
         }
     }

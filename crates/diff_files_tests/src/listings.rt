@@ -2,12 +2,13 @@
 use crate::answers::LISTED;
 use crate::differences::{tree_at, word_of};
 use crate::listing_words::{all_named, all_specs, listing_of, standings_of};
-use crate::tree::{index_of, meant, number, parted, tree_of};
+use crate::tree::{index_of, meant, number, tree_of};
 use crate::words::comparison_of;
 use bstr::ByteSlice;
 use diff_files::Comparison;
 use ls_files::{ChangeQuery, ChangedError, Listed, list_changed};
 use std::alloc::Global;
+use test_cases::split_at_byte;
 
 /// What is answered of a tree.
 fn answered(
@@ -16,8 +17,8 @@ fn answered(
     words: &[u8],
     specs: &[u8],
 ) -> Option<Result<Listed, ChangedError>> {
-    let (time, rest) = parted(tree, b'^');
-    let (entries, nodes) = parted(rest, b'^');
+    let (time, rest) = split_at_byte(tree, b'^');
+    let (entries, nodes) = split_at_byte(rest, b'^');
     let comparison = comparison_of((number(time) % 0x1_0000_0000) as u32, words);
     answered_in(alloc, entries, nodes, &comparison, words, specs)
 }
@@ -57,7 +58,7 @@ fn is_text(alloc: Global, text: &[u8], want: &[u8]) -> bool {
 
 /// Whether an answer is what a row has.
 fn is_answer(alloc: Global, answer: &Result<Listed, ChangedError>, want: &[u8]) -> bool {
-    let (out, err) = parted(want, b'^');
+    let (out, err) = split_at_byte(want, b'^');
     match answer {
         Ok(made) => {
             is_text(alloc, made.out.as_bytes(), out) && is_text(alloc, made.err.as_bytes(), err)
@@ -69,9 +70,9 @@ fn is_answer(alloc: Global, answer: &Result<Listed, ChangedError>, want: &[u8]) 
 
 /// Whether a row is as git says.
 fn is_as_git_says(alloc: Global, row: &[u8]) -> bool {
-    let (tree, rest) = parted(row, b'^');
-    let (words, rest) = parted(rest, b'^');
-    let (specs, want) = parted(rest, b'^');
+    let (tree, rest) = split_at_byte(row, b'^');
+    let (words, rest) = split_at_byte(rest, b'^');
+    let (specs, want) = split_at_byte(rest, b'^');
     match answered(alloc, tree_at(number(tree)), words, specs) {
         Some(answer) => is_answer(alloc, &answer, want),
         None => false,

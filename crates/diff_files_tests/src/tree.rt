@@ -4,15 +4,8 @@ use diff_files::{MemoryStats, NodeStat, StatNode};
 use git_index::{Detail, Stat, Time};
 use gitbase_core::{Bytes, Flags, IndexEntry, Mode, ObjectId, PathText, State};
 use std::alloc::Global;
+use test_cases::split_at_byte;
 use worktree_fs::{MemoryWorktree, NewNode};
-
-/// A text up to a byte, and what is behind it.
-pub fn parted(text: &[u8], byte: u8) -> (&[u8], &[u8]) {
-    match text.find_byte(byte) {
-        Some(at) => (&text[..at], &text[at + 1..]),
-        None => (text, b""),
-    }
-}
 
 /// A text with `$` for each LF and `&` for each CR, as it is meant.
 pub fn meant(alloc: Global, text: &[u8]) -> Option<Vec<u8>> {
@@ -61,12 +54,12 @@ fn time_of(text: &[u8]) -> Time {
 
 /// The stat fields of an entry, from its mtime on, and its path.
 fn stat_of(words: &[u8]) -> (Stat, &[u8]) {
-    let (mtime, words) = parted(words, b' ');
-    let (ctime, words) = parted(words, b' ');
-    let (uid, words) = parted(words, b' ');
-    let (gid, words) = parted(words, b' ');
-    let (ino, words) = parted(words, b' ');
-    let (size, path) = parted(words, b' ');
+    let (mtime, words) = split_at_byte(words, b' ');
+    let (ctime, words) = split_at_byte(words, b' ');
+    let (uid, words) = split_at_byte(words, b' ');
+    let (gid, words) = split_at_byte(words, b' ');
+    let (ino, words) = split_at_byte(words, b' ');
+    let (size, path) = split_at_byte(words, b' ');
     let stat = Stat {
         ctime: time_of(ctime),
         mtime: time_of(mtime),
@@ -103,10 +96,10 @@ fn entry_mode(text: &[u8]) -> Mode {
 
 /// An entry, and what the index says of it besides.
 fn entry_of(alloc: Global, text: &[u8]) -> Option<(IndexEntry, Detail)> {
-    let (mode, words) = parted(text, b' ');
-    let (stage, words) = parted(words, b' ');
-    let (marks, words) = parted(words, b' ');
-    let (id, words) = parted(words, b' ');
+    let (mode, words) = split_at_byte(text, b' ');
+    let (stage, words) = split_at_byte(words, b' ');
+    let (marks, words) = split_at_byte(words, b' ');
+    let (id, words) = split_at_byte(words, b' ');
     let (stat, path) = stat_of(words);
     let entry = IndexEntry {
         path: PathText::from_bytes(alloc, path).ok()?,
@@ -152,9 +145,9 @@ fn is_put(alloc: Global, tree: &mut MemoryWorktree, path: &[u8], mode: u32, hold
 
 /// What is told of a node, and what it holds.
 fn node_of(alloc: Global, text: &[u8], holds: &[u8]) -> Option<StatNode> {
-    let (mode, words) = parted(text, b' ');
-    let (mtime, words) = parted(words, b' ');
-    let (size, path) = parted(words, b' ');
+    let (mode, words) = split_at_byte(text, b' ');
+    let (mtime, words) = split_at_byte(words, b' ');
+    let (size, path) = split_at_byte(words, b' ');
     let mode = mode_of(mode);
     Some(StatNode {
         path: Bytes::from_slice(alloc, path).ok()?,
@@ -181,7 +174,7 @@ fn target_of(alloc: Global, mode: u32, holds: &[u8]) -> Option<Bytes> {
 
 /// A node, put at its path of a tree unless a `@` stands in front.
 fn made_node(alloc: Global, tree: &mut MemoryWorktree, text: &[u8]) -> Option<StatNode> {
-    let (words, rest) = parted(text, b'=');
+    let (words, rest) = split_at_byte(text, b'=');
     let holds = meant(alloc, rest)?;
     let Some(words) = words.strip_prefix(b"@".as_slice()) else {
         return put_node(alloc, tree, words, &holds);

@@ -11,7 +11,7 @@ use Rattle.std.proofs.lemmas.Slice.Eq.{bytes_eq-Decides}
 use Rattle.std.specs.Str.{bytes_eq}
 use Rattle.worktree_fs.proofs.Trees.Grown.{same_name}
 use Rattle.worktree_stack.specs.Reading.{Sources}
-use Rattle.worktree_stack.specs.Setup.{Made}
+use Rattle.worktree_stack.specs.Setup.{StackSetup}
 use Rattle.worktree_stack.specs.Stacked.{Stacked}
 use Rattle.dir_classify.specs.declared.classify.Outcome.{Outcome}
 use Rattle.dir_classify.specs.declared.classify.RootOutcome.{RootOutcome}
@@ -34,7 +34,7 @@ use Rattle.dir_classify.proofs.WayAsked.{leads-further, unasked-first, unasked-r
 use Rattle.dir_classify.specs.declared.entry.Kind.{Kind}
 use Rattle.dir_classify.specs.Chosen.{Chosen}
 use Rattle.dir_classify.specs.Evidence.{Evidence}
-use Rattle.dir_classify.specs.Way.{EndsAt, Reached, asking_behind, goes_on, onward, reached, reached_at, reached_root, reached_so}
+use Rattle.dir_classify.specs.Way.{EndsAt, Reached, asking_behind, goes_on, reached_through_components, reached, reached_at, reached_root, reached_so}
 use Rattle.gitbase_core.proofs.Names.{AreNames-components}
 use Rattle.dir_classify.proofs.WayLeads.{leads-onward}
 use Rattle.dir_classify.proofs.Onward.{IsOnward, root-memory, root-unasked, root-unread}
@@ -63,7 +63,7 @@ whole-path root path (name ∷ rest) root_is spelled_is split =
     go false e = refl
 
 -- at the worktree root, where no component leads further
-way-top : (given : Setting) (made : Option Made) (s : Sources) (root : List ℕ) → components root ≡ []
+way-top : (given : Setting) (made : Option StackSetup) (s : Sources) (root : List ℕ) → components root ≡ []
     → reached_root given.options (evidence given made s) (λ p. on_disk given s.tree p true) ≡ way_to given made s root
 unfolding reached
 way-top given made s root bare = ap (λ (l : List (List ℕ)). reached given.options (evidence given made s) (λ p. on_disk given s.tree p true) l) (sym bare)
@@ -72,7 +72,7 @@ module _ {W F : Type 0} (w : WorktreeOf W) (f : FindOf F) (w0 w1 : W) (o0 o1 : F
     (root path rest : List ℕ) (c : Outcome) (in_repository : Bool) (at : IsOnward w f w0 w1 o0 o1 old new given root path c in_repository rest)
     (root_is : root ≡ spelled (components root)) (r : RootOutcome) (whole : Bool) (r_is : reached_by r false ≡ reached_so path c in_repository whole)
     (whole_is : whole ≡ is_nil (components rest)) (stays : whole ≡ false → goes_on given.options path c in_repository ≡ false)
-    (onward_is : (s : Sources) → onward given.options (evidence given (made_with old) s) (λ p. on_disk given s.tree p true) (reached_so path c in_repository true) (components rest)
+    (onward_is : (s : Sources) → reached_through_components given.options (evidence given (made_with old) s) (λ p. on_disk given s.tree p true) (reached_so path c in_repository true) (components rest)
     ≡ reached_so path c in_repository whole)
     (ends_at : (s : Sources) → EndsAt (w.faults w1) (w.faults w1) given.options (evidence given (made_with old) s) (λ p. on_disk given s.tree p true) path c in_repository (components rest) (reached_so path c in_repository whole)) where
   path_is : r.path ≡ path
@@ -92,7 +92,7 @@ module _ {W F : Type 0} (w : WorktreeOf W) (f : FindOf F) (w0 w1 : W) (o0 o1 : F
             let bare : components root ≡ [] = ap components is in
             r_is
             ∙ sym (onward_is s)
-            ∙ ap (λ (l : List (List ℕ)). onward given.options ev kinds (reached_so path c in_repository true) l) (nothing-left (components path) (components rest) (sym bare ∙ at.split))
+            ∙ ap (λ (l : List (List ℕ)). reached_through_components given.options ev kinds (reached_so path c in_repository true) l) (nothing-left (components path) (components rest) (sym bare ∙ at.split))
             ∙ at.top bare s told quiet
             ∙ way-top given (made_with old) s root bare;
         swallowed = λ s tells stepped. at.ends s tells stepped (w.faults w1) (reached_by r false)
@@ -131,20 +131,20 @@ module _ {W F : Type 0} (w : WorktreeOf W) (f : FindOf F) (w0 w1 : W) (o0 o1 : F
 
 -- no component is left
 pub ended-whole : (now : ℕ) (o : Chosen) (ev : Evidence) (kinds : List ℕ → Option Kind) (path : List ℕ) (c : Outcome) (in_repository : Bool) (names : List (List ℕ)) → names ≡ []
-    → (onward o ev kinds (reached_so path c in_repository true) names ≡ reached_so path c in_repository true) × EndsAt now now o ev kinds path c in_repository names (reached_so path c in_repository true)
+    → (reached_through_components o ev kinds (reached_so path c in_repository true) names ≡ reached_so path c in_repository true) × EndsAt now now o ev kinds path c in_repository names (reached_so path c in_repository true)
 ended-whole now o ev kinds path c in_repository [] e = (refl, (omega arith, refl))
 ended-whole now o ev kinds path c in_repository (name ∷ names) e = absurd (cc e)
 
 -- the way does not go on
 pub ended-short : (now : ℕ) (o : Chosen) (ev : Evidence) (kinds : List ℕ → Option Kind) (path name : List ℕ) (c : Outcome) (in_repository : Bool) (names left : List (List ℕ)) → names ≡ name ∷ left
     → goes_on o path c in_repository ≡ false
-    → (onward o ev kinds (reached_so path c in_repository true) names ≡ reached_so path c in_repository false) × EndsAt now now o ev kinds path c in_repository names (reached_so path c in_repository false)
+    → (reached_through_components o ev kinds (reached_so path c in_repository true) names ≡ reached_so path c in_repository false) × EndsAt now now o ev kinds path c in_repository names (reached_so path c in_repository false)
 ended-short now o ev kinds path name c in_repository [] left e stays = absurd (cc e)
 ended-short now o ev kinds path name c in_repository (n ∷ names) left e stays =
     (shut (goes_on o path c in_repository) stays, (λ goes. absurd (yes-no (goes_on o path c in_repository) goes stays), λ stay. (omega arith, refl)))
   where
     shut : (b : Bool) → b ≡ false
-        → (if b then onward o ev kinds (reached_at o ev kinds in_repository false (joined path n)) names else record (reached_so path c in_repository true) { whole = false })
+        → (if b then reached_through_components o ev kinds (reached_at o ev kinds in_repository false (joined path n)) names else record (reached_so path c in_repository true) { whole = false })
         ≡ reached_so path c in_repository false
     shut true f = absurd (cc f)
     shut false f = refl
@@ -196,7 +196,7 @@ Reaches-stopped w f w0 w1 o0 o1 old new given root path rest c in_repository at 
     }
 
 -- the class of the worktree root was refused
-unread-root : (given : Setting) (made : Option Made) (s : Sources) (root : List ℕ)
+unread-root : (given : Setting) (made : Option StackSetup) (s : Sources) (root : List ℕ)
     → asks_of given.options (evidence given made s) [] (on_disk given s.tree [] true) None ≡ true → is_unread_in made s [] ≡ true
     → (way_to given made s root).is_unread ≡ true
 unfolding reached

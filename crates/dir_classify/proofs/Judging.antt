@@ -8,7 +8,7 @@ use Rattle.worktree_fs.specs.Paths.{full_path}
 use Rattle.worktree_fs.specs.Tree.{Names}
 use Rattle.worktree_fs.specs.declared.worktree.Worktree.{Ghosts as WorktreeOf}
 use Rattle.worktree_stack.specs.Reading.{Sources}
-use Rattle.worktree_stack.specs.Setup.{Made}
+use Rattle.worktree_stack.specs.Setup.{StackSetup}
 use Rattle.worktree_stack.specs.Stacked.{Stacked}
 use Rattle.dir_classify.specs.declared.classify.Outcome.{Outcome}
 use Rattle.dir_classify.specs.declared.entry.Kind.{Kind}
@@ -22,7 +22,7 @@ use Rattle.dir_classify.specs.Faults.{AreCounted, IsClassedWith, IsJudged, kind_
 use Rattle.dir_classify.specs.Kept.{Unasked}
 use Rattle.std.specs.Option.{option_or}
 use Rattle.dir_classify.specs.Kinds.{is_dir}
-use Rattle.dir_classify.specs.Layers.{Setting, evidence, indexed_as, kind_at, on_disk}
+use Rattle.dir_classify.specs.Layers.{Setting, evidence, look_up_in_index, kind_at, on_disk}
 use Rattle.dir_classify.specs.Reads.{most_sought}
 use Rattle.dir_classify.specs.Question.{Question, about_dot_git, about_kind, about_path}
 use Rattle.dir_classify.proofs.Classed.{asked-as, asked-kind, classed-as, classed-as-judged, classed-kind}
@@ -185,8 +185,8 @@ first-none None = refl
 first-none (Some k) = refl
 
 -- nothing is asked, so the worktree was not asked for the kind, and is not asked for more
-still-kind : {W : Type 0} (given : Setting) (made : Option Made) (s : Sources) (path : List ℕ) (known : Option Kind) (ask_disk : Bool) (entry : InIndex) (kind : Option Kind) (w0 w1 : W)
-    → entry ≡ indexed_as given path → is_dot_git given.options.ignore_case path ≡ false → given.can_match path (is_dir known) ≡ true
+still-kind : {W : Type 0} (given : Setting) (made : Option StackSetup) (s : Sources) (path : List ℕ) (known : Option Kind) (ask_disk : Bool) (entry : InIndex) (kind : Option Kind) (w0 w1 : W)
+    → entry ≡ look_up_in_index given path → is_dot_git given.options.ignore_case path ≡ false → given.can_match path (is_dir known) ≡ true
     → (is_kind_known ask_disk entry.up_to_date known ≡ true → (kind ≡ option_or entry.up_to_date known) × (w1 ≡ w0))
     → asks_nothing given.options (evidence given made s) path known ask_disk ≡ true
     → (w1 ≡ w0) × (is_idle_of_kind given.options (evidence given made s) path kind ≡ true) × (kind ≡ settled_kind (evidence given made s) path known None)
@@ -200,7 +200,7 @@ still-kind given made s path known ask_disk entry kind w0 w1 entry_is none can u
 
 module _ {W F : Type 0} (w : WorktreeOf W) (f : FindOf F) (w0 w1 w2 : W) (o0 o1 : F) (old new : Option Stacked) (given : Setting) (path full : List ℕ) (known : Option Kind) (ask_disk : Bool)
     (entry : InIndex) (kind : Option Kind)
-    (full_is : full ≡ full_path given.root path) (entry_is : entry ≡ indexed_as given path)
+    (full_is : full ≡ full_path given.root path) (entry_is : entry ≡ look_up_in_index given path)
     (none : is_dot_git given.options.ignore_case path ≡ false) (can : given.can_match path (is_dir known) ≡ true) (first : Asks w w0 w1) (unread : w.reads w1 ≡ w.reads w0)
     (exact : (t : Names) → w.told w0 ≡ Some t → NotIncreased (w.faults w0) (w.faults w1)
     → kind ≡ option_or entry.up_to_date (option_or known (if ask_disk then kind_at t full false else None)))

@@ -8,7 +8,7 @@ use Rattle.worktree_fs.specs.Paths.{is_nil}
 use Rattle.worktree_fs.specs.Tree.{Names}
 use Rattle.worktree_fs.specs.declared.worktree.Worktree.{Ghosts as WorktreeOf}
 use Rattle.worktree_stack.specs.Reading.{Sources}
-use Rattle.worktree_stack.specs.Setup.{Made, Mapping}
+use Rattle.worktree_stack.specs.Setup.{StackSetup, Mapping}
 use Rattle.worktree_stack.specs.Stacked.{Stacked}
 use Rattle.dir_classify.specs.Excludes.{made_with, maps_blobs, TellsIf}
 use Rattle.dir_classify.specs.Kept.{AsksRules, AsksAtMost, Unasked}
@@ -35,7 +35,7 @@ pub quiet-second : (n0 n1 n2 : ℕ) → n0 ≤ n1 → n1 ≤ n2 → NotIncreased
 quiet-second n0 n1 n2 a b quiet = omega (arith, a, b, quiet)
 
 -- the same tree is told
-pub tells-then : (told0 told1 : Option Names) (holds : Option Objects) (made : Option Made) (s : Sources) → told1 ≡ told0 → TellsIf told0 holds made s → TellsIf told1 holds made s
+pub tells-then : (told0 told1 : Option Names) (holds : Option Objects) (made : Option StackSetup) (s : Sources) → told1 ≡ told0 → TellsIf told0 holds made s → TellsIf told1 holds made s
 tells-then told0 told1 holds made s same tells = record { tree_is = same ∙ tells.tree_is; objects_are = tells.objects_are }
 
 -- a fault that was counted in a part was counted in all
@@ -43,7 +43,7 @@ pub increased-later : (n0 n1 n2 : ℕ) → n0 ≤ n1 → Increased n1 n2 → Inc
 increased-later n0 n1 n2 a more = omega (arith, a, more)
 
 -- no rules file is mapped to a blob, then the store is not asked
-pub nothing-mapped : (made : Made) → maps_blobs (Some made) ≡ false → made.mappings ≡ []
+pub nothing-mapped : (made : StackSetup) → maps_blobs (Some made) ≡ false → made.mappings ≡ []
 nothing-mapped made none = go made.mappings none
   where
     go : (mappings : List Mapping) → not (is_nil mappings) ≡ false → mappings ≡ []
@@ -52,7 +52,7 @@ nothing-mapped made none = go made.mappings none
 
 pub unmapped-then : {F : Type 0} {o0 o1 o2 : F} (old now : Option Stacked) → made_with now ≡ made_with old
     → (maps_blobs (made_with old) ≡ false → o1 ≡ o0) → (maps_blobs (made_with now) ≡ false → o2 ≡ o1) → maps_blobs (made_with old) ≡ false → o2 ≡ o0
-unmapped-then old now same a b none = b (ap (λ (m : Option Made). maps_blobs m) same ∙ none) ∙ a none
+unmapped-then old now same a b none = b (ap (λ (m : Option StackSetup). maps_blobs m) same ∙ none) ∙ a none
 
 -- ---- about which path the rules were asked
 

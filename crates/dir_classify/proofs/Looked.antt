@@ -5,7 +5,7 @@ use Rattle.gitbase_core.specs.Objects.{Objects}
 use Rattle.gitbase_core.specs.Path.{components}
 use Rattle.worktree_fs.specs.Tree.{Names}
 use Rattle.worktree_fs.specs.Paths.{spelled, fronts, all_but_last}
-use Rattle.worktree_stack.specs.Setup.{Made, has_excludes}
+use Rattle.worktree_stack.specs.Setup.{StackSetup, has_excludes}
 use Rattle.worktree_stack.specs.Excludes.{exclude}
 use Rattle.worktree_stack.specs.Exclusions.{exclusion_by}
 use Rattle.worktree_stack.specs.declared.platform.Exclusion.{Exclusion}
@@ -23,31 +23,31 @@ use Rattle.dir_classify.specs.Excludes.{TellsIf}
 use Rattle.dir_classify.specs.Layers.{ruling_in, ruling_by, is_unread_in}
 
 -- a store tells its objects, where rules are given
-pub tells-given : (told : Option Names) (holds : Option Objects) (made : Made) (s : Sources) → TellsIf told holds (Some made) s → Tells told holds s
+pub tells-given : (told : Option Names) (holds : Option Objects) (made : StackSetup) (s : Sources) → TellsIf told holds (Some made) s → Tells told holds s
 tells-given told holds made s told_so = record { tree_is = told_so.tree_is; objects_are = told_so.objects_are refl }
 
 abbrev ruling-of : Exclusion → Ruling
 ruling-of found = record { kind = found.kind; origin = found.origin }
 
 -- both parts of a ruling are of one decision
-pub ruling-looked : (sources : Sources) (made : Made) (s : Stacked) (path : List ℕ) (is_dir : Option Bool) (found : Exclusion)
+pub ruling-looked : (sources : Sources) (made : StackSetup) (s : Stacked) (path : List ℕ) (is_dir : Option Bool) (found : Exclusion)
     → made_of s ≡ made → s.is_dir ≡ is_dir
     → found ≡ exclusion_by (exclude (rulebook (made_of s) sources) (components path) s.is_dir)
     → ruling-of found ≡ ruling_in (Some made) sources path is_dir
 unfolding ruling_in
 ruling-looked sources made s path is_dir found made_is dir_is found_is =
     ap ruling-of found_is
-    ∙ ap (λ (m : Made). ruling_by (exclude (rulebook m sources) (components path) s.is_dir)) made_is
+    ∙ ap (λ (m : StackSetup). ruling_by (exclude (rulebook m sources) (components path) s.is_dir)) made_is
     ∙ ap (λ (d : Option Bool). ruling_by (exclude (rulebook made sources) (components path) d)) dir_is
 
 -- the rules of all directories above it were read
-pub read-looked : (sources : Sources) (made : Made) (s : Stacked) (path : List ℕ) → has_excludes made ≡ true → made_of s ≡ made → IsInStep sources s → IsLookedUp s (components path) → is_unread_in (Some made) sources path ≡ false
+pub read-looked : (sources : Sources) (made : StackSetup) (s : Stacked) (path : List ℕ) → has_excludes made ≡ true → made_of s ≡ made → IsInStep sources s → IsLookedUp s (components path) → is_unread_in (Some made) sources path ≡ false
 unfolding is_unread_in
 read-looked sources made s path some made_is step at =
-    let read : Made → List (List (List ℕ)) → Bool = λ m directories. list_all (λ directory. is_read (reading m sources (spelled directory))) directories in
+    let read : StackSetup → List (List (List ℕ)) → Bool = λ m directories. list_all (λ directory. is_read (reading m sources (spelled directory))) directories in
     let now : read (made_of s) (pushed s.at) ≡ true = step.are_read in
     let all : read (made_of s) (fronts (all_but_last (components path))) ≡ true = ap (λ (a : Option (List (List ℕ))). read (made_of s) (pushed a)) (sym at.at) ∙ now in
-    ap (λ (m : Made). not (read m (fronts (all_but_last (components path))))) (sym made_is) ∙ ap not all
+    ap (λ (m : StackSetup). not (read m (fronts (all_but_last (components path))))) (sym made_is) ∙ ap not all
 
 -- what is pushed then lies on the way to it
 pub on-way-looked : (s : Stacked) (path : List ℕ) → IsLookedUp s (components path) → IsOnWay s.at (components path)

@@ -13,7 +13,7 @@ use Rattle.worktree_fs.specs.declared.worktree.Worktree.{Ghosts as WorktreeOf}
 use Rattle.worktree_fs.proofs.Paths.Spelled.{grown-is, grown-components}
 use Rattle.worktree_stack.specs.declared.error.AtPathError.{AtPathError}
 use Rattle.worktree_stack.specs.Reading.{Sources}
-use Rattle.worktree_stack.specs.Setup.{Made}
+use Rattle.worktree_stack.specs.Setup.{StackSetup}
 use Rattle.worktree_stack.specs.Stacked.{Stacked}
 use Rattle.dir_classify.specs.declared.classify.Outcome.{Outcome}
 use Rattle.dir_classify.specs.Excludes.{made_with, maps_blobs, platforms_of, TellsIf, InStepIf}
@@ -21,7 +21,7 @@ use Rattle.dir_classify.specs.Kept.{AsksRules, KeepsRules, Unasked}
 use Rattle.dir_classify.specs.Layers.{Setting, evidence, is_unread_in, on_disk}
 use Rattle.dir_classify.specs.declared.error.Error.{Error}
 use Rattle.dir_classify.specs.declared.error.Error.TheVariants as errors
-use Rattle.dir_classify.specs.Class.{class as class_of, asks as asks_of, seeks as seeks_of, asks_of_kind, is_dot_git, is_indexed, is_worktree, settled_kind}
+use Rattle.dir_classify.specs.Class.{class as class_of, asks as asks_of, seeks as seeks_of, asks_of_kind, is_dot_git, index_agrees_with_disk, is_worktree, settled_kind}
 use Rattle.dir_classify.specs.Classes.{Judges}
 use Rattle.dir_classify.specs.Question.{about_way}
 use Rattle.dir_classify.specs.Faults.{IsAsked}
@@ -44,7 +44,7 @@ use Rattle.dir_classify.specs.declared.entry.Kind.{Kind}
 use Rattle.dir_classify.specs.Chosen.{Chosen}
 use Rattle.dir_classify.specs.Evidence.{Evidence}
 use Rattle.dir_classify.specs.Kinds.{is_dir, is_repository}
-use Rattle.dir_classify.specs.Way.{EndsAt, IsClassOnWay, IsReached, Reached, asking_behind, goes_on, onward, reached, reached_at, reached_root, reached_so, way_class, way_unread}
+use Rattle.dir_classify.specs.Way.{EndsAt, IsClassOnWay, IsReached, Reached, asking_behind, goes_on, reached_through_components, reached, reached_at, reached_root, reached_so, class_of_path_on_way, way_unread}
 
 -- The way stands at a path, and from there leads where it leads from the worktree root.
 pub record IsOnward {W F : Type 0} (w : WorktreeOf W) (f : FindOf F) (w0 w1 : W) (o0 o1 : F) (old new : Option Stacked) (given : Setting)
@@ -56,7 +56,7 @@ pub record IsOnward {W F : Type 0} (w : WorktreeOf W) (f : FindOf F) (w0 w1 : W)
   pub spelled_is : path ≡ spelled (components path)
   pub split : components root ≡ components path ++ components rest
   pub leads : (s : Sources) → TellsIf (w.told w0) (f.holds o0) (made_with old) s → InStepIf s old → NotIncreased (w.faults w0) (w.faults w1)
-      → onward given.options (evidence given (made_with old) s) (λ p. on_disk given s.tree p true) (reached_so path class in_repository true) (components rest)
+      → reached_through_components given.options (evidence given (made_with old) s) (λ p. on_disk given s.tree p true) (reached_so path class in_repository true) (components rest)
       ≡ way_to given (made_with old) s root
   pub top : components root ≡ [] → (s : Sources) → w.told w0 ≡ Some s.tree → NotIncreased (w.faults w0) (w.faults w1)
       → reached_so path class in_repository true ≡ reached_root given.options (evidence given (made_with old) s) (λ p. on_disk given s.tree p true)
@@ -80,27 +80,27 @@ pub record IsOnward {W F : Type 0} (w : WorktreeOf W) (f : FindOf F) (w0 w1 : W)
 -- ---- at the worktree root
 
 pub top-init : (o : Chosen) (ev : Evidence) (kinds : List ℕ → Option Kind) (path : List ℕ) (c : Outcome) (in_repository : Bool) → path ≡ []
-    → c ≡ way_class o ev kinds [] → way_unread o ev kinds [] ≡ false → in_repository ≡ is_repository c.disk_kind
+    → c ≡ class_of_path_on_way o ev kinds [] → way_unread o ev kinds [] ≡ false → in_repository ≡ is_repository c.disk_kind
     → reached_so path c in_repository true ≡ reached_root o ev kinds
 top-init o ev kinds path c in_repository path_is c_is read in_is =
     ap (λ (p : List ℕ). reached_so p c in_repository true) path_is
     ∙ ap (λ (b : Bool). reached_so [] c b true) in_is
     ∙ ap (λ (x : Outcome). reached_so [] x (is_repository x.disk_kind) true) c_is
-    ∙ ap (λ (b : Bool). record (reached_so [] (way_class o ev kinds []) (is_repository (way_class o ev kinds []).disk_kind) true) { is_unread = b }) (sym read)
+    ∙ ap (λ (b : Bool). record (reached_so [] (class_of_path_on_way o ev kinds []) (is_repository (class_of_path_on_way o ev kinds []).disk_kind) true) { is_unread = b }) (sym read)
 
-pub way-init : (given : Setting) (made : Option Made) (s : Sources) (root : List ℕ) (c : Outcome) (in_repository : Bool)
-    → c ≡ way_class given.options (evidence given made s) (λ p. on_disk given s.tree p true) []
+pub way-init : (given : Setting) (made : Option StackSetup) (s : Sources) (root : List ℕ) (c : Outcome) (in_repository : Bool)
+    → c ≡ class_of_path_on_way given.options (evidence given made s) (λ p. on_disk given s.tree p true) []
     → way_unread given.options (evidence given made s) (λ p. on_disk given s.tree p true) [] ≡ false
     → in_repository ≡ is_repository c.disk_kind
-    → onward given.options (evidence given made s) (λ p. on_disk given s.tree p true) (reached_so [] c in_repository true) (components root) ≡ way_to given made s root
+    → reached_through_components given.options (evidence given made s) (λ p. on_disk given s.tree p true) (reached_so [] c in_repository true) (components root) ≡ way_to given made s root
 unfolding reached
 way-init given made s root c in_repository c_is read in_is =
     let ev = evidence given made s in
     let at = λ (p : List ℕ). on_disk given s.tree p true in
-    let go : Reached → Reached = λ r. onward given.options ev at r (components root) in
+    let go : Reached → Reached = λ r. reached_through_components given.options ev at r (components root) in
     ap (λ (b : Bool). go (reached_so [] c b true)) in_is
     ∙ ap (λ (x : Outcome). go (reached_so [] x (is_repository x.disk_kind) true)) c_is
-    ∙ ap (λ (b : Bool). go (record (reached_so [] (way_class given.options ev at []) (is_repository (way_class given.options ev at []).disk_kind) true) { is_unread = b })) (sym read)
+    ∙ ap (λ (b : Bool). go (record (reached_so [] (class_of_path_on_way given.options ev at []) (is_repository (class_of_path_on_way given.options ev at []).disk_kind) true) { is_unread = b })) (sym read)
 
 -- by what was read
 pub ends-init : (before then_ now : ℕ) (o : Chosen) (ev : Evidence) (kinds : List ℕ → Option Kind) (names : List (List ℕ)) (path : List ℕ) (c : Outcome) (in_repository : Bool) (r : Reached)
@@ -129,7 +129,7 @@ not-first false true first rest e f = f
 not-first false false first rest e f = refl
 
 asks-no-root : (o : Chosen) (ev : Evidence) (kind : Option Kind) → asks_of_kind o ev [] kind ≡ false
-asks-no-root o ev kind = none-of (not (is_worktree o [])) (not (is_indexed (ev.in_index []) kind)) ev.is_ruled
+asks-no-root o ev kind = none-of (not (is_worktree o [])) (not (index_agrees_with_disk (ev.in_index []) kind)) ev.is_ruled
 
 pub never-asked : (o : Chosen) (ev : Evidence) (known kind : Option Kind) → asks_of o ev [] known kind ≡ false
 unfolding asks_of
@@ -173,17 +173,17 @@ unasked-then {most = most} all names name grown a b =
 -- ---- one component further
 
 pub way-step : (o : Chosen) (ev : Evidence) (kinds : List ℕ → Option Kind) (path name : List ℕ) (names : List (List ℕ)) (c next : Outcome) (in_repository : Bool)
-    → goes_on o path c in_repository ≡ true → next ≡ way_class o ev kinds (joined path name) → way_unread o ev kinds (joined path name) ≡ false
-    → onward o ev kinds (reached_so (joined path name) next in_repository true) names ≡ onward o ev kinds (reached_so path c in_repository true) (name ∷ names)
+    → goes_on o path c in_repository ≡ true → next ≡ class_of_path_on_way o ev kinds (joined path name) → way_unread o ev kinds (joined path name) ≡ false
+    → reached_through_components o ev kinds (reached_so (joined path name) next in_repository true) names ≡ reached_through_components o ev kinds (reached_so path c in_repository true) (name ∷ names)
 way-step o ev kinds path name names c next in_repository goes next_is read =
-    let go : Reached → Reached = λ r. onward o ev kinds r names in
+    let go : Reached → Reached = λ r. reached_through_components o ev kinds r names in
     ap (λ (x : Outcome). go (reached_so (joined path name) x in_repository true)) next_is
-    ∙ ap (λ (b : Bool). go (record (reached_so (joined path name) (way_class o ev kinds (joined path name)) in_repository true) { is_unread = b })) (sym read)
+    ∙ ap (λ (b : Bool). go (record (reached_so (joined path name) (class_of_path_on_way o ev kinds (joined path name)) in_repository true) { is_unread = b })) (sym read)
     ∙ sym (open-way (goes_on o path c in_repository) goes)
   where
     open-way : (b : Bool) → b ≡ true
-        → (if b then onward o ev kinds (reached_at o ev kinds in_repository false (joined path name)) names else record (reached_so path c in_repository true) { whole = false })
-        ≡ onward o ev kinds (reached_at o ev kinds in_repository false (joined path name)) names
+        → (if b then reached_through_components o ev kinds (reached_at o ev kinds in_repository false (joined path name)) names else record (reached_so path c in_repository true) { whole = false })
+        ≡ reached_through_components o ev kinds (reached_at o ev kinds in_repository false (joined path name)) names
     open-way true e = refl
     open-way false e = absurd (cc e)
 
@@ -194,7 +194,7 @@ tells-after : {W F : Type 0} (w : WorktreeOf W) (f : FindOf F) (w0 w1 : W) (o0 o
 tells-after w f w0 w1 o0 o1 old now s keeps store same tells =
     record {
       tree_is = keeps.tree ∙ tells.tree_is;
-      objects_are = λ some. store.holds ∙ tells.objects_are (ap (λ (m : Option Made). is_some m) (sym same) ∙ some);
+      objects_are = λ some. store.holds ∙ tells.objects_are (ap (λ (m : Option StackSetup). is_some m) (sym same) ∙ some);
     }
 
 module _ {W F : Type 0} (w : WorktreeOf W) (f : FindOf F) (w0 w1 w2 : W) (o0 o1 o2 : F) (old now new : Option Stacked) (given : Setting)
@@ -228,7 +228,7 @@ module _ {W F : Type 0} (w : WorktreeOf W) (f : FindOf F) (w0 w1 w2 : W) (o0 o1 
       (step : Judges w f w1 w2 o1 o2 now new given (about_way given.options (joined path name)) result) where
     never-now : (s : Sources) → ((p : List ℕ) → LeadsTo (joined path name) p → (kind : Option Kind) → asks_of given.options (evidence given (made_with old) s) p kind None ≡ false)
         → (kind : Option Kind) → asks_of given.options (evidence given (made_with now) s) (joined path name) kind None ≡ false
-    never-now s never kind = ap (λ (m : Option Made). asks_of given.options (evidence given m s) (joined path name) kind None) at.rules.made ∙ never (joined path name) grown-itself kind
+    never-now s never kind = ap (λ (m : Option StackSetup). asks_of given.options (evidence given m s) (joined path name) kind None) at.rules.made ∙ never (joined path name) grown-itself kind
 
     grown-spared : (s : Sources) → ((p : List ℕ) → LeadsTo (joined path name) p → (kind : Option Kind) → asks_of given.options (evidence given (made_with old) s) p kind None ≡ false)
         → Unasked (most_on_way (most_sought given.options) (components (joined path name))) (w.reads w0) (w.reads w2) o0 o2 old new
@@ -246,7 +246,7 @@ module _ {W F : Type 0} (w : WorktreeOf W) (f : FindOf F) (w0 w1 w2 : W) (o0 o1 
         at.rules.made (grown-components path name at.spelled_is component) grown-spelled
         (at.unsought s tells stepped (quiet-first (w.faults w0) (w.faults w1) (w.faults w2) at.keeps.faults step.keeps.faults quiet) (λ p leads. never p (leads-grown p leads)))
         (step.unsought s (tells-here s tells) (at.rules.in_step s tells stepped) (quiet-second (w.faults w0) (w.faults w1) (w.faults w2) at.keeps.faults step.keeps.faults quiet)
-        (ap (λ (m : Option Made). seeks_of given.options (evidence given m s) (joined path name) (on_disk given s.tree (joined path name) true) None) at.rules.made
+        (ap (λ (m : Option StackSetup). seeks_of given.options (evidence given m s) (joined path name) (on_disk given s.tree (joined path name) true) None) at.rules.made
         ∙ never (joined path name) grown-itself))
 
     grown-needed : (s : Sources) → w.told w0 ≡ Some s.tree → NotIncreased (w.faults w0) (w.faults w2)
@@ -259,7 +259,7 @@ module _ {W F : Type 0} (w : WorktreeOf W) (f : FindOf F) (w0 w1 w2 : W) (o0 o1 
         (at.needed s told (quiet-first (w.faults w0) (w.faults w1) (w.faults w2) at.keeps.faults step.keeps.faults quiet))
         (asked-needed given.options ev kinds (most_sought given.options) (joined path name) (w.reads w1) (w.reads w2) o1 o2 now new result
         (λ none. step.unasked s (at.keeps.tree ∙ told) (quiet-second (w.faults w0) (w.faults w1) (w.faults w2) at.keeps.faults step.keeps.faults quiet)
-        (ap (λ (m : Option Made). asks_of given.options (evidence given m s) (joined path name) (on_disk given s.tree (joined path name) true) None) at.rules.made ∙ none))
+        (ap (λ (m : Option StackSetup). asks_of given.options (evidence given m s) (joined path name) (on_disk given s.tree (joined path name) true) None) at.rules.made ∙ none))
         step.reads)
 
     grown-unasked : (s : Sources) → w.told w0 ≡ Some s.tree → NotIncreased (w.faults w0) (w.faults w2)
@@ -269,7 +269,7 @@ module _ {W F : Type 0} (w : WorktreeOf W) (f : FindOf F) (w0 w1 w2 : W) (o0 o1 
         unasked-then (components (joined path name)) (components path) name (grown-components path name at.spelled_is component)
         (at.unasked s told (quiet-first (w.faults w0) (w.faults w1) (w.faults w2) at.keeps.faults step.keeps.faults quiet) (λ p leads. never p (leads-grown p leads)))
         (step.unasked s (at.keeps.tree ∙ told) (quiet-second (w.faults w0) (w.faults w1) (w.faults w2) at.keeps.faults step.keeps.faults quiet)
-        (ap (λ (m : Option Made). asks_of given.options (evidence given m s) (joined path name) (on_disk given s.tree (joined path name) true) None) at.rules.made
+        (ap (λ (m : Option StackSetup). asks_of given.options (evidence given m s) (joined path name) (on_disk given s.tree (joined path name) true) None) at.rules.made
         ∙ never (joined path name) grown-itself))
 
   module _ (next : Outcome) (goes : goes_on given.options path c in_repository ≡ true)
@@ -277,7 +277,7 @@ module _ {W F : Type 0} (w : WorktreeOf W) (f : FindOf F) (w0 w1 w2 : W) (o0 o1 
     class-here : (s : Sources) → TellsIf (w.told w0) (f.holds o0) (made_with old) s → InStepIf s old
         → IsClassOnWay (w.faults w1) (w.faults w2) given.options (evidence given (made_with old) s) (λ p. on_disk given s.tree p true) (joined path name) next
     class-here s tells stepped =
-        subst (λ (m : Option Made). IsClassOnWay (w.faults w1) (w.faults w2) given.options (evidence given m s) (λ p. on_disk given s.tree p true) (joined path name) next) at.rules.made
+        subst (λ (m : Option StackSetup). IsClassOnWay (w.faults w1) (w.faults w2) given.options (evidence given m s) (λ p. on_disk given s.tree p true) (joined path name) next) at.rules.made
         (step.swallowed s (tells-here s tells) (at.rules.in_step s tells stepped)).0
 
     pub onward-grown : IsOnward w f w0 w2 o0 o2 old new given root (joined path name) next in_repository left
@@ -298,10 +298,10 @@ module _ {W F : Type 0} (w : WorktreeOf W) (f : FindOf F) (w0 w1 w2 : W) (o0 o1 
               let quiet_now = quiet-second (w.faults w0) (w.faults w1) (w.faults w2) at.keeps.faults step.keeps.faults quiet in
               way-step given.options ev kinds path name (components left) c next in_repository goes
               (step.class s (tells-here s tells) (at.rules.in_step s tells stepped) quiet_now
-              ∙ ap (λ (m : Option Made). class_of given.options (evidence given m s) (joined path name) (kinds (joined path name)) None) at.rules.made)
-              (ap (λ (m : Option Made). asks_of given.options (evidence given m s) (joined path name) (kinds (joined path name)) None && (evidence given m s).is_unread (joined path name)) (sym at.rules.made)
+              ∙ ap (λ (m : Option StackSetup). class_of given.options (evidence given m s) (joined path name) (kinds (joined path name)) None) at.rules.made)
+              (ap (λ (m : Option StackSetup). asks_of given.options (evidence given m s) (joined path name) (kinds (joined path name)) None && (evidence given m s).is_unread (joined path name)) (sym at.rules.made)
               ∙ step.read s (tells-here s tells) (at.rules.in_step s tells stepped) quiet_now)
-              ∙ ap (λ (l : List (List ℕ)). onward given.options ev kinds (reached_so path c in_repository true) l) (sym rest_is)
+              ∙ ap (λ (l : List (List ℕ)). reached_through_components given.options ev kinds (reached_so path c in_repository true) l) (sym rest_is)
               ∙ at.leads s tells stepped (quiet-first (w.faults w0) (w.faults w1) (w.faults w2) at.keeps.faults step.keeps.faults quiet);
           top = λ is s told quiet. absurd (nothing-more (components path) (components left) name (sym is ∙ at.split ∙ ap (λ (l : List (List ℕ)). components path ++ l) rest_is));
           ends = λ s tells stepped now_faults r end.
@@ -335,8 +335,8 @@ module _ {W F : Type 0} (w : WorktreeOf W) (f : FindOf F) (w0 w1 w2 : W) (o0 o1 
       let leads : LeadsTo root (joined path name) = record { spelled_is = grown-spelled; rest = components left; components_are = grown-split } in
       let refused-here : (s : Sources) → TellsIf (w.told w0) (f.holds o0) (made_with old) s → IsRefusedOf s (made_with old) (joined path name) e =
       λ s tells. (
-        subst (λ (m : Option Made). IsAbout m (joined path name) e) at.rules.made step.about,
-        subst (λ (m : Option Made). Refuses s m (joined path name) e) at.rules.made (step.refused s (tells-here s tells)),
+        subst (λ (m : Option StackSetup). IsAbout m (joined path name) e) at.rules.made step.about,
+        subst (λ (m : Option StackSetup). Refuses s m (joined path name) e) at.rules.made (step.refused s (tells-here s tells)),
       ) in
       record {
         reached = λ s tells stepped quiet. tt;
@@ -345,13 +345,13 @@ module _ {W F : Type 0} (w : WorktreeOf W) (f : FindOf F) (w0 w1 w2 : W) (o0 o1 
         prefix = tt;
         whole = tt;
         ended = tt;
-        about = (joined path name, leads, subst (λ (m : Option Made). IsAbout m (joined path name) e) at.rules.made step.about);
+        about = (joined path name, leads, subst (λ (m : Option StackSetup). IsAbout m (joined path name) e) at.rules.made step.about);
         refused = λ s tells.
             (joined path name, leads, refused-here s tells);
         met = λ s tells stepped quiet.
             let ev = evidence given (made_with old) s in
             let kinds = λ (p : List ℕ). on_disk given s.tree p true in
-            let way = ap (λ (l : List (List ℕ)). onward given.options ev kinds (reached_so path c in_repository true) l) (sym rest_is)
+            let way = ap (λ (l : List (List ℕ)). reached_through_components given.options ev kinds (reached_so path c in_repository true) l) (sym rest_is)
             ∙ at.leads s tells stepped (quiet-first (w.faults w0) (w.faults w1) (w.faults w2) at.keeps.faults step.keeps.faults quiet) in (
               joined path name,
               subst (λ (r : Reached). LeadsTo r.path (joined path name)) way
@@ -369,7 +369,7 @@ module _ {W F : Type 0} (w : WorktreeOf W) (f : FindOf F) (w0 w1 w2 : W) (o0 o1 
             (Increased (f.faults o0) (f.faults o2))
             (λ unread_is.
             ap (λ (r : Reached). r.is_unread)
-            (sym (ap (λ (l : List (List ℕ)). onward given.options ev kinds (reached_so path c in_repository true) l) (sym rest_is)
+            (sym (ap (λ (l : List (List ℕ)). reached_through_components given.options ev kinds (reached_so path c in_repository true) l) (sym rest_is)
             ∙ at.leads s tells stepped (quiet-first (w.faults w0) (w.faults w1) (w.faults w2) at.keeps.faults step.keeps.faults quiet)))
             ∙ unread-step given.options ev kinds path name (components left) c in_repository goes
             (unread-way given (made_with now) (made_with old) s (joined path name) at.rules.made asks unread_is))
@@ -393,7 +393,7 @@ module _ {W F : Type 0} (w : WorktreeOf W) (f : FindOf F) (w0 w1 w2 : W) (o0 o1 
                 reaches = at.stands s tells stepped;
                 whole = refl;
                 goes = goes;
-                asked = subst (λ (m : Option Made). IsAsked (w.faults w1) (w.faults w2) (λ k. asks_of given.options (evidence given m s) (joined path name) k None) kind a) at.rules.made is.0;
+                asked = subst (λ (m : Option StackSetup). IsAsked (w.faults w1) (w.faults w2) (λ k. asks_of given.options (evidence given m s) (joined path name) k None) kind a) at.rules.made is.0;
               },
               is.1,
             ))

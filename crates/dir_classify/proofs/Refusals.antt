@@ -5,7 +5,7 @@ use Rattle.std.specs.List.{list_all}
 use Rattle.gitbase_core.specs.Path.{components}
 use Rattle.worktree_fs.specs.Paths.{spelled, fronts, all_but_last}
 use Rattle.worktree_stack.specs.Reading.{Sources, Refusal, Tells, reading, is_read}
-use Rattle.worktree_stack.specs.Setup.{Made}
+use Rattle.worktree_stack.specs.Setup.{StackSetup}
 use Rattle.worktree_stack.specs.declared.error.AtPathError.{AtPathError}
 use Rattle.worktree_stack.specs.declared.error.AtPathError.TheVariants as inner
 use Rattle.worktree_stack.specs.declared.error.BlobWhy.TheVariants as blob_whys
@@ -37,7 +37,7 @@ some-of Q None e = absurd e
 some-of Q (Some x) e = refl
 
 -- rules were given, as a rules file was refused
-pub on-access-by : (made : Option Made) (path : List ℕ) (P : Type 0) → (is_some made ≡ true → P) → (e : Error) → IsAbout made path e → OnAccess P e
+pub on-access-by : (made : Option StackSetup) (path : List ℕ) (P : Type 0) → (is_some made ≡ true → P) → (e : Error) → IsAbout made path e → OnAccess P e
 on-access-by made path P p errors.Interrupted about = tt
 on-access-by made path P p (errors.WorktreeRootIsFile root) about = tt
 on-access-by made path P p (errors.NormalizeRoot root) about = tt
@@ -118,7 +118,7 @@ all-front p (name ∷ names) (x ∷ front) rest e fails =
     (all-map p (λ f. name ∷ f) (fronts names) ∙ all-front (λ f. p (name ∷ f)) names front rest (tail_is e) (ap (λ (n : List ℕ). p (n ∷ front)) (head_is e) ∙ fails))
 
 -- the rules of a directory above a path are refused
-pub unread-ancestor : (s : Sources) (rules : Made) (path : List ℕ) (refusal : Refusal) (Holds : List ℕ → Type 0) → lookups.OfAncestor (components path) Holds
+pub unread-ancestor : (s : Sources) (rules : StackSetup) (path : List ℕ) (refusal : Refusal) (Holds : List ℕ → Type 0) → lookups.OfAncestor (components path) Holds
     → ((d : List ℕ) → Holds d → reading rules s d ≡ Err refusal) → is_unread_in (Some rules) s path ≡ true
 unfolding is_unread_in
 unread-ancestor s rules path refusal Holds h is =
@@ -130,7 +130,7 @@ told-so s = record { tree_is = refl; objects_are = refl }
 
 -- A lookup that is refused without a fault of the worktree is one of a path of which some rules cannot be read, unless the store
 -- failed.
-unread-lookup : (s : Sources) (rules : Made) (path : List ℕ) (TreeFailed StoreFailed : Type 0) (e : AtPathError) → (TreeFailed → ⊥)
+unread-lookup : (s : Sources) (rules : StackSetup) (path : List ℕ) (TreeFailed StoreFailed : Type 0) (e : AtPathError) → (TreeFailed → ⊥)
     → lookups.RefusesIn s rules (components path) e → lookups.IsOnWayTo rules (components path) e → (e ≡ inner.OutOfMemory → ⊥) → lookups.OnFault TreeFailed StoreFailed e
     → (is_unread_in (Some rules) s path ≡ true) ⊎ StoreFailed
 unread-lookup s rules path TreeFailed StoreFailed inner.NotNormal quiet refused about some cause = absurd refused
@@ -151,7 +151,7 @@ unread-lookup s rules path TreeFailed StoreFailed (inner.Blob id blob_whys.NotAB
 unread-lookup s rules path TreeFailed StoreFailed (inner.Blob id blob_whys.Fault) quiet refused about some cause = inr cause
 unread-lookup s rules path TreeFailed StoreFailed inner.OutOfMemory quiet refused about some cause = absurd (some refl)
 
-pub unread-refused : (s : Sources) (made : Option Made) (path : List ℕ) (TreeFailed StoreFailed : Type 0) (e : Error) → (TreeFailed → ⊥)
+pub unread-refused : (s : Sources) (made : Option StackSetup) (path : List ℕ) (TreeFailed StoreFailed : Type 0) (e : Error) → (TreeFailed → ⊥)
     → IsAbout made path e → Refuses s made path e → OnFault TreeFailed StoreFailed e → OnAccess ((is_unread_in made s path ≡ true) ⊎ StoreFailed) e
 unread-refused s made path TreeFailed StoreFailed errors.Interrupted quiet about refused cause = tt
 unread-refused s made path TreeFailed StoreFailed (errors.WorktreeRootIsFile root) quiet about refused cause = tt
@@ -159,7 +159,7 @@ unread-refused s made path TreeFailed StoreFailed (errors.NormalizeRoot root) qu
 unread-refused s made path TreeFailed StoreFailed (errors.SymlinkInRoot root worktree_root index) quiet about refused cause = tt
 unread-refused s made path TreeFailed StoreFailed (errors.ExcludesAccess e) quiet about refused cause = go made about refused
   where
-    go : (k : Option Made) → IsAbout k path (errors.ExcludesAccess e) → Refuses s k path (errors.ExcludesAccess e) → (is_unread_in k s path ≡ true) ⊎ StoreFailed
+    go : (k : Option StackSetup) → IsAbout k path (errors.ExcludesAccess e) → Refuses s k path (errors.ExcludesAccess e) → (is_unread_in k s path ≡ true) ⊎ StoreFailed
     go None a r = absurd a
     go (Some rules) a r = unread-lookup s rules path TreeFailed StoreFailed e quiet r a.on_way (λ is. absurd (a.some_memory is)) cause
 unread-refused s made path TreeFailed StoreFailed (errors.ReadDir directory why) quiet about refused cause = tt

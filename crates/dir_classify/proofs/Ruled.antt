@@ -6,13 +6,13 @@ use Rattle.glob_rules.specs.declared.ignore.Kind.{Kind as IgnoredAs}
 use Rattle.worktree_fs.specs.Causes.{Increased, NotIncreased}
 use Rattle.worktree_fs.specs.Paths.{full_path}
 use Rattle.worktree_stack.specs.Reading.{Sources}
-use Rattle.worktree_stack.specs.Setup.{Made}
+use Rattle.worktree_stack.specs.Setup.{StackSetup}
 use Rattle.worktree_stack.specs.Stacked.{Stacked}
 use Rattle.dir_classify.specs.declared.classify.Outcome.{Outcome}
 use Rattle.dir_classify.specs.declared.entry.Kind.{Kind}
 use Rattle.dir_classify.specs.declared.excludes.Ruling.{Ruling}
 use Rattle.dir_classify.specs.Chosen.{Chosen}
-use Rattle.dir_classify.specs.Class.{class_by_rules, class_dot_git, dot_git_ruling, class_of_kind, class_unindexed, is_indexed, is_worktree, ruled_by, ruling_of}
+use Rattle.dir_classify.specs.Class.{class_by_rules, class_dot_git, dot_git_ruling, class_of_kind, class_unindexed, index_agrees_with_disk, is_worktree, ruled_by, ruling_of}
 use Rattle.dir_classify.specs.Evidence.{Evidence, no_ruling}
 use Rattle.dir_classify.specs.Excludes.{made_with}
 use Rattle.dir_classify.specs.Faults.{Failed, IsJudged, IsRuled, kind_read, none_failed, read_as}
@@ -29,7 +29,7 @@ rules-same o ev path kind failed b (Some excluded) = refl
 
 -- the class of a path that the index does not have, by what the rules said and by what was read
 pub judged-unindexed : (n0 n1 n2 : ℕ) (o : Chosen) (ev : Evidence) (path : List ℕ) (kind on_disk : Option Kind) (ruling : Ruling) (c : Outcome)
-    → is_worktree o path ≡ false → is_indexed (ev.in_index path) kind ≡ false
+    → is_worktree o path ≡ false → index_agrees_with_disk (ev.in_index path) kind ≡ false
     → IsRuled n0 n1 (λ read. ruling_of o read path kind) ev ruling → IsJudged n1 n2 (λ _ read. class_unindexed o read path kind ruling) ev on_disk c
     → IsJudged n0 n2 (λ _ read. class_of_kind o read path kind) ev on_disk c
 judged-unindexed n0 n1 n2 o ev path kind on_disk ruling c none not_indexed ruled judged =
@@ -49,7 +49,7 @@ made-some None e = absurd (cc e)
 made-some (Some stack) e = refl
 
 -- what the rules say of a path, by the kind that a link there leads to
-ruled-as : (given : Setting) (made : Option Made) (s : Sources) (path : List ℕ) (kind : Option Kind) (failed : Bool) (is_dir : Option Bool) (ruling : Ruling)
+ruled-as : (given : Setting) (made : Option StackSetup) (s : Sources) (path : List ℕ) (kind : Option Kind) (failed : Bool) (is_dir : Option Bool) (ruling : Ruling)
     → is_some made ≡ true → is_empty path ≡ false → is_dir ≡ ruled_by given.options kind (kind_read failed (kind_at s.tree (full_path given.root path) true)) → ruling ≡ ruling_in made s path is_dir
     → ruling ≡ ruling_of given.options (read_as (record none_failed { followed = failed }) (evidence given made s)) path kind
 unfolding evidence
@@ -57,7 +57,7 @@ ruled-as given made s path kind failed is_dir ruling some not_empty is_dir_is ru
     ruling_is ∙ ap (ruling_in made s path) is_dir_is ∙ rw (some, not_empty) refl
 
 -- that was asked first, and the rules then
-pub ruled-read : (n0 n1 n2 : ℕ) (given : Setting) (made : Option Made) (s : Sources) (path full : List ℕ) (kind : Option Kind) (is_dir : Option Bool) (ruling : Ruling)
+pub ruled-read : (n0 n1 n2 : ℕ) (given : Setting) (made : Option StackSetup) (s : Sources) (path full : List ℕ) (kind : Option Kind) (is_dir : Option Bool) (ruling : Ruling)
     → n0 ≤ n1 → n1 ≤ n2 → full ≡ full_path given.root path → is_some made ≡ true → is_empty path ≡ false
     → (NotIncreased n0 n1 → is_dir ≡ ruled_by given.options kind (kind_at s.tree full true))
     → (is_dir ≡ ruled_by given.options kind (kind_at s.tree full true)) ⊎ (is_dir ≡ ruled_by given.options kind None) → ruling ≡ ruling_in made s path is_dir
@@ -81,7 +81,7 @@ ruled-read n0 n1 n2 given made s path full kind is_dir ruling a b full_is some n
     go (inr is) (inr rose) = record { failed = true; counted = omega (arith, rose, b); ruling_is = ruled-as given made s path kind true is_dir ruling some not_empty is ruling_is }
 
 -- where they are not asked they say nothing
-pub ruling-none : (given : Setting) (made : Option Made) (s : Sources) (path : List ℕ) (kind : Option Kind) → (is_some made && not (is_empty path)) ≡ false
+pub ruling-none : (given : Setting) (made : Option StackSetup) (s : Sources) (path : List ℕ) (kind : Option Kind) → (is_some made && not (is_empty path)) ≡ false
     → no_ruling ≡ ruling_of given.options (evidence given made s) path kind
 unfolding evidence
 ruling-none given made s path kind off = rw off refl
@@ -101,12 +101,12 @@ ruled-if : (ruled : Bool) (r : Ruling) → (ruled ≡ false → r ≡ no_ruling)
 ruled-if true r e = refl
 ruled-if false r e = e refl
 
-unruled-in : (made : Option Made) (s : Sources) (path : List ℕ) (is_dir : Option Bool) → is_some made ≡ false → ruling_in made s path is_dir ≡ no_ruling
+unruled-in : (made : Option StackSetup) (s : Sources) (path : List ℕ) (is_dir : Option Bool) → is_some made ≡ false → ruling_in made s path is_dir ≡ no_ruling
 unfolding ruling_in
 unruled-in None s path is_dir e = refl
 unruled-in (Some made) s path is_dir e = absurd (cc e)
 
-pub dot_git-asked : (o : Chosen) (given : Setting) (made : Option Made) (s : Sources) (path : List ℕ) (known : Option Kind) (ruling : Ruling) (d : Option Bool)
+pub dot_git-asked : (o : Chosen) (given : Setting) (made : Option StackSetup) (s : Sources) (path : List ℕ) (known : Option Kind) (ruling : Ruling) (d : Option Bool)
     → is_some o.for_deletion ≡ true → d ≡ is_dir known → ruling ≡ ruling_in made s path d
     → class_dot_git o (evidence given made s) path known ruling
     ≡ class_dot_git o (evidence given made s) path known (dot_git_ruling o (evidence given made s) path known)
@@ -115,12 +115,12 @@ dot_git-asked o given made s path known ruling d on d_is is =
     ap (class_dot_git o (evidence given made s) path known)
     (is ∙ ap (ruling_in made s path) d_is ∙ ruled-if (is_some made) (ruling_in made s path (is_dir known)) (unruled-in made s path (is_dir known)) ∙ rw on refl)
 
-unread-in : (made : Option Made) (s : Sources) (path : List ℕ) → is_some made ≡ false → is_unread_in made s path ≡ false
+unread-in : (made : Option StackSetup) (s : Sources) (path : List ℕ) → is_some made ≡ false → is_unread_in made s path ≡ false
 unfolding is_unread_in
 unread-in None s path e = refl
 unread-in (Some made) s path e = absurd (cc e)
 
-pub dot_git-read : (o : Chosen) (given : Setting) (made : Option Made) (s : Sources) (path : List ℕ) → is_unread_in made s path ≡ false
+pub dot_git-read : (o : Chosen) (given : Setting) (made : Option StackSetup) (s : Sources) (path : List ℕ) → is_unread_in made s path ≡ false
     → ((is_some o.for_deletion && (evidence given made s).is_ruled) && (evidence given made s).is_unread path) ≡ false
 unfolding evidence
 dot_git-read o given made s path read = go (is_some o.for_deletion && is_some made)
@@ -130,7 +130,7 @@ dot_git-read o given made s path read = go (is_some o.for_deletion && is_some ma
     go false = refl
 
 -- a refusal comes only where rules are given
-pub dot_git-asks : (o : Chosen) (given : Setting) (made : Option Made) (s : Sources) → is_some o.for_deletion ≡ true → is_some made ≡ true
+pub dot_git-asks : (o : Chosen) (given : Setting) (made : Option StackSetup) (s : Sources) → is_some o.for_deletion ≡ true → is_some made ≡ true
     → (is_some o.for_deletion && (evidence given made s).is_ruled) ≡ true
 unfolding evidence
 dot_git-asks o given made s on some = rw (on, some) refl

@@ -9,7 +9,7 @@ use Rattle.dir_classify.specs.declared.entry.Status.TheVariants.{Pruned, Tracked
 use Rattle.dir_classify.specs.declared.excludes.Ruling.{Ruling}
 use Rattle.dir_classify.specs.declared.index.InIndex.{InIndex}
 use Rattle.dir_classify.specs.Chosen.{Chosen}
-use Rattle.dir_classify.specs.Class.{class_free, class_in_index, class_seen, finds_in_ignored, indexed_kind, is_idle, is_indexed, is_worktree, may_have_sought, may_seek_with, ruling_of, seeks_by_rules, seeks_indexed, seeks_of_kind, upgraded}
+use Rattle.dir_classify.specs.Class.{class_not_ignored, class_in_index, class_of_ignored, finds_in_ignored, indexed_kind, is_idle, index_agrees_with_disk, is_worktree, may_have_sought, may_seek_with, ruling_of, seeks_by_rules, seeks_indexed, seeks_of_kind, upgraded}
 use Rattle.dir_classify.specs.Evidence.{Evidence, GitAt}
 use Rattle.dir_classify.specs.Kinds.{holds_names, is_directory, is_repository}
 
@@ -29,11 +29,11 @@ either-off false true e = absurd (cc e)
 
 -- ---- by the evidence
 
-pub idle-indexed-sought : (o : Chosen) (ev : Evidence) (path : List ℕ) (kind : Option Kind) → is_worktree o path ≡ false → is_indexed (ev.in_index path) kind ≡ true
+pub idle-indexed-sought : (o : Chosen) (ev : Evidence) (path : List ℕ) (kind : Option Kind) → is_worktree o path ≡ false → index_agrees_with_disk (ev.in_index path) kind ≡ true
     → seeks_of_kind o ev path kind ≡ false → is_idle o (seeks_indexed (ev.in_index path) kind) ≡ true
 idle-indexed-sought o ev path kind none is e = not-false (is_idle o (seeks_indexed (ev.in_index path) kind)) (rw (none, is) at e)
 
-pub idle-unindexed-sought : (o : Chosen) (ev : Evidence) (path : List ℕ) (kind : Option Kind) (ruling : Ruling) → is_worktree o path ≡ false → is_indexed (ev.in_index path) kind ≡ false
+pub idle-unindexed-sought : (o : Chosen) (ev : Evidence) (path : List ℕ) (kind : Option Kind) (ruling : Ruling) → is_worktree o path ≡ false → index_agrees_with_disk (ev.in_index path) kind ≡ false
     → ruling ≡ ruling_of o ev path kind → seeks_of_kind o ev path kind ≡ false → is_idle o (seeks_by_rules o kind ruling.kind) ≡ true
 idle-unindexed-sought o ev path kind ruling none not_indexed is e =
     ap (λ (r : Ruling). is_idle o (seeks_by_rules o kind r.kind)) is
@@ -47,12 +47,12 @@ still-holds kind seen is (inl same) = ap holds_names same ∙ is
 still-holds kind seen is (inr repository) = ap holds_names repository
 
 pub sought-directory : (o : Chosen) (entry : InIndex) (kind seen : Option Kind) (found : Option PathspecMatch) → holds_names kind ≡ true → (seen ≡ kind) ⊎ (seen ≡ Some Repository)
-    → may_have_sought o (class_free Untracked entry seen found) ≡ false → is_idle o true ≡ true
+    → may_have_sought o (class_not_ignored Untracked entry seen found) ≡ false → is_idle o true ≡ true
 sought-directory o entry kind seen found is either e =
     either-off o.recurse_repositories true (ap (λ b. not o.recurse_repositories && b) (sym (still-holds kind seen is either)) ∙ e)
 
 pub sought-ignored : (o : Chosen) (path : List ℕ) (excluded : IgnoredAs) (entry : InIndex) (found : Option PathspecMatch) (seen : Option Kind)
-    → may_have_sought o (class_seen o path excluded entry found seen) ≡ false → is_idle o (finds_in_ignored o) ≡ true
+    → may_have_sought o (class_of_ignored o path excluded entry found seen) ≡ false → is_idle o (finds_in_ignored o) ≡ true
 sought-ignored o path excluded entry found seen e = go o.recurse_repositories (finds_in_ignored o) e
   where
     go : (a b : Bool) → (not a && (b && true)) ≡ false → (a || not b) ≡ true

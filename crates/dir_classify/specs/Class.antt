@@ -68,19 +68,19 @@ settled_kind ev path known on_disk = option_or (ev.in_index path).up_to_date (op
 
 -- left out by a sparse checkout, or where index and disk agree on whether the path holds names; nothing in both is
 -- agreement too
-abbrev pub is_indexed : InIndex → Option Kind → Bool
-is_indexed entry kind = is_some entry.sparse || answers_alike (is_dir entry.kind) (is_dir kind)
+abbrev pub index_agrees_with_disk : InIndex → Option Kind → Bool
+index_agrees_with_disk entry kind = is_some entry.sparse || answers_alike (is_dir entry.kind) (is_dir kind)
 
 -- as what the rules are asked about a path: a link may count as what it leads to
 abbrev pub ruled_by : Chosen → Option Kind → Option Kind → Option Bool
 ruled_by o kind followed = if o.symlinks_to_directories_are_ignored_like_directories && is_symlink kind then is_dir followed else is_dir kind
 
-abbrev pub ruled_as : Chosen → Evidence → List ℕ → Option Kind → Option Bool
-ruled_as o ev path kind = ruled_by o kind (ev.followed path)
+abbrev pub is_dir_for_rules : Chosen → Evidence → List ℕ → Option Kind → Option Bool
+is_dir_for_rules o ev path kind = ruled_by o kind (ev.followed path)
 
 -- what the rules say of a path; none are asked for the worktree root
 abbrev pub ruling_of : Chosen → Evidence → List ℕ → Option Kind → Ruling
-ruling_of o ev path kind = if ev.is_ruled && not (is_empty path) then ev.ruling path (ruled_as o ev path kind) else no_ruling
+ruling_of o ev path kind = if ev.is_ruled && not (is_empty path) then ev.ruling path (is_dir_for_rules o ev path kind) else no_ruling
 
 -- ---- the cases
 
@@ -162,24 +162,24 @@ abbrev pub ignored_match : Chosen → List ℕ → Option Kind → Option Pathsp
 ignored_match o path kind found = if is_some o.emit_ignored && is_directory kind && is_above_wanted o path found then Some Prefix else found
 
 -- the class with the kind that it is seen to have
-abbrev pub class_seen : Chosen → List ℕ → IgnoredAs → InIndex → Option PathspecMatch → Option Kind → Outcome
-class_seen o path excluded entry found seen = class_excluded excluded entry seen (ignored_match o path seen found)
+abbrev pub class_of_ignored : Chosen → List ℕ → IgnoredAs → InIndex → Option PathspecMatch → Option Kind → Outcome
+class_of_ignored o path excluded entry found seen = class_excluded excluded entry seen (ignored_match o path seen found)
 
 abbrev pub class_ignored : Chosen → Evidence → List ℕ → Option Kind → IgnoredAs → Outcome
 class_ignored o ev path kind excluded =
-    class_seen o path excluded (ev.in_index path) (match_of ev path kind) (ignored_kind o kind (ev.repository_at path) (ev.repository_in path))
+    class_of_ignored o path excluded (ev.in_index path) (match_of ev path kind) (ignored_kind o kind (ev.repository_at path) (ev.repository_in path))
 
 -- neither the index nor the rules have the path
-abbrev pub class_free : Status → InIndex → Option Kind → Option PathspecMatch → Outcome
-class_free status entry kind found = record (class_of_status status) { disk_kind = kind; index_kind = entry.kind; pathspec_match = found }
+abbrev pub class_not_ignored : Status → InIndex → Option Kind → Option PathspecMatch → Outcome
+class_not_ignored status entry kind found = record (class_of_status status) { disk_kind = kind; index_kind = entry.kind; pathspec_match = found }
 
 -- and looked at
 abbrev pub class_directory : Chosen → Evidence → List ℕ → Option Kind → Outcome
-class_directory o ev path kind = class_free Untracked (ev.in_index path) (upgrade o ev kind path o.classify_untracked_bare_repositories) (match_of ev path kind)
+class_directory o ev path kind = class_not_ignored Untracked (ev.in_index path) (upgrade o ev kind path o.classify_untracked_bare_repositories) (match_of ev path kind)
 
 -- anything else is untracked where a spec matches it, and pruned where none does
 abbrev pub class_other : Evidence → List ℕ → Option Kind → Outcome
-class_other ev path kind = class_free (if is_none (match_of ev path kind) then Pruned else Untracked) (ev.in_index path) kind (match_of ev path kind)
+class_other ev path kind = class_not_ignored (if is_none (match_of ev path kind) then Pruned else Untracked) (ev.in_index path) kind (match_of ev path kind)
 
 -- the index does not have the path: by what the rules say
 abbrev pub class_by_rules : Chosen → Evidence → List ℕ → Option Kind → Option IgnoredAs → Outcome
@@ -193,7 +193,7 @@ class_unindexed o ev path kind ruling = record (class_by_rules o ev path kind ru
 abbrev pub class_of_kind : Chosen → Evidence → List ℕ → Option Kind → Outcome
 class_of_kind o ev path kind =
     if is_worktree o path then class_worktree ev path kind
-    else if is_indexed (ev.in_index path) kind then class_indexed o ev path kind
+    else if index_agrees_with_disk (ev.in_index path) kind then class_indexed o ev path kind
     else class_unindexed o ev path kind (ruling_of o ev path kind)
 
 -- what the rules say of a path named `.git`, which are asked in deletion alone
@@ -212,7 +212,7 @@ class o ev path known on_disk =
 
 -- with its kind settled: it is not of the worktree set, the index does not have it, and it is not the worktree root
 abbrev pub asks_of_kind : Chosen → Evidence → List ℕ → Option Kind → Bool
-asks_of_kind o ev path kind = not (is_worktree o path) && not (is_indexed (ev.in_index path) kind) && ev.is_ruled && not (is_empty path)
+asks_of_kind o ev path kind = not (is_worktree o path) && not (index_agrees_with_disk (ev.in_index path) kind) && ev.is_ruled && not (is_empty path)
 
 -- The class of a path asks the ignore rules.
 unfoldable pub asks : Chosen → Evidence → List ℕ → Option Kind → Option Kind → Bool
@@ -235,7 +235,7 @@ is_idle o seeks = o.recurse_repositories || not seeks
 abbrev pub seeks_of_kind : Chosen → Evidence → List ℕ → Option Kind → Bool
 seeks_of_kind o ev path kind =
     if is_worktree o path then false
-    else if is_indexed (ev.in_index path) kind then not (is_idle o (seeks_indexed (ev.in_index path) kind))
+    else if index_agrees_with_disk (ev.in_index path) kind then not (is_idle o (seeks_indexed (ev.in_index path) kind))
     else not (is_idle o (seeks_by_rules o kind (ruling_of o ev path kind).kind))
 
 -- The class of a path looks for a repository there.
@@ -261,7 +261,7 @@ may_have_sought o c = not o.recurse_repositories && may_seek_with o c c.status
 abbrev pub is_idle_of_kind : Chosen → Evidence → List ℕ → Option Kind → Bool
 is_idle_of_kind o ev path kind =
     if is_worktree o path then true
-    else if is_indexed (ev.in_index path) kind then is_idle o (seeks_indexed (ev.in_index path) kind)
+    else if index_agrees_with_disk (ev.in_index path) kind then is_idle o (seeks_indexed (ev.in_index path) kind)
     else not (ev.is_ruled && not (is_empty path)) && is_idle o (seeks_by_rules o kind None)
 
 -- the kind is settled without the disk: the disk may not be asked, an entry is up to date, or the caller knows the kind

@@ -15,7 +15,7 @@ use Rattle.worktree_fs.specs.Answers.{kind_of}
 use Rattle.worktree_fs.specs.Changes.{real_path}
 use Rattle.worktree_fs.specs.Paths.{spelled, fronts, all_but_last, full_path}
 use Rattle.worktree_fs.specs.Repository.{is_git, is_path}
-use Rattle.worktree_stack.specs.Setup.{Made, excluded_kind}
+use Rattle.worktree_stack.specs.Setup.{StackSetup, excluded_kind}
 use Rattle.worktree_stack.specs.Excludes.{Decision, exclude, rule_of, origin_of}
 use Rattle.worktree_stack.specs.Reading.{Sources, reading, is_read, rulebook}
 use Rattle.dir_classify.specs.declared.context.Context.{Context}
@@ -36,14 +36,14 @@ use Rattle.dir_classify.specs.Kinds.{from_entry, from_node}
 abbrev pub not_indexed : InIndex
 not_indexed = record { up_to_date = None; kind = None; sparse = None }
 
-abbrev pub in_words : IndexKinds → InIndex
-in_words k = record { up_to_date = option_map from_entry k.up_to_date; kind = option_map from_entry k.kind; sparse = if k.is_left_out then Some TrackedExcluded else None }
+abbrev pub from_index_kinds : IndexKinds → InIndex
+from_index_kinds k = record { up_to_date = option_map from_entry k.up_to_date; kind = option_map from_entry k.kind; sparse = if k.is_left_out then Some TrackedExcluded else None }
 
 -- What an index says of a path below the worktree root, with regard to the case of letters or without; it says nothing of the
 -- root itself.
 unfoldable pub in_index : Bool → List IndexEntry → List ℕ → InIndex
 in_index folds entries [] = not_indexed
-in_index folds entries (b ∷ path) = in_words (if folds then kinds_icase entries (b ∷ path) else kinds entries (b ∷ path))
+in_index folds entries (b ∷ path) = from_index_kinds (if folds then kinds_icase entries (b ∷ path) else kinds entries (b ∷ path))
 
 -- a look-up is one of this index, where it is given
 abbrev pub IsLookupIf : List IndexEntry → Option (List ℕ) → Type 0
@@ -51,7 +51,7 @@ IsLookupIf entries None = Unit {0}
 IsLookupIf entries (Some numbers) = IsLookupOf entries numbers
 
 -- a path as a name in a directory, with the entries of an index beneath that
-pub record IsSeenIn (index : List IndexEntry) (path name : List ℕ) (under : EntryView) : Type 0 where
+pub record IsNameInIndexDirectory (index : List IndexEntry) (path name : List ℕ) (under : EntryView) : Type 0 where
   pub directory : List ℕ
   pub beneath : IsBeneath index directory under
   pub path_is : path ≡ joined directory name
@@ -63,12 +63,12 @@ abbrev pub ruling_by : Option Decision → Ruling
 ruling_by decision = record { kind = excluded_kind (rule_of decision); origin = origin_of decision }
 
 -- what ignore rules say of a path over a tree and a store, by what the rules were made with; nothing where none are given
-unfoldable pub ruling_in : Option Made → Sources → List ℕ → Option Bool → Ruling
+unfoldable pub ruling_in : Option StackSetup → Sources → List ℕ → Option Bool → Ruling
 ruling_in None s path is_dir = no_ruling
 ruling_in (Some made) s path is_dir = ruling_by (exclude (rulebook made s) (components path) is_dir)
 
 -- the rules of some directory above a path are refused: of the worktree root, or of one between it and the path
-unfoldable pub is_unread_in : Option Made → Sources → List ℕ → Bool
+unfoldable pub is_unread_in : Option StackSetup → Sources → List ℕ → Bool
 is_unread_in None s path = false
 is_unread_in (Some made) s path = not (list_all (λ directory. is_read (reading made s (spelled directory))) (fronts (all_but_last (components path))))
 
@@ -149,14 +149,14 @@ abbrev pub on_disk : Setting → Names → List ℕ → Bool → Option Kind
 on_disk given t path ask = if ask then kind_at t (full_path given.root path) false else None
 
 -- what the index says of a path there
-abbrev pub indexed_as : Setting → List ℕ → InIndex
-indexed_as given path = in_index (given.options.ignore_case && given.has_lookup) given.index path
+abbrev pub look_up_in_index : Setting → List ℕ → InIndex
+look_up_in_index given path = in_index (given.options.ignore_case && given.has_lookup) given.index path
 
 -- The evidence on paths, over the ignore rules, a tree and a store.
-unfoldable pub evidence : Setting → Option Made → Sources → Evidence
+unfoldable pub evidence : Setting → Option StackSetup → Sources → Evidence
 evidence given made s =
     record {
-      in_index = indexed_as given;
+      in_index = look_up_in_index given;
       can_match = given.can_match;
       matched = given.matched;
       covers = given.covers;

@@ -6,7 +6,7 @@ use Rattle.worktree_fs.specs.PathStack.{lookup_calls}
 use Rattle.worktree_fs.specs.Tree.{Names}
 use Rattle.worktree_stack.specs.declared.error.AtPathError.{AtPathError}
 use Rattle.worktree_stack.specs.declared.error.AtPathError.TheVariants as inner
-use Rattle.worktree_stack.specs.Setup.{Made}
+use Rattle.worktree_stack.specs.Setup.{StackSetup}
 use Rattle.worktree_stack.specs.Reading.{Sources}
 use Rattle.worktree_stack.specs.Refused as lookups
 use Rattle.worktree_stack.specs.Stacked.{Stacked}
@@ -27,12 +27,12 @@ access_error (inner.RulesFile path why) = errors.ExcludesAccess (inner.RulesFile
 access_error (inner.Blob id why) = errors.ExcludesAccess (inner.Blob id why)
 
 -- a lookup of this path was refused, not for want of memory: it names the rules file of a directory above the path, or its blob
-pub record IsAccess (made : Made) (path : List ℕ) (e : AtPathError) : Type 0 where
+pub record IsAccess (made : StackSetup) (path : List ℕ) (e : AtPathError) : Type 0 where
   pub some_memory : e ≢ inner.OutOfMemory
   pub on_way : lookups.IsOnWayTo made (components path) e
 
 -- what a refusal says of the path whose class was asked
-abbrev pub IsAbout : Option Made → List ℕ → Error → Type 0
+abbrev pub IsAbout : Option StackSetup → List ℕ → Error → Type 0
 IsAbout made path errors.Interrupted = ⊥
 IsAbout made path (errors.WorktreeRootIsFile root) = ⊥
 IsAbout made path (errors.NormalizeRoot root) = ⊥
@@ -45,7 +45,7 @@ IsAbout made path (errors.TooDeep directory) = ⊥
 IsAbout made path errors.OutOfMemory = Unit {0}
 
 -- over a told tree and a told store: that file or blob is refused for what it is
-abbrev pub Refuses : Sources → Option Made → List ℕ → Error → Type 0
+abbrev pub Refuses : Sources → Option StackSetup → List ℕ → Error → Type 0
 Refuses s made path errors.Interrupted = ⊥
 Refuses s made path (errors.WorktreeRootIsFile root) = ⊥
 Refuses s made path (errors.NormalizeRoot root) = ⊥

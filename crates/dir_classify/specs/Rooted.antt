@@ -13,7 +13,7 @@ use Rattle.worktree_fs.specs.Tree.{Names}
 use Rattle.worktree_stack.specs.declared.error.AtPathError.{AtPathError}
 use Rattle.worktree_stack.specs.Lookups.{staying, refused_one}
 use Rattle.worktree_stack.specs.Reading.{Sources}
-use Rattle.worktree_stack.specs.Setup.{Made}
+use Rattle.worktree_stack.specs.Setup.{StackSetup}
 use Rattle.worktree_stack.specs.Stacked.{Stacked, pushed}
 use Rattle.dir_classify.specs.declared.classify.RootOutcome.{RootOutcome}
 use Rattle.dir_classify.specs.declared.entry.Kind.{Kind}
@@ -32,7 +32,7 @@ abbrev pub reached_by : RootOutcome → Bool → Reached
 reached_by root unread = record { path = root.path; class = root.outcome; in_repository = root.worktree_root_is_repository; whole = root.whole; is_unread = unread }
 
 -- where the way through the components of a traversal root ends, over a tree and a store
-abbrev pub way_to : Setting → Option Made → Sources → List ℕ → Reached
+abbrev pub way_to : Setting → Option StackSetup → Sources → List ℕ → Reached
 way_to given made s root = reached given.options (evidence given made s) (λ path. on_disk given s.tree path true) (components root)
 
 -- a path on the way: its components are the first ones of the traversal root, and one slash parts each two of them
@@ -98,7 +98,7 @@ pub record StandsAbove (path : List ℕ) (old new : Option Stacked) : Type 0 whe
   pub looked_up : StandsAt new last
 
 -- The rules of a directory above a path were refused, and for what they are.
-abbrev pub IsRefusedOf : Sources → Option Made → List ℕ → Error → Type 0
+abbrev pub IsRefusedOf : Sources → Option StackSetup → List ℕ → Error → Type 0
 IsRefusedOf s made path e = IsAbout made path e × Refuses s made path e
 
 -- A lookup on the way stopped at a directory whose rules were refused so. It began as the rules were `before`: as they were at first, or

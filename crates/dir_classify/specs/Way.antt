@@ -22,8 +22,8 @@ pub record Reached : Type 0 where
   pub is_unread : Bool
 
 -- the class of a path on the way, by the kind of each path on disk: that is known, and the disk is not asked
-abbrev pub way_class : Chosen → Evidence → (List ℕ → Option Kind) → List ℕ → Outcome
-way_class o ev kind_at path = class o ev path (kind_at path) None
+abbrev pub class_of_path_on_way : Chosen → Evidence → (List ℕ → Option Kind) → List ℕ → Outcome
+class_of_path_on_way o ev kind_at path = class o ev path (kind_at path) None
 
 abbrev pub way_unread : Chosen → Evidence → (List ℕ → Option Kind) → List ℕ → Bool
 way_unread o ev kind_at path = asks_unread o ev path (kind_at path) None
@@ -31,7 +31,7 @@ way_unread o ev kind_at path = asks_unread o ev path (kind_at path) None
 -- one path further
 abbrev pub reached_at : Chosen → Evidence → (List ℕ → Option Kind) → Bool → Bool → List ℕ → Reached
 reached_at o ev kind_at in_repository unread path =
-    record { path = path; class = way_class o ev kind_at path; in_repository = in_repository; whole = true; is_unread = unread || way_unread o ev kind_at path }
+    record { path = path; class = class_of_path_on_way o ev kind_at path; in_repository = in_repository; whole = true; is_unread = unread || way_unread o ev kind_at path }
 
 -- where the way stands, with the rules of all paths on it read
 abbrev pub reached_so : List ℕ → Outcome → Bool → Bool → Reached
@@ -43,20 +43,20 @@ goes_on o path c in_repository = is_empty path || enters o c in_repository
 
 -- On from a path through the components left, as long as the path reached is one that is entered. Of the worktree root that is not
 -- asked.
-abbrev pub onward : Chosen → Evidence → (List ℕ → Option Kind) → Reached → List (List ℕ) → Reached
-onward o ev kind_at r [] = r
-onward o ev kind_at r (name ∷ names) =
+abbrev pub reached_through_components : Chosen → Evidence → (List ℕ → Option Kind) → Reached → List (List ℕ) → Reached
+reached_through_components o ev kind_at r [] = r
+reached_through_components o ev kind_at r (name ∷ names) =
     if goes_on o r.path r.class r.in_repository
-    then onward o ev kind_at (reached_at o ev kind_at r.in_repository r.is_unread (joined r.path name)) names
+    then reached_through_components o ev kind_at (reached_at o ev kind_at r.in_repository r.is_unread (joined r.path name)) names
     else record r { whole = false }
 
 -- the worktree root
 abbrev pub reached_root : Chosen → Evidence → (List ℕ → Option Kind) → Reached
-reached_root o ev kind_at = reached_at o ev kind_at (is_repository (way_class o ev kind_at []).disk_kind) false []
+reached_root o ev kind_at = reached_at o ev kind_at (is_repository (class_of_path_on_way o ev kind_at []).disk_kind) false []
 
 -- Where the way from the worktree root through some components ends.
 unfoldable pub reached : Chosen → Evidence → (List ℕ → Option Kind) → List (List ℕ) → Reached
-reached o ev kind_at names = onward o ev kind_at (reached_root o ev kind_at) names
+reached o ev kind_at names = reached_through_components o ev kind_at (reached_root o ev kind_at) names
 
 -- a path on the way counts where its class asks the rules by its kind
 unfoldable pub asking_at : Chosen → Evidence → (List ℕ → Option Kind) → List ℕ → ℕ

@@ -1,9 +1,9 @@
 //! The cases of a class, each by what is known of the path.
 ghost use Rattle.std.specs.Prelude.{◌≡◌, Option, Some, None, true, if◌then◌else◌, is_none};
 ghost use Rattle.worktree_stack.specs.Reading.{Sources};
-ghost use Rattle.worktree_stack.specs.Setup.{Made};
+ghost use Rattle.worktree_stack.specs.Setup.{StackSetup};
 ghost use Rattle.dir_classify.specs.Chosen.{chosen, finds_bare_repositories};
-ghost use Rattle.dir_classify.specs.Class.{class_dot_git, class_unmatched, class_worktree, dot_git_kind, ignored_match, is_dot_git, is_indexed, is_nested, match_of, class_of_status, status_or, class_free, class_in_index, class_seen, finds_in_ignored, seeks_indexed, is_above_wanted};
+ghost use Rattle.dir_classify.specs.Class.{class_dot_git, class_unmatched, class_worktree, dot_git_kind, ignored_match, is_dot_git, index_agrees_with_disk, is_nested, match_of, class_of_status, status_or, class_not_ignored, class_in_index, class_of_ignored, finds_in_ignored, seeks_indexed, is_above_wanted};
 ghost use Rattle.dir_classify.specs.Layers.{setting_of, evidence};
 
 use crate::classify::Outcome;
@@ -51,8 +51,8 @@ fn is_nested(path: &[u8]) -> bool
 ///
 /// See docs/DIFFERENCES.md#excluded-replaced-file.
 /// See docs/DIFFERENCES.md#replaced-file.
-pub(crate) fn is_indexed(entry: InIndex, kind: Option<Kind>) -> bool
-    ensures { result ≡ is_indexed entry kind }
+pub(crate) fn index_agrees_with_disk(entry: InIndex, kind: Option<Kind>) -> bool
+    ensures { result ≡ index_agrees_with_disk entry kind }
 {
     if entry.sparse.is_some() {
         return true;
@@ -71,7 +71,7 @@ pub(crate) fn match_of<M: Matcher>(
     path: &[u8],
     kind: Option<Kind>,
 ) -> Option<PathspecMatch>
-    ensures { (made : Option Made) (s : Sources)
+    ensures { (made : Option StackSetup) (s : Sources)
         → result ≡ match_of (evidence (setting_of M.Matcher shared.now) made s) path.now kind }
 {
     match shared
@@ -128,7 +128,7 @@ pub(crate) fn class_dot_git<M: Matcher>(
     known: Option<Kind>,
     ruling: Ruling,
 ) -> Outcome
-    ensures { (made : Option Made) (s : Sources) → result ≡ class_dot_git
+    ensures { (made : Option StackSetup) (s : Sources) → result ≡ class_dot_git
         (chosen shared.now.options) (evidence (setting_of M.Matcher shared.now) made s) path.now
         known ruling }
 {
@@ -163,7 +163,7 @@ pub(crate) fn class_worktree<M: Matcher>(
     path: &[u8],
     kind: Option<Kind>,
 ) -> Outcome
-    ensures { (made : Option Made) (s : Sources) → result ≡ class_worktree
+    ensures { (made : Option StackSetup) (s : Sources) → result ≡ class_worktree
         (evidence (setting_of M.Matcher shared.now) made s) path.now kind }
 {
     Outcome {
@@ -198,7 +198,7 @@ pub(crate) fn class_in_index(
 }
 
 /// An ignored path, with the kind that it is seen to have.
-pub(crate) fn class_seen(
+pub(crate) fn class_of_ignored(
     options: &Options<'_>,
     path: &[u8],
     excluded: ignore::Kind,
@@ -206,7 +206,7 @@ pub(crate) fn class_seen(
     found: Option<PathspecMatch>,
     seen: Option<Kind>,
 ) -> Outcome
-    ensures { result ≡ class_seen (chosen options.now) path.now excluded entry found seen }
+    ensures { result ≡ class_of_ignored (chosen options.now) path.now excluded entry found seen }
 {
     Outcome {
         disk_kind: seen,
@@ -216,13 +216,13 @@ pub(crate) fn class_seen(
     }
 }
 
-pub(crate) fn class_free(
+pub(crate) fn class_not_ignored(
     status: Status,
     entry: InIndex,
     kind: Option<Kind>,
     found: Option<PathspecMatch>,
 ) -> Outcome
-    ensures { result ≡ class_free status entry kind found }
+    ensures { result ≡ class_not_ignored status entry kind found }
 {
     Outcome {
         disk_kind: kind,
@@ -233,7 +233,7 @@ pub(crate) fn class_free(
 }
 
 /// The status of what is no directory: pruned where no spec matches it.
-pub(crate) fn status_without(found: Option<PathspecMatch>) -> Status
+pub(crate) fn status_of_non_directory(found: Option<PathspecMatch>) -> Status
     ensures { result ≡ (if is_none found then Status.Pruned else Status.Untracked) }
 {
     match found {
@@ -244,7 +244,7 @@ pub(crate) fn status_without(found: Option<PathspecMatch>) -> Status
 
 /// Whether untracked directories are tested for being bare repositories.
 #[tactic(auto, unfolding(crate::specs::Chosen::chosen))]
-pub(crate) fn is_hard(options: &Options<'_>) -> bool
+pub(crate) fn finds_bare_in_untracked(options: &Options<'_>) -> bool
     ensures { result ≡ (chosen options.now).classify_untracked_bare_repositories }
 {
     options.classify_untracked_bare_repositories

@@ -18,7 +18,7 @@ use crate::error::Error;
 use crate::options::Options;
 use crate::paths::full_path;
 use crate::steps;
-pub use crate::steps::at;
+pub use crate::steps::classify_in_directory;
 use gitbase_core::{Find, PathText};
 use glob_rules::ignore::Origin;
 use glob_rules::pathspec::Matcher;
@@ -155,7 +155,7 @@ pub fn path<W: Worktree, F: Find, I: Interrupt, M: Matcher>(
     };
     let full = full_path(alloc, worktree_root, rela_path)?;
     let all = shared.index.beneath(b"");
-    steps::at(
+    steps::classify_in_directory(
         alloc,
         full.as_bytes(),
         rela_path,
@@ -252,16 +252,21 @@ pub fn root_at<W: Worktree, F: Find, M: Matcher>(
     let mut rest = worktree_relative_root;
     while let Some(next) = next_component(rest) {
         if !goes_on(shared, path.as_bytes(), &class, in_repository) {
-            return Ok(reached(path, class, in_repository, false));
+            return Ok(new_root_outcome(path, class, in_repository, false));
         }
         path.push_component(alloc, next.name)?;
         class = class_on_way(alloc, path.as_bytes(), shared, excludes, worktree, objects)?;
         rest = next.rest;
     }
-    Ok(reached(path, class, in_repository, true))
+    Ok(new_root_outcome(path, class, in_repository, true))
 }
 
-fn reached(path: PathText, outcome: Outcome, in_repository: bool, whole: bool) -> RootOutcome
+fn new_root_outcome(
+    path: PathText,
+    outcome: Outcome,
+    in_repository: bool,
+    whole: bool,
+) -> RootOutcome
     ensures { reached_by result false ≡ reached_so path outcome in_repository whole }
 {
     RootOutcome {
@@ -315,7 +320,7 @@ fn class_on_way<W: Worktree, F: Find, M: Matcher>(
     let full = full_path(alloc, shared.worktree_root, rela_path)?;
     let kind = steps::kind_on_disk(alloc, worktree, full.as_bytes())?;
     let all = shared.index.beneath(b"");
-    let class = steps::at(
+    let class = steps::classify_in_directory(
         alloc,
         full.as_bytes(),
         rela_path,

@@ -95,13 +95,13 @@ pub(crate) fn ruling_of<W: Worktree, F: Find>(
         → AreUntouched worktree.old worktree.new objects.old objects.new excludes.old excludes.new }
 {
     match excludes {
-        Some(stack) => ruling_by(alloc, rela_path, is_dir, stack, worktree, objects),
+        Some(stack) => ruling_from_stack(alloc, rela_path, is_dir, stack, worktree, objects),
         None => Ok(Ruling::NONE),
     }
 }
 
 /// The same by rules that are given.
-fn ruling_by<W: Worktree, F: Find>(
+fn ruling_from_stack<W: Worktree, F: Find>(
     alloc: Global,
     rela_path: &[u8],
     is_dir: Option<bool>,

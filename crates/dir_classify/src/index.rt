@@ -1,6 +1,6 @@
 //! What the index says of a path, in the words of classes.
 ghost use Rattle.std.specs.Prelude.{◌≡◌, ◌&&◌, is_some};
-ghost use Rattle.dir_classify.specs.Layers.{in_index, in_words, not_indexed, IsLookupIf, IsSeenIn};
+ghost use Rattle.dir_classify.specs.Layers.{in_index, from_index_kinds, not_indexed, IsLookupIf, IsNameInIndexDirectory};
 
 use crate::entry::{Kind, Property};
 use gitbase_core::{AccelerateLookup, Beneath, IndexKinds, State};
@@ -37,7 +37,7 @@ pub(crate) fn in_index(
     beneath: &Beneath<'_>,
 ) -> InIndex
     requires lookup { IsLookupIf index.now lookup.now }
-    requires seen { IsSeenIn index.now path.now name.now beneath.now }
+    requires seen { IsNameInIndexDirectory index.now path.now name.now beneath.now }
     ensures { result ≡ in_index (ignore_case && is_some lookup.now) index.now path.now }
 {
     if path.is_empty() {
@@ -46,16 +46,16 @@ pub(crate) fn in_index(
     match lookup {
         Some(lookup) => {
             if ignore_case {
-                return in_words(index.kinds_icase(path, lookup));
+                return from_index_kinds(index.kinds_icase(path, lookup));
             }
-            in_words(beneath.kinds(name))
+            from_index_kinds(beneath.kinds(name))
         }
-        None => in_words(beneath.kinds(name)),
+        None => from_index_kinds(beneath.kinds(name)),
     }
 }
 
-fn in_words(kinds: IndexKinds) -> InIndex
-    ensures { result ≡ in_words kinds }
+fn from_index_kinds(kinds: IndexKinds) -> InIndex
+    ensures { result ≡ from_index_kinds kinds }
 {
     let sparse = if kinds.is_left_out {
         Some(Property::TrackedExcluded)

@@ -125,20 +125,20 @@ fn has_path(alloc: Global, dirs: &BTreeSet<PathText>, path: &[u8]) -> bool
         return false;
     }
     match PathText::from_bytes(alloc, path) {
-        Ok(key) => holds(dirs, &key),
-        Err(_) => is_passed(dirs, path),
+        Ok(key) => contains_by_search(dirs, &key),
+        Err(_) => contains_by_scan(dirs, path),
     }
 }
 
 /// Whether a path is one of a set, by a search.
-fn holds(dirs: &BTreeSet<PathText>, path: &PathText) -> bool
+fn contains_by_search(dirs: &BTreeSet<PathText>, path: &PathText) -> bool
     ensures { result ≡ list_any (bytes_eq path.now) dirs.now.keys }
 {
     dirs.contains(path)
 }
 
 /// Whether a path is one of a set, by passing over it.
-fn is_passed(dirs: &BTreeSet<PathText>, path: &[u8]) -> bool
+fn contains_by_scan(dirs: &BTreeSet<PathText>, path: &[u8]) -> bool
     ensures { result ≡ list_any (bytes_eq path.now) dirs.now.keys }
 {
     dirs.iter().any(|dir| path == dir.as_bytes())

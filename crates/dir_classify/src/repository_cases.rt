@@ -6,17 +6,17 @@ ghost use Rattle.worktree_fs.specs.Kept.{Asks};
 ghost use Rattle.worktree_fs.specs.Paths.{full_path};
 ghost use Rattle.worktree_fs.specs.Tree.{Names};
 ghost use Rattle.worktree_stack.specs.Reading.{Sources};
-ghost use Rattle.worktree_stack.specs.Setup.{Made};
+ghost use Rattle.worktree_stack.specs.Setup.{StackSetup};
 ghost use Rattle.dir_classify.specs.Chosen.{chosen};
-ghost use Rattle.dir_classify.specs.Class.{class_indexed, class_unindexed, match_of, upgraded, dot_git, class_ignored, class_by_rules, class_directory, class_free, class_in_index, class_seen, ignored_kind, indexed_kind, finds_in_ignored, seeks_indexed, seeks_by_rules, is_idle, may_have_sought};
+ghost use Rattle.dir_classify.specs.Class.{class_indexed, class_unindexed, match_of, upgraded, dot_git, class_ignored, class_by_rules, class_directory, class_not_ignored, class_in_index, class_of_ignored, ignored_kind, indexed_kind, finds_in_ignored, seeks_indexed, seeks_by_rules, is_idle, may_have_sought};
 ghost use Rattle.dir_classify.specs.Faults.{IsJudged, IsSeenAs};
 ghost use Rattle.dir_classify.specs.Kinds.{holds_names};
 ghost use Rattle.dir_classify.specs.Reads.{most_sought, most_upgraded};
-ghost use Rattle.dir_classify.specs.Layers.{setting_of, evidence, indexed_as, git_at};
+ghost use Rattle.dir_classify.specs.Layers.{setting_of, evidence, look_up_in_index, git_at};
 
 use crate::cases::{
-    class_free, class_in_index, class_seen, finds_bare_in_ignored, finds_in_ignored, is_hard,
-    is_submodule, match_of, status_without,
+    class_in_index, class_not_ignored, class_of_ignored, finds_bare_in_ignored,
+    finds_bare_in_untracked, finds_in_ignored, is_submodule, match_of, status_of_non_directory,
 };
 use crate::classify::Outcome;
 use crate::context::Shared;
@@ -163,12 +163,12 @@ pub(crate) fn of_indexed<W: Worktree, M: Matcher>(
     worktree: &mut W,
 ) -> Result<Outcome, OutOfMemory>
     requires full { full.now ≡ full_path shared.now.worktree_root.now rela_path.now }
-    requires entry { entry ≡ indexed_as (setting_of M.Matcher shared.now) rela_path.now }
+    requires entry { entry ≡ look_up_in_index (setting_of M.Matcher shared.now) rela_path.now }
     ensures class { (s : Sources) → W.told worktree.old ≡ Some s.tree
-        → NotIncreased (W.faults worktree.old) (W.faults worktree.new) → (made : Option Made)
+        → NotIncreased (W.faults worktree.old) (W.faults worktree.new) → (made : Option StackSetup)
         → IfOk result (λ c. c ≡ class_indexed (chosen shared.now.options)
         (evidence (setting_of M.Matcher shared.now) made s) rela_path.now kind) }
-    ensures swallowed { (s : Sources) → W.told worktree.old ≡ Some s.tree → (made : Option Made)
+    ensures swallowed { (s : Sources) → W.told worktree.old ≡ Some s.tree → (made : Option StackSetup)
         → (on_disk : Option Kind)
         → IfOk result (IsJudged (W.faults worktree.old) (W.faults worktree.new)
         (λ _ ev. class_indexed (chosen shared.now.options) ev rela_path.now kind)
@@ -181,7 +181,7 @@ pub(crate) fn of_indexed<W: Worktree, M: Matcher>(
     ensures sought { IfOk result (λ c. may_have_sought (chosen shared.now.options) c ≡ false
         → worktree.new ≡ worktree.old) }
     ensures certain { is_idle (chosen shared.now.options) (seeks_indexed entry kind) ≡ true
-        → (made : Option Made) (s : Sources) → IfOk result (λ c. c ≡ class_indexed
+        → (made : Option StackSetup) (s : Sources) → IfOk result (λ c. c ≡ class_indexed
         (chosen shared.now.options) (evidence (setting_of M.Matcher shared.now) made s)
         rela_path.now kind) }
 {
@@ -202,12 +202,12 @@ pub(crate) fn of_ignored<W: Worktree, M: Matcher>(
     worktree: &mut W,
 ) -> Result<Outcome, OutOfMemory>
     requires full { full.now ≡ full_path shared.now.worktree_root.now rela_path.now }
-    requires entry { entry ≡ indexed_as (setting_of M.Matcher shared.now) rela_path.now }
+    requires entry { entry ≡ look_up_in_index (setting_of M.Matcher shared.now) rela_path.now }
     ensures class { (s : Sources) → W.told worktree.old ≡ Some s.tree
-        → NotIncreased (W.faults worktree.old) (W.faults worktree.new) → (made : Option Made)
+        → NotIncreased (W.faults worktree.old) (W.faults worktree.new) → (made : Option StackSetup)
         → IfOk result (λ c. c ≡ class_ignored (chosen shared.now.options)
         (evidence (setting_of M.Matcher shared.now) made s) rela_path.now kind excluded) }
-    ensures swallowed { (s : Sources) → W.told worktree.old ≡ Some s.tree → (made : Option Made)
+    ensures swallowed { (s : Sources) → W.told worktree.old ≡ Some s.tree → (made : Option StackSetup)
         → (on_disk : Option Kind)
         → IfOk result (IsJudged (W.faults worktree.old) (W.faults worktree.new)
         (λ _ ev. class_ignored (chosen shared.now.options) ev rela_path.now kind excluded)
@@ -223,7 +223,7 @@ pub(crate) fn of_ignored<W: Worktree, M: Matcher>(
 {
     let found = match_of(shared, rela_path, kind);
     let disk_kind = ignored_kind(alloc, full, kind, shared, worktree)?;
-    Ok(class_seen(
+    Ok(class_of_ignored(
         &shared.options,
         rela_path,
         excluded,
@@ -244,13 +244,13 @@ pub(crate) fn of_directory<W: Worktree, M: Matcher>(
     worktree: &mut W,
 ) -> Result<Outcome, OutOfMemory>
     requires full { full.now ≡ full_path shared.now.worktree_root.now rela_path.now }
-    requires entry { entry ≡ indexed_as (setting_of M.Matcher shared.now) rela_path.now }
+    requires entry { entry ≡ look_up_in_index (setting_of M.Matcher shared.now) rela_path.now }
     requires directory { holds_names kind ≡ true }
     ensures class { (s : Sources) → W.told worktree.old ≡ Some s.tree
-        → NotIncreased (W.faults worktree.old) (W.faults worktree.new) → (made : Option Made)
+        → NotIncreased (W.faults worktree.old) (W.faults worktree.new) → (made : Option StackSetup)
         → IfOk result (λ c. c ≡ class_directory (chosen shared.now.options)
         (evidence (setting_of M.Matcher shared.now) made s) rela_path.now kind) }
-    ensures swallowed { (s : Sources) → W.told worktree.old ≡ Some s.tree → (made : Option Made)
+    ensures swallowed { (s : Sources) → W.told worktree.old ≡ Some s.tree → (made : Option StackSetup)
         → (on_disk : Option Kind)
         → IfOk result (IsJudged (W.faults worktree.old) (W.faults worktree.new)
         (λ _ ev. class_directory (chosen shared.now.options) ev rela_path.now kind)
@@ -263,18 +263,18 @@ pub(crate) fn of_directory<W: Worktree, M: Matcher>(
     ensures sought { IfOk result (λ c. may_have_sought (chosen shared.now.options) c ≡ false
         → worktree.new ≡ worktree.old) }
     ensures certain { is_idle (chosen shared.now.options) true ≡ true
-        → (made : Option Made) (s : Sources) → IfOk result (λ c. c ≡ class_directory
+        → (made : Option StackSetup) (s : Sources) → IfOk result (λ c. c ≡ class_directory
         (chosen shared.now.options) (evidence (setting_of M.Matcher shared.now) made s)
         rela_path.now kind) }
 {
     let found = match_of(shared, rela_path, kind);
-    let hard = is_hard(&shared.options);
+    let hard = finds_bare_in_untracked(&shared.options);
     let disk_kind = upgrade(alloc, full, kind, hard, shared, worktree)?;
-    Ok(class_free(Status::Untracked, entry, disk_kind, found))
+    Ok(class_not_ignored(Status::Untracked, entry, disk_kind, found))
 }
 
 /// A path that no rule excludes.
-pub(crate) fn of_free<W: Worktree, M: Matcher>(
+pub(crate) fn classify_not_ignored<W: Worktree, M: Matcher>(
     alloc: Global,
     full: &[u8],
     rela_path: &[u8],
@@ -284,12 +284,12 @@ pub(crate) fn of_free<W: Worktree, M: Matcher>(
     worktree: &mut W,
 ) -> Result<Outcome, OutOfMemory>
     requires full { full.now ≡ full_path shared.now.worktree_root.now rela_path.now }
-    requires entry { entry ≡ indexed_as (setting_of M.Matcher shared.now) rela_path.now }
+    requires entry { entry ≡ look_up_in_index (setting_of M.Matcher shared.now) rela_path.now }
     ensures class { (s : Sources) → W.told worktree.old ≡ Some s.tree
-        → NotIncreased (W.faults worktree.old) (W.faults worktree.new) → (made : Option Made)
+        → NotIncreased (W.faults worktree.old) (W.faults worktree.new) → (made : Option StackSetup)
         → IfOk result (λ c. c ≡ class_by_rules (chosen shared.now.options)
         (evidence (setting_of M.Matcher shared.now) made s) rela_path.now kind None) }
-    ensures swallowed { (s : Sources) → W.told worktree.old ≡ Some s.tree → (made : Option Made)
+    ensures swallowed { (s : Sources) → W.told worktree.old ≡ Some s.tree → (made : Option StackSetup)
         → (on_disk : Option Kind)
         → IfOk result (IsJudged (W.faults worktree.old) (W.faults worktree.new)
         (λ _ ev. class_by_rules (chosen shared.now.options) ev rela_path.now kind None)
@@ -302,7 +302,7 @@ pub(crate) fn of_free<W: Worktree, M: Matcher>(
     ensures sought { IfOk result (λ c. may_have_sought (chosen shared.now.options) c ≡ false
         → worktree.new ≡ worktree.old) }
     ensures certain { is_idle (chosen shared.now.options) (holds_names kind) ≡ true
-        → (made : Option Made) (s : Sources) → IfOk result (λ c. c ≡ class_by_rules
+        → (made : Option StackSetup) (s : Sources) → IfOk result (λ c. c ≡ class_by_rules
         (chosen shared.now.options) (evidence (setting_of M.Matcher shared.now) made s)
         rela_path.now kind None) }
 {
@@ -311,7 +311,7 @@ pub(crate) fn of_free<W: Worktree, M: Matcher>(
         return Ok(class);
     }
     let found = match_of(shared, rela_path, kind);
-    Ok(class_free(status_without(found), entry, kind, found))
+    Ok(class_not_ignored(status_of_non_directory(found), entry, kind, found))
 }
 
 /// A path that the index does not have, by what the rules say of it.
@@ -326,12 +326,12 @@ pub(crate) fn of_unindexed<W: Worktree, M: Matcher>(
     worktree: &mut W,
 ) -> Result<Outcome, OutOfMemory>
     requires full { full.now ≡ full_path shared.now.worktree_root.now rela_path.now }
-    requires entry { entry ≡ indexed_as (setting_of M.Matcher shared.now) rela_path.now }
+    requires entry { entry ≡ look_up_in_index (setting_of M.Matcher shared.now) rela_path.now }
     ensures class { (s : Sources) → W.told worktree.old ≡ Some s.tree
-        → NotIncreased (W.faults worktree.old) (W.faults worktree.new) → (made : Option Made)
+        → NotIncreased (W.faults worktree.old) (W.faults worktree.new) → (made : Option StackSetup)
         → IfOk result (λ c. c ≡ class_unindexed (chosen shared.now.options)
         (evidence (setting_of M.Matcher shared.now) made s) rela_path.now kind ruling) }
-    ensures swallowed { (s : Sources) → W.told worktree.old ≡ Some s.tree → (made : Option Made)
+    ensures swallowed { (s : Sources) → W.told worktree.old ≡ Some s.tree → (made : Option StackSetup)
         → (on_disk : Option Kind)
         → IfOk result (IsJudged (W.faults worktree.old) (W.faults worktree.new)
         (λ _ ev. class_unindexed (chosen shared.now.options) ev rela_path.now kind ruling)
@@ -346,7 +346,7 @@ pub(crate) fn of_unindexed<W: Worktree, M: Matcher>(
         → worktree.new ≡ worktree.old) }
     ensures certain { ruling.kind ≡ None
         → is_idle (chosen shared.now.options) (holds_names kind) ≡ true
-        → (made : Option Made) (s : Sources) → IfOk result (λ c. c ≡ class_unindexed
+        → (made : Option StackSetup) (s : Sources) → IfOk result (λ c. c ≡ class_unindexed
         (chosen shared.now.options) (evidence (setting_of M.Matcher shared.now) made s)
         rela_path.now kind ruling) }
 {
@@ -354,7 +354,7 @@ pub(crate) fn of_unindexed<W: Worktree, M: Matcher>(
         Some(excluded) => of_ignored(
             alloc, full, rela_path, entry, kind, excluded, shared, worktree,
         )?,
-        None => of_free(alloc, full, rela_path, entry, kind, shared, worktree)?,
+        None => classify_not_ignored(alloc, full, rela_path, entry, kind, shared, worktree)?,
     };
     Ok(Outcome {
         origin: ruling.origin,

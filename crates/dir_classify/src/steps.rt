@@ -14,11 +14,13 @@ ghost use Rattle.dir_classify.specs.Excludes.{made_with, maps_blobs, tells_exclu
 ghost use Rattle.dir_classify.specs.Faults.{IsRuled};
 ghost use Rattle.dir_classify.specs.Kept.{AsksRules, KeepsRules, AsksAtMost, AreUntouched};
 ghost use Rattle.std.specs.Option.{option_or};
-ghost use Rattle.dir_classify.specs.Layers.{setting_of, evidence, kind_at, indexed_as, is_unread_in, IsLookupIf, IsSeenIn};
+ghost use Rattle.dir_classify.specs.Layers.{setting_of, evidence, kind_at, look_up_in_index, is_unread_in, IsLookupIf, IsNameInIndexDirectory};
 ghost use Rattle.dir_classify.specs.Question.{about_dot_git, about_kind};
 ghost use Rattle.dir_classify.specs.Refused.{IsAbout, Refuses, OnAccess, OnFault, OnLookup, StopsIf};
 
-use crate::cases::{class_dot_git, class_unmatched, class_worktree, is_indexed, is_named_dot_git};
+use crate::cases::{
+    class_dot_git, class_unmatched, class_worktree, index_agrees_with_disk, is_named_dot_git,
+};
 use crate::classify::Outcome;
 use crate::context::Shared;
 use crate::entry::{Kind, is_dir};
@@ -48,7 +50,7 @@ use worktree_stack::Stack;
 ///   [`crate::classify::path`] says it.
 /// - `OutOfMemory`: memory was refused.
 #[tactic(auto, unfolding(crate::specs::Class::class, crate::specs::Class::asks, crate::specs::Class::seeks, crate::specs::Class::asks_nothing, crate::specs::Layers::evidence))]
-pub fn at<W: Worktree, F: Find, M: Matcher>(
+pub fn classify_in_directory<W: Worktree, F: Find, M: Matcher>(
     alloc: Global,
     full: &[u8],
     rela_path: &[u8],
@@ -65,7 +67,7 @@ pub fn at<W: Worktree, F: Find, M: Matcher>(
     requires normal { is_normal rela_path.now ≡ true }
     requires spelled { rela_path.now ≡ spelled (components rela_path.now) }
     requires lookup { IsLookupIf shared.now.index.now shared.now.ignore_case_index_lookup.now }
-    requires seen { IsSeenIn shared.now.index.now rela_path.now name.now beneath.now }
+    requires seen { IsNameInIndexDirectory shared.now.index.now rela_path.now name.now beneath.now }
     requires excludes { tells_excludes (made_with excludes.old) ≡ true }
     ensures { Classes W.Worktree F.Find worktree.old worktree.new objects.old objects.new
         excludes.old excludes.new (setting_of M.Matcher shared.now) rela_path.now disk_kind ask_disk
@@ -83,9 +85,9 @@ pub fn at<W: Worktree, F: Find, M: Matcher>(
     {
         return Ok(class_unmatched(disk_kind));
     }
-    let entry = indexed_as(shared, rela_path, name, beneath);
+    let entry = look_up_in_index(shared, rela_path, name, beneath);
     let kind = settled_kind(alloc, full, entry.up_to_date, disk_kind, ask_disk, worktree)?;
-    let class = of_kind(
+    let class = classify_with_kind(
         alloc, full, rela_path, entry, kind, shared, excludes, worktree, objects,
     )?;
     Ok(class)
@@ -118,7 +120,7 @@ fn of_dot_git<W: Worktree, F: Find, M: Matcher>(
 
 /// The class of a path whose kind is settled: in the worktree set, in the index, or by the rules.
 #[tactic(auto, unfolding(crate::specs::Layers::evidence))]
-fn of_kind<W: Worktree, F: Find, M: Matcher>(
+fn classify_with_kind<W: Worktree, F: Find, M: Matcher>(
     alloc: Global,
     full: &[u8],
     rela_path: &[u8],
@@ -131,7 +133,7 @@ fn of_kind<W: Worktree, F: Find, M: Matcher>(
 ) -> Result<Outcome, Error>
     requires full { full.now ≡ full_path shared.now.worktree_root.now rela_path.now }
     requires normal { is_normal rela_path.now ≡ true }
-    requires entry { entry ≡ indexed_as (setting_of M.Matcher shared.now) rela_path.now }
+    requires entry { entry ≡ look_up_in_index (setting_of M.Matcher shared.now) rela_path.now }
     requires excludes { tells_excludes (made_with excludes.old) ≡ true }
     ensures { (ask_disk : Bool) → Judges W.Worktree F.Find worktree.old worktree.new objects.old
         objects.new excludes.old excludes.new (setting_of M.Matcher shared.now)
@@ -140,7 +142,7 @@ fn of_kind<W: Worktree, F: Find, M: Matcher>(
     if is_worktree(alloc, &shared.options, rela_path) {
         return Ok(class_worktree(shared, rela_path, kind));
     }
-    if is_indexed(entry, kind) {
+    if index_agrees_with_disk(entry, kind) {
         let class = of_indexed(alloc, full, rela_path, entry, kind, shared, worktree)?;
         return Ok(class);
     }
@@ -211,7 +213,7 @@ fn ruling_at<W: Worktree, F: Find, M: Matcher>(
     if rela_path.is_empty() || excludes.is_none() {
         return Ok(Ruling::NONE);
     }
-    let is_dir = ruled_as(alloc, full, kind, shared, worktree)?;
+    let is_dir = is_dir_for_rules(alloc, full, kind, shared, worktree)?;
     let ruling = ruling_of(alloc, rela_path, is_dir, excludes, worktree, objects)?;
     Ok(ruling)
 }
@@ -219,7 +221,7 @@ fn ruling_at<W: Worktree, F: Find, M: Matcher>(
 /// As what the rules are asked about a path: a link may count as what it leads to. A fault reads as
 /// nothing. See docs/DECISIONS.md#directory-for-rules.
 #[tactic(auto, unfolding(crate::specs::Chosen::chosen))]
-fn ruled_as<W: Worktree, M: Matcher>(
+fn is_dir_for_rules<W: Worktree, M: Matcher>(
     alloc: Global,
     full: &[u8],
     kind: Option<Kind>,
@@ -303,15 +305,15 @@ pub(crate) fn kind_on_disk<W: Worktree>(
 
 /// What the index says of a path.
 #[tactic(auto, unfolding(crate::specs::Chosen::chosen))]
-fn indexed_as<M: Matcher>(
+fn look_up_in_index<M: Matcher>(
     shared: &Shared<'_, M>,
     path: &[u8],
     name: &[u8],
     beneath: &Beneath<'_>,
 ) -> InIndex
     requires lookup { IsLookupIf shared.now.index.now shared.now.ignore_case_index_lookup.now }
-    requires seen { IsSeenIn shared.now.index.now path.now name.now beneath.now }
-    ensures { result ≡ indexed_as (setting_of M.Matcher shared.now) path.now }
+    requires seen { IsNameInIndexDirectory shared.now.index.now path.now name.now beneath.now }
+    ensures { result ≡ look_up_in_index (setting_of M.Matcher shared.now) path.now }
 {
     let ignore_case = shared.options.ignore_case;
     in_index(

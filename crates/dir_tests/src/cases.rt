@@ -13,7 +13,7 @@ use gitbase_core::{Bytes, Flags, IndexEntry, Mode, ObjectId, OutOfMemory, PathTe
 use glob_rules::Case;
 use glob_rules::ignore::{List, ParseIgnore, Search};
 use std::alloc::Global;
-use test_cases::{is_git_put, is_put, number, parted, parted_by};
+use test_cases::{is_git_put, is_put, number, split_at_byte, split_at_mark};
 use worktree_fs::{CallKind, MemoryWorktree};
 use worktree_stack::ignore_source::Source;
 use worktree_stack::{Ignore, Stack};
@@ -72,7 +72,7 @@ fn is_planned(alloc: Global, tree: &mut MemoryWorktree, call: &[u8], nth: u64) -
         b"real path" => CallKind::RealPath,
         _ => return false,
     };
-    tree.fail(alloc, call, nth).is_ok()
+    tree.plan_fault(alloc, call, nth).is_ok()
 }
 
 /// The entry of a path at stage 0.
@@ -122,8 +122,8 @@ fn times_asked(excludes: &Option<Stack>) -> usize {
 
 /// Whether a step holds.
 fn holds(alloc: Global, world: &mut World, step: &[u8]) -> bool {
-    let (what, rest) = parted(step, b'`');
-    let (one, two) = parted(rest, b'`');
+    let (what, rest) = split_at_byte(step, b'`');
+    let (one, two) = split_at_byte(rest, b'`');
     match what {
         b"class" => is_class(alloc, world, one, two),
         b"root" => is_root(alloc, world, one, two),
@@ -133,7 +133,7 @@ fn holds(alloc: Global, world: &mut World, step: &[u8]) -> bool {
         b"upgrade" => is_upgraded(alloc, &mut world.tree, one, two),
         b"git" => is_git_put(alloc, &mut world.tree, one, b"main"),
         b"index" => {
-            let (mode, flags) = parted(two, b'`');
+            let (mode, flags) = split_at_byte(two, b'`');
             is_indexed(alloc, &mut world.index, one, mode, flags)
         }
         b"fail" => is_planned(alloc, &mut world.tree, one, number(two) as u64),
@@ -169,9 +169,9 @@ pub fn lie_at_once(alloc: Global, case: &[u8]) -> Option<&[u8]> {
 
 /// The same, as a strategy says.
 fn lie_in(alloc: Global, case: &[u8], strategy: Strategy) -> Option<&[u8]> {
-    let (head, steps) = parted_by(case, b"\n  ");
-    let (_, rules) = parted(head, b'`');
-    let (globals, strict) = parted(rules, b'`');
+    let (head, steps) = split_at_mark(case, b"\n  ");
+    let (_, rules) = split_at_byte(head, b'`');
+    let (globals, strict) = split_at_byte(rules, b'`');
     let stack = match globals {
         b"-" => None,
         _ => match stack_of(alloc, globals, strict == b"strict".as_slice()) {

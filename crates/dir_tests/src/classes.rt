@@ -17,7 +17,7 @@ use gitbase_core::{AccelerateLookup, MemoryStore, OutOfMemory, PathText, State, 
 use glob_rules::ignore;
 use glob_rules::pathspec::Search;
 use std::alloc::Global;
-use test_cases::parted;
+use test_cases::split_at_byte;
 use worktree_fs::{MemoryWorktree, PlannedInterrupt};
 use worktree_stack::{AtPathError, RulesWhy, Stack};
 
@@ -87,10 +87,10 @@ fn has_match(found: Option<PathspecMatch>, word: &[u8]) -> bool {
 /// Whether a class has these words: status, property, the kind on disk, that in the index and the
 /// match.
 fn has_words(class: &Outcome, words: &[u8]) -> bool {
-    let (status, rest) = parted(words, b'`');
-    let (property, rest) = parted(rest, b'`');
-    let (disk, rest) = parted(rest, b'`');
-    let (indexed, found) = parted(rest, b'`');
+    let (status, rest) = split_at_byte(words, b'`');
+    let (property, rest) = split_at_byte(rest, b'`');
+    let (disk, rest) = split_at_byte(rest, b'`');
+    let (indexed, found) = split_at_byte(rest, b'`');
     status_word(class.status) == status
         && property_word(class.property) == property
         && kind_word(class.disk_kind) == disk
@@ -100,7 +100,7 @@ fn has_words(class: &Outcome, words: &[u8]) -> bool {
 
 /// Whether an error names this rules file, and says for this reason that it was not read.
 fn is_refused(error: &Error, words: &[u8]) -> bool {
-    let (reason, file) = parted(words, b'`');
+    let (reason, file) = split_at_byte(words, b'`');
     match error {
         Error::ExcludesAccess(AtPathError::RulesFile { path, why }) => {
             path.as_bytes() == file && *why == RulesWhy::Special && reason == b"special".as_slice()
@@ -203,7 +203,7 @@ fn class_of(
 
 /// Whether a path has the class that the step says, or is refused as it says.
 pub fn is_class(alloc: Global, world: &mut World, path: &[u8], rest: &[u8]) -> bool {
-    let (known, want) = parted(rest, b'`');
+    let (known, want) = split_at_byte(rest, b'`');
     let ask = known == b"ask".as_slice();
     is_answer(class_of(alloc, world, path, known_kind(known), ask), want)
 }
@@ -271,7 +271,7 @@ fn way_of(
 
 /// Whether a way ends as these words say: `whole` or `part` of it, and where; then with what class.
 fn has_end(way: &RootOutcome, words: &[u8]) -> bool {
-    let (end, class) = parted(words, b'`');
+    let (end, class) = split_at_byte(words, b'`');
     let (extent, path) = end.split_once_str(b" ").unwrap_or((end, b""));
     way.whole == (extent == b"whole".as_slice())
         && way.path.as_bytes() == path
@@ -280,7 +280,7 @@ fn has_end(way: &RootOutcome, words: &[u8]) -> bool {
 
 /// Whether the way to a path below this root ends as the step says.
 pub fn is_root(alloc: Global, world: &mut World, root: &[u8], rest: &[u8]) -> bool {
-    let (path, want) = parted(rest, b'`');
+    let (path, want) = split_at_byte(rest, b'`');
     match way_of(alloc, world, root, path) {
         Ok(way) => has_end(&way, want),
         Err(error) => is_refused(&error, want),
@@ -294,7 +294,7 @@ pub fn is_upgraded(
     path: &[u8],
     words: &[u8],
 ) -> bool {
-    let (how, want) = parted(words, b'`');
+    let (how, want) = split_at_byte(words, b'`');
     match maybe_upgrade_to_repository(
         alloc,
         Some(Kind::Directory),

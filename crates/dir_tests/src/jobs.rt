@@ -65,7 +65,7 @@ fn reads_three(alloc: Global, worktree: &mut Noted) -> bool {
         options_of(b"", &BTreeSet::new(alloc)),
         worktree,
         &mut MemoryStore::new(alloc),
-        &mut PlannedInterrupt::at(2),
+        &mut PlannedInterrupt::raised_from(2),
         &Search::from_specs(Vec::new(alloc)),
         &mut None,
         &State::new(alloc),

@@ -1,6 +1,6 @@
 //! Why a walk was refused, in the words of cases.
 use dir_classify::{Error, MetadataWhy, ReadWhy};
-use test_cases::{number, parted};
+use test_cases::{number, split_at_byte};
 use worktree_stack::{AtPathError, RulesWhy};
 
 /// The word of a reason for which a rules file was not read.
@@ -69,7 +69,7 @@ fn component_of(error: &Error) -> usize {
 
 /// Whether a walk was refused for this reason, here, and at this component of the traversal root.
 pub fn is_error(error: &Error, words: &[u8]) -> bool {
-    let (reason, rest) = parted(words, b'`');
-    let (place, component) = parted(rest, b'`');
+    let (reason, rest) = split_at_byte(words, b'`');
+    let (place, component) = split_at_byte(rest, b'`');
     word_of(error) == reason && place_of(error) == place && component_of(error) == number(component)
 }

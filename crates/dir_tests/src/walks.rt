@@ -15,7 +15,7 @@ use gitbase_core::{Bytes, MemoryStore, PathText, State};
 use glob_rules::ignore::{Origin, RuleGroup};
 use glob_rules::pathspec::Search;
 use std::alloc::Global;
-use test_cases::{number, parted};
+use test_cases::{number, split_at_byte};
 use worktree_fs::{MemoryWorktree, PlannedInterrupt};
 use worktree_stack::Stack;
 
@@ -27,7 +27,7 @@ fn has_origin(origin: Option<Origin>, words: &[u8]) -> bool {
         None => group == b"-".as_slice(),
         Some(origin) => {
             is_group(origin.group, group)
-                && origin.line == number(line)
+                && origin.line as usize == number(line)
                 && origin.negative == (sign == b"!".as_slice())
         }
     }
@@ -79,7 +79,7 @@ fn is_entry(found: &(Entry, Option<Status>), words: &[u8]) -> bool {
 fn are(entries: &[(Entry, Option<Status>)], words: &[u8]) -> bool {
     let mut rest = words;
     for entry in entries {
-        let (word, more) = parted(rest, b'`');
+        let (word, more) = split_at_byte(rest, b'`');
         if !is_entry(entry, word) {
             return false;
         }
@@ -90,9 +90,9 @@ fn are(entries: &[(Entry, Option<Status>)], words: &[u8]) -> bool {
 
 /// Whether a report has these words.
 fn is_report(report: &Report, words: &[u8]) -> bool {
-    let (root, rest) = parted(words, b'`');
-    let (read, rest) = parted(rest, b'`');
-    let (seen, rest) = parted(rest, b'`');
+    let (root, rest) = split_at_byte(words, b'`');
+    let (read, rest) = split_at_byte(rest, b'`');
+    let (seen, rest) = split_at_byte(rest, b'`');
     let outcome = &report.outcome;
     report.root.as_bytes() == root
         && outcome.read_dir_calls as usize == number(read)
@@ -113,7 +113,7 @@ fn is_answer(answer: Result<Report, Error>, words: &[u8]) -> bool {
 fn interrupt_at(raised: usize) -> PlannedInterrupt {
     match raised {
         0 => PlannedInterrupt::never(),
-        nth => PlannedInterrupt::at(nth as u64),
+        nth => PlannedInterrupt::raised_from(nth as u64),
     }
 }
 
@@ -324,7 +324,7 @@ fn delegate_of(alloc: Global, word: &[u8]) -> Odd {
 
 /// Whether a walk that is given to a delegate is answered as the step says.
 pub fn is_given(alloc: Global, world: &mut World, delegate: &[u8], rest: &[u8]) -> bool {
-    let (root, want) = parted(rest, b'`');
+    let (root, want) = split_at_byte(rest, b'`');
     let delegate = delegate_of(alloc, delegate);
     is_answer(report_of(alloc, world, root, delegate), want)
 }

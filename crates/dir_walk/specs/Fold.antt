@@ -79,8 +79,8 @@ abbrev pub is_barring : Entry → Bool
 is_barring e = is_repository e.disk_kind || is_matched Verbatim e || is_matched Excluded e
 
 -- matched by a directory above, or by wildcards
-abbrev pub is_picked : Entry → Bool
-is_picked e = is_matched Prefix e || is_matched WildcardMatch e
+abbrev pub is_prefix_or_wildcard_match : Entry → Bool
+is_prefix_or_wildcard_match e = is_matched Prefix e || is_matched WildcardMatch e
 
 -- ---- what is held, counted
 
@@ -92,7 +92,7 @@ tally held =
       expendable = count_by is_expendable held;
       precious = count_by is_precious held;
       barring = count_by is_barring held;
-      picked = count_by is_picked held;
+      picked = count_by is_prefix_or_wildcard_match held;
       without_names = count_by has_no_names held;
       always = count_by (is_matched Always) held;
       excluded = count_by (is_matched Excluded) held;
@@ -113,7 +113,7 @@ tally_more n e =
       expendable = n.expendable + one_if (is_expendable e);
       precious = n.precious + one_if (is_precious e);
       barring = n.barring + one_if (is_barring e);
-      picked = n.picked + one_if (is_picked e);
+      picked = n.picked + one_if (is_prefix_or_wildcard_match e);
       without_names = n.without_names + one_if (has_no_names e);
       always = n.always + one_if (is_matched Always e);
       excluded = n.excluded + one_if (is_matched Excluded e);
@@ -147,11 +147,11 @@ abbrev pub may_delete_all : Chosen → Tally → Bool
 may_delete_all o n = is_none o.for_deletion || (not (are_some n.precious) && (not (are_some n.expendable) || is_some o.emit_ignored))
 
 -- all are untracked or ignored
-abbrev pub are_loose : Tally → Bool
-are_loose n = n.untracked + n.expendable + n.precious == n.all
+abbrev pub are_all_untracked_or_ignored : Tally → Bool
+are_all_untracked_or_ignored n = n.untracked + n.expendable + n.precious == n.all
 
 abbrev pub folds_untracked : Chosen → Tally → Bool
-folds_untracked o n = collapses o.emit_untracked && are_some n.untracked && are_loose n && may_delete_all o n
+folds_untracked o n = collapses o.emit_untracked && are_some n.untracked && are_all_untracked_or_ignored n && may_delete_all o n
 
 abbrev pub folds_expendable : Chosen → Tally → Bool
 folds_expendable o n = collapses_if o.emit_ignored && are_some n.expendable && (n.expendable == n.all)
@@ -189,16 +189,16 @@ greatest n =
     else None
 
 -- the directory's own match, where no spec was needed for it or one names it
-abbrev pub own_match : Option PathspecMatch → Option PathspecMatch
-own_match (Some Always) = Some Always
-own_match (Some WildcardMatch) = Some WildcardMatch
-own_match (Some Verbatim) = Some Verbatim
-own_match (Some Prefix) = None
-own_match (Some Excluded) = None
-own_match None = None
+abbrev pub match_unless_prefix_or_excluded : Option PathspecMatch → Option PathspecMatch
+match_unless_prefix_or_excluded (Some Always) = Some Always
+match_unless_prefix_or_excluded (Some WildcardMatch) = Some WildcardMatch
+match_unless_prefix_or_excluded (Some Verbatim) = Some Verbatim
+match_unless_prefix_or_excluded (Some Prefix) = None
+match_unless_prefix_or_excluded (Some Excluded) = None
+match_unless_prefix_or_excluded None = None
 
 abbrev pub match_over : Option PathspecMatch → Outcome → Option PathspecMatch
-match_over None c = own_match c.pathspec_match
+match_over None c = match_unless_prefix_or_excluded c.pathspec_match
 match_over (Some found) c = Some found
 
 -- the directory's own property; else, outside deletion, it is one without names where all that it holds are untracked and

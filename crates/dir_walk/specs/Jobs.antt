@@ -9,10 +9,10 @@ use Rattle.dir_walk.specs.declared.delegate.Delegate.{Ghosts as DelegateOf}
 use Rattle.dir_walk.specs.declared.handed.Handed.{Handed}
 use Rattle.dir_walk.specs.declared.handed.Stop.{Stop}
 use Rattle.dir_walk.specs.Moments.{Moment}
-use Rattle.dir_walk.specs.WalkSteps.{EntersStep, WalksAny, WalksTold, at_directory, over_fork}
+use Rattle.dir_walk.specs.WalkSteps.{OpensAtMostEntered, WalksAny, WalksTold, at_directory, CountsOpenedByFork}
 
 -- The directory at `path`, of a class, is walked; what is opened is opened over forks, and so the walk alone counts it.
 pub record WalksJob {W F I D : Type 0} (w : WorktreeOf W) (f : FindOf F) (i : InterruptOf I) (d : DelegateOf D) (before now : Moment W F I D) (given : Setting) (blocked : Option (List ℕ)) (levels : ℕ) (path : List ℕ) (class : Class) (result : Result Handed Stop) : Type 0 where
   pub told : WalksTold w f d before now given blocked levels (at_directory path class) result
   pub walks : WalksAny w f i d before now given levels (at_directory path class) result
-  pub opens : over_fork i before now result (EntersStep w f d before now given blocked levels (at_directory path class) result)
+  pub opens : CountsOpenedByFork i before now result (OpensAtMostEntered w f d before now given blocked levels (at_directory path class) result)

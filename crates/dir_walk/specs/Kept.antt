@@ -34,7 +34,7 @@ pub record KeepsDelegate {D : Type 0} (d : DelegateOf D) (before now : D) : Type
   pub refusals : d.refusals before ≤ d.refusals now
 
 -- A walk ends where the delegate answers Break, which it counted once and answered last, and only there is it broken off.
-pub record Heeds {D T : Type 0} (d : DelegateOf D) (before now : D) (result : Result T Stop) : Type 0 where
+pub record HeedsDelegateBreak {D T : Type 0} (d : DelegateOf D) (before now : D) (result : Result T Stop) : Type 0 where
   pub broken : IfErr result (OnBroken (Incremented (d.breaks before) (d.breaks now)))
   pub stopped : IfErr result (OnBroken (d.is_stopped now ≡ true))
   pub unbroken : IfErr result (OnRefused (λ _. d.breaks now ≡ d.breaks before))
@@ -70,7 +70,7 @@ OnListingFault Failed errors.OutOfMemory = Unit {0}
 
 -- Each refusal that a fault or the interrupt caused was counted by them; where there is none, neither a listing failed
 -- nor was the interrupt raised.
-pub record Caused {W F I T : Type 0} (w : WorktreeOf W) (f : FindOf F) (i : InterruptOf I) (w0 w1 : W) (o0 o1 : F) (i0 i1 : I) (result : Result T Stop) : Type 0 where
+pub record RefusalsHaveCauses {W F I T : Type 0} (w : WorktreeOf W) (f : FindOf F) (i : InterruptOf I) (w0 w1 : W) (o0 o1 : F) (i0 i1 : I) (result : Result T Stop) : Type 0 where
   pub fault : IfErr result (OnRefused (OnFault (Increased (w.faults w0) (w.faults w1)) (Increased (f.faults o0) (f.faults o1))))
   pub interrupt : IfErr result (OnRefused (OnInterrupt (Increased (i.raised i0) (i.raised i1))))
   pub listing : IfErr result (OnRefused (OnListingFault (Increased (w.list_faults w0) (w.list_faults w1))))

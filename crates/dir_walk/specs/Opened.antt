@@ -3,7 +3,7 @@ use Rattle.std.specs.Prelude.{◌≡◌, ◌≤◌, ◌+◌, ℕ, List, Option, 
 use Rattle.worktree_fs.specs.declared.interrupt.Interrupt.{Ghosts as InterruptOf}
 use Rattle.worktree_fs.specs.declared.worktree.Worktree.{Ghosts as WorktreeOf}
 use Rattle.worktree_fs.specs.Causes.{Increased}
-use Rattle.worktree_stack.specs.Setup.{Made}
+use Rattle.worktree_stack.specs.Setup.{StackSetup}
 use Rattle.dir_classify.specs.declared.error.Error.{Error}
 use Rattle.dir_classify.specs.Refused.{OnFault}
 use Rattle.dir_walk.specs.declared.outcome.Outcome.{Outcome}
@@ -13,7 +13,7 @@ use Rattle.dir_walk.specs.Kept.{OnInterrupt, OnListingFault}
 use Rattle.dir_walk.specs.Opens.{Opens}
 use Rattle.dir_walk.specs.Refused.{IsAbout}
 use Rattle.dir_walk.specs.Report.{depth_of}
-use Rattle.dir_walk.specs.Unopened.{deep_one, unlisted_one}
+use Rattle.dir_walk.specs.Unopened.{too_deep_count, unlisted_one}
 
 -- One directory is counted as entered, and nothing as given or seen; the worktree counts it as listed, at most once, and reads nothing.
 -- Where it is refused, it is counted so where its listing was asked for.
@@ -22,14 +22,14 @@ pub record OpenCounts {W I T : Type 0} (w : WorktreeOf W) (i : InterruptOf I) (w
   pub returned : stop.returned_entries ≡ start.returned_entries
   pub seen : stop.seen_entries ≡ start.seen_entries
   pub opens : OnOk result (Opens w i w0 w1 i0 i1 start stop 1 0)
-  pub tried : IfErr result (λ e. Opens w i w0 w1 i0 i1 start stop (unlisted_one e) (deep_one e))
+  pub tried : IfErr result (λ e. Opens w i w0 w1 i0 i1 start stop (unlisted_one e) (too_deep_count e))
   pub once : w.lists w1 ≤ w.lists w0 + 1
   pub reads : w.reads w1 ≡ w.reads w0
 
 -- A refusal is about this directory; the worktree counted a fault, and one of a listing, or the interrupt that it was raised. Where the
 -- directory is opened, no listing failed and the interrupt was not raised.
 pub record OpenCaused {W I T : Type 0} (w : WorktreeOf W) (i : InterruptOf I) (w0 w1 : W) (i0 i1 : I) (root path : List ℕ) (result : Result T Error) : Type 0 where
-  pub about : (made : Option Made) (limit : ℕ) → depth_of path ≤ limit → IfErr result (IsAbout made root limit)
+  pub about : (made : Option StackSetup) (limit : ℕ) → depth_of path ≤ limit → IfErr result (IsAbout made root limit)
   pub fault : (before now : ℕ) → IfErr result (OnFault (Increased (w.faults w0) (w.faults w1)) (Increased before now))
   pub raised : IfErr result (OnInterrupt (Increased (i.raised i0) (i.raised i1)))
   pub listing : IfErr result (OnListingFault (Increased (w.list_faults w0) (w.list_faults w1)))

@@ -7,7 +7,7 @@ use Rattle.worktree_fs.specs.declared.worktree.Worktree.{Ghosts as WorktreeOf}
 use Rattle.worktree_fs.specs.Causes.{NotIncreased, with_more}
 use Rattle.worktree_fs.specs.Paths.{common_front}
 use Rattle.worktree_stack.specs.Reading.{Sources}
-use Rattle.worktree_stack.specs.Setup.{Made}
+use Rattle.worktree_stack.specs.Setup.{StackSetup}
 use Rattle.worktree_stack.specs.Stacked.{Stacked}
 use Rattle.dir_classify.specs.Chosen.{Chosen, may_hide_repositories}
 use Rattle.dir_classify.specs.Excludes.{made_with, pushed_in, tells_attributes}
@@ -87,7 +87,7 @@ IsListed AtOnce before now opened = now ≤ before + 1
 -- the rules are ignore rules alone, the worktree was read at most once for each directory opened and once for each
 -- component of the traversal root; a refusal may come with one more. Where subtrees are walked over forks nothing is said of
 -- what is read.
-pub record OpensFrom {W I T : Type 0} (w : WorktreeOf W) (i : InterruptOf I) (w0 w1 : W) (i0 i1 : I) (start stop : Outcome) (strategy : Strategy) (o : Chosen) (made : Option Made) (root : List ℕ)
+pub record OpensFrom {W I T : Type 0} (w : WorktreeOf W) (i : InterruptOf I) (w0 w1 : W) (i0 i1 : I) (start stop : Outcome) (strategy : Strategy) (o : Chosen) (made : Option StackSetup) (root : List ℕ)
     (result : Result T Stop) (Within : ℕ → Type 0) : Type 0 where
   pub opened : ℕ
   pub listed : IsListed strategy (w.lists w0) (w.lists w1) opened
@@ -105,7 +105,7 @@ count_within limit paths = count_by (λ path. not (nat_lt limit (depth_of path))
 
 -- Where what is walked is told and the worktree did not fail, and a delegate recurses by default, no more directories are opened than
 -- are entered in what is walked and lie within the limit; `spare` more may be, where a listing is refused.
-abbrev pub EntersAtMost : {W F D : Type 0} → WorktreeOf W → FindOf F → DelegateOf D → W → W → F → Option Stacked → D → Setting → Option (List ℕ) → ℕ → (Option Made → Sources → Walked) → ℕ → ℕ → Type 0
+abbrev pub EntersAtMost : {W F D : Type 0} → WorktreeOf W → FindOf F → DelegateOf D → W → W → F → Option Stacked → D → Setting → Option (List ℕ) → ℕ → (Option StackSetup → Sources → Walked) → ℕ → ℕ → Type 0
 EntersAtMost w f d w0 w1 o0 rules d0 given blocked limit walked spare opened =
-    (made : Option Made) (s : Sources) → Stands given (w.told w0) (f.holds o0) rules blocked made s → NotIncreased (w.faults w0) (w.faults w1) → d.is_default d0 ≡ true
+    (made : Option StackSetup) (s : Sources) → Stands given (w.told w0) (f.holds o0) rules blocked made s → NotIncreased (w.faults w0) (w.faults w1) → d.is_default d0 ≡ true
     → opened ≤ count_within limit (walked made s).entered + spare

@@ -68,7 +68,7 @@ up_of (Ok handed) = option_to_list handed.entry
 up_of (Err stop) = []
 
 -- the same where a path hands something up, which is an entry at that path
-pub record Hands (path : List ℕ) (room : List ℕ → ℕ) (before after : Option (List Emission)) (start stop : Outcome) (result : Result Handed Stop) : Type 0 where
+pub record HandsUpEntryAt (path : List ℕ) (room : List ℕ → ℕ) (before after : Option (List Emission)) (start stop : Outcome) (result : Result Handed Stop) : Type 0 where
   pub puts : Puts room before after start stop (up_of result)
   pub at : AllByRecursion (λ e. e.rela_path ≡ path) (up_of result)
 

@@ -8,7 +8,7 @@ use Rattle.worktree_fs.specs.Tree.{Names, Look, look}
 use Rattle.worktree_fs.specs.Answers.{list_of}
 use Rattle.worktree_fs.specs.Paths.{is_normal, full_path, spelled}
 use Rattle.worktree_stack.specs.declared.error.AtPathError.{AtPathError}
-use Rattle.worktree_stack.specs.Setup.{Made}
+use Rattle.worktree_stack.specs.Setup.{StackSetup}
 use Rattle.worktree_stack.specs.Reading.{Sources}
 use Rattle.worktree_stack.specs.Refused as lookups
 use Rattle.dir_classify.specs.declared.classify.Outcome.{Outcome}
@@ -56,14 +56,14 @@ pub record IsDeepRoot (top root : List ℕ) (limit : ℕ) (path : List ℕ) : Ty
   pub deep : limit < depth_of root
 
 -- a lookup in the rules was refused of some normal path, which lies no deeper than right below the limit
-pub record IsSomeAccess (limit : ℕ) (made : Made) (e : AtPathError) : Type 0 where
+pub record IsSomeAccess (limit : ℕ) (made : StackSetup) (e : AtPathError) : Type 0 where
   pub path : List ℕ
   pub normal : is_normal path ≡ true
   pub near : depth_of path ≤ limit + 1
   pub access : IsAccess made path e
 
 -- what a refusal within what is entered says of the rules, the paths and the limit that were handed in
-abbrev pub IsAbout : Option Made → List ℕ → ℕ → Error → Type 0
+abbrev pub IsAbout : Option StackSetup → List ℕ → ℕ → Error → Type 0
 IsAbout made root limit errors.Interrupted = Unit {0}
 IsAbout made root limit (errors.WorktreeRootIsFile path) = ⊥
 IsAbout made root limit (errors.NormalizeRoot path) = ⊥
@@ -76,13 +76,13 @@ IsAbout made root limit (errors.DirEntry path) = IsWithinLimit root limit path
 IsAbout made root limit errors.OutOfMemory = Unit {0}
 
 -- the same of a traversal root that is to be entered: it may lie too deep itself
-abbrev pub IsAboutFrom : Option Made → List ℕ → List ℕ → ℕ → Error → Type 0
+abbrev pub IsAboutFrom : Option StackSetup → List ℕ → List ℕ → ℕ → Error → Type 0
 IsAboutFrom made top root limit e = IsAbout made top limit e ⊎ ((path : List ℕ) × (e ≡ errors.TooDeep path) × IsDeepRoot top root limit path)
 
 -- ---- what holds over a told tree
 
 -- a lookup of some normal path in the rules was refused, by a rules file or a blob that the tree or the store refuses
-pub record IsRefusedLookup (s : Sources) (made : Made) (e : AtPathError) : Type 0 where
+pub record IsRefusedLookup (s : Sources) (made : StackSetup) (e : AtPathError) : Type 0 where
   pub path : List ℕ
   pub normal : is_normal path ≡ true
   pub access : IsAccess made path e
@@ -95,7 +95,7 @@ pub record IsNotListed (t : Names) (root : List ℕ) (why : ListError) (path : L
   pub node : list_of (look t path (is_empty below)) ≡ Err why
 
 -- what a refusal says of the tree, and, where the store holds these objects, of the rules, whether or not they are in step
-abbrev pub IsInTree : List ℕ → Option Objects → Sources → Option Made → Error → Type 0
+abbrev pub IsInTree : List ℕ → Option Objects → Sources → Option StackSetup → Error → Type 0
 IsInTree root holds s made errors.Interrupted = Unit {0}
 IsInTree root holds s made (errors.WorktreeRootIsFile path) = Unit {0}
 IsInTree root holds s made (errors.NormalizeRoot path) = Unit {0}
@@ -135,7 +135,7 @@ IsUnlisted t ev root w Failed path reads.Fault = Unit {0}
 
 -- the lookup of a normal path in the rules was refused, by a rules file or a blob that is refused; its class asks the
 -- rules, unless the worktree failed
-pub record IsNoAccess (s : Sources) (made : Made) (w : Walked) (Failed : Type 0) (e : AtPathError) : Type 0 where
+pub record IsNoAccess (s : Sources) (made : StackSetup) (w : Walked) (Failed : Type 0) (e : AtPathError) : Type 0 where
   pub path : List ℕ
   pub normal : is_normal path ≡ true
   pub asked : (is_among path w.asked ≡ true) ⊎ Failed
@@ -143,7 +143,7 @@ pub record IsNoAccess (s : Sources) (made : Made) (w : Walked) (Failed : Type 0)
   pub refused : lookups.RefusesIn s made (components path) e
 
 -- A refusal within what is walked. `made` is what the rules were made with, and `Failed` says that the worktree failed.
-abbrev pub Refuses : Setting → Option Made → Sources → ℕ → Type 0 → Walked → Error → Type 0
+abbrev pub Refuses : Setting → Option StackSetup → Sources → ℕ → Type 0 → Walked → Error → Type 0
 Refuses given made s limit Failed w errors.Interrupted = Unit {0}
 Refuses given made s limit Failed w (errors.WorktreeRootIsFile path) = ⊥
 Refuses given made s limit Failed w (errors.NormalizeRoot path) = ⊥
@@ -181,7 +181,7 @@ OpenRefuses full at (errors.DirEntry path) = path ≡ full
 OpenRefuses full at errors.OutOfMemory = Unit {0}
 
 -- a refusal of a directory that is entered: its own listing, or within it
-abbrev pub DirectoryRefuses : Setting → Option Made → Sources → ℕ → Type 0 → List ℕ → Outcome → Error → Type 0
+abbrev pub DirectoryRefuses : Setting → Option StackSetup → Sources → ℕ → Type 0 → List ℕ → Outcome → Error → Type 0
 DirectoryRefuses given made s limit Failed d c e =
     OpenRefuses (full_path given.root d) (look_directory given s.tree d) e ⊎ Refuses given made s limit Failed (directory_told given made s d c) e
 

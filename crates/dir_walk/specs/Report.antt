@@ -3,7 +3,7 @@ use Rattle.std.specs.Prelude.{ℕ, ◌+◌, ◌-◌, ◌^◌, min, Bool, true, �
 use Rattle.std.specs.List.{list_any}
 use Rattle.gitbase_core.specs.Path.{components}
 use Rattle.worktree_fs.specs.Paths.{full_path}
-use Rattle.worktree_stack.specs.Setup.{Made}
+use Rattle.worktree_stack.specs.Setup.{StackSetup}
 use Rattle.worktree_stack.specs.Reading.{Sources}
 use Rattle.dir_classify.specs.Chosen.{Chosen}
 use Rattle.dir_classify.specs.Evidence.{Evidence}
@@ -59,5 +59,5 @@ report_from given limit ev walk =
 -- is. None where there is no such root, where the worktree root is no directory and is not entered, where something is
 -- to be entered that is no directory or lies deeper than the limit, or where the rules of a path that asks them cannot
 -- be read.
-unfoldable pub report : Setting → Option Made → Sources → Option (List ℕ) → ℕ → Option Report
+unfoldable pub report : Setting → Option StackSetup → Sources → Option (List ℕ) → ℕ → Option Report
 report given made s explicit limit = option_and_then (report_from given limit (evidence given made s)) (walk_in given made s explicit)

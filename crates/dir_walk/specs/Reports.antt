@@ -2,7 +2,7 @@
 use Rattle.std.specs.Prelude.{◌≡◌, ℕ, List, [], false, Option, Some, IsSomeAnd}
 use Rattle.worktree_fs.specs.Paths.{full_path}
 use Rattle.worktree_stack.specs.Reading.{Sources}
-use Rattle.worktree_stack.specs.Setup.{Made}
+use Rattle.worktree_stack.specs.Setup.{StackSetup}
 use Rattle.dir_classify.specs.Chosen.{is_folding}
 use Rattle.dir_classify.specs.Layers.{Setting, evidence}
 use Rattle.dir_walk.specs.declared.report.Report.{Report}
@@ -17,7 +17,7 @@ use Rattle.dir_walk.specs.Walks.{GivesFrom}
 
 -- It is the report over a tree and a store. Its paths ascend strictly, byte by byte, and without folding none lies beneath another;
 -- it hides nothing that may not be lost; and the same walk without folding gives something, of which it covers what is shown.
-pub record IsReport (given : Setting) (made : Option Made) (s : Sources) (explicit : Option (List ℕ)) (limit : ℕ) (r : Report) : Type 0 where
+pub record IsReport (given : Setting) (made : Option StackSetup) (s : Sources) (explicit : Option (List ℕ)) (limit : ℕ) (r : Report) : Type 0 where
   pub is : report given made s explicit limit ≡ Some r
   pub ascends : Ascends r.entries
   pub flat : is_folding given.options ≡ false → AreFlat r.entries

@@ -3,7 +3,7 @@ use Rattle.std.specs.Prelude.{ℕ, ◌+◌, Bool, true, false, not, ◌&&◌, if
 use Rattle.gitbase_core.specs.Path.{is_empty, is_absolute, components, joined, normalized}
 use Rattle.worktree_fs.specs.Paths.{full_path}
 use Rattle.worktree_fs.specs.Tree.{Names, Look, look}
-use Rattle.worktree_stack.specs.Setup.{Made}
+use Rattle.worktree_stack.specs.Setup.{StackSetup}
 use Rattle.worktree_stack.specs.Reading.{Sources}
 use Rattle.dir_classify.specs.declared.entry.Entry.{Entry}
 use Rattle.dir_classify.specs.declared.entry.Kind.{Kind}
@@ -78,20 +78,20 @@ abbrev pub is_root_entered : Chosen → Evidence → Reached → Bool
 is_root_entered o ev r = r.whole && can_recurse r.class.status (root_kind ev r) r.class.pathspec_match o.for_deletion r.in_repository
 
 -- a worktree root that is not entered, and is no directory
-abbrev pub is_no_root : Reached → Bool
-is_no_root r = is_empty r.path && not (holds_names r.class.disk_kind)
+abbrev pub is_non_directory_worktree_root : Reached → Bool
+is_non_directory_worktree_root r = is_empty r.path && not (holds_names r.class.disk_kind)
 
 -- nothing is entered: one entry
-abbrev pub only : Entry → Walked
-only e = put_out e
+abbrev pub single_entry_walked : Entry → Walked
+single_entry_walked e = put_out e
 
 -- what a walk gives from where the way to its traversal root ended, by what the path leads to; none where the worktree root is no
 -- directory to walk
 abbrev pub walked_from : Chosen → Evidence → Reached → Look → Option Walked
 walked_from o ev r at =
     if is_root_entered o ev r then Some (entered_at o ev r.path r.class at)
-    else if is_no_root r then None
-    else Some (only (entry_at r.path r.class))
+    else if is_non_directory_worktree_root r then None
+    else Some (single_entry_walked (entry_at r.path r.class))
 
 -- A whole walk: its traversal root, whether the rules of some path on the way there are asked and cannot be read, and
 -- what it gives.
@@ -105,7 +105,7 @@ abbrev pub look_root : Setting → Names → List ℕ → Look
 look_root given t path = look t (full_path given.root path) (is_empty path)
 
 -- what a walk gives from a traversal root, along the way through its components
-abbrev pub walked_at : Setting → Option Made → Sources → List ℕ → Option Walked
+abbrev pub walked_at : Setting → Option StackSetup → Sources → List ℕ → Option Walked
 walked_at given made s root = let way = way_to given made s root in walked_from given.options (evidence given made s) way (look_root given s.tree way.path)
 
 abbrev pub walk_from : Setting → Evidence → Names → List ℕ → Reached → Option Walk
@@ -122,5 +122,5 @@ walk_of given ev t (rooted path) = walk_from given ev t path (reached given.opti
 
 -- The walk over a tree and a store, by what the rules were made with, for the traversal root that is handed in, if one
 -- is; none where there is no such root, or where the worktree root is no directory to walk.
-unfoldable pub walk_in : Setting → Option Made → Sources → Option (List ℕ) → Option Walk
+unfoldable pub walk_in : Setting → Option StackSetup → Sources → Option (List ℕ) → Option Walk
 walk_in given made s explicit = walk_of given (evidence given made s) s.tree (traversal_root given s.tree explicit)

@@ -7,7 +7,7 @@ use Rattle.worktree_fs.specs.declared.interrupt.Interrupt.{Ghosts as InterruptOf
 use Rattle.worktree_fs.specs.declared.worktree.Worktree.{Ghosts as WorktreeOf}
 use Rattle.worktree_fs.specs.Causes.{Increased, NotIncreased}
 use Rattle.worktree_stack.specs.Reading.{Sources}
-use Rattle.worktree_stack.specs.Setup.{Made}
+use Rattle.worktree_stack.specs.Setup.{StackSetup}
 use Rattle.dir_classify.specs.declared.classify.Outcome.{Outcome as Class}
 use Rattle.dir_classify.specs.Excludes.{made_with}
 use Rattle.dir_classify.specs.Layers.{Setting, evidence}
@@ -19,7 +19,7 @@ use Rattle.dir_walk.specs.Emits.{Gives, GivesAll, IsPart, IsPartOfAll}
 use Rattle.dir_walk.specs.Given.{OnRefused}
 use Rattle.dir_walk.specs.Moments.{Moment}
 use Rattle.dir_walk.specs.Opens.{EntersAtMost, OpensFrom, OpensRoot, refused_walk}
-use Rattle.dir_walk.specs.Puts.{AddsShown, Hands, Puts, PutsFrom, once_within}
+use Rattle.dir_walk.specs.Puts.{AddsShown, HandsUpEntryAt, Puts, PutsFrom, once_within}
 use Rattle.dir_walk.specs.Refused.{DirectoryRefuses, IsAboutFrom, IsInTree}
 use Rattle.dir_walk.specs.Root.{walked_at}
 use Rattle.dir_walk.specs.Starts.{StartGives}
@@ -44,20 +44,20 @@ OpensAtRoot w i before now strategy given path result Within =
 -- Over a told tree and a told store, with which the rules are in step: where the worktree did not fail, it gives all of what is there, and
 -- a part of it where it ends before; and it is refused for what is there.
 pub record RootTold {W F I D : Type 0} (w : WorktreeOf W) (f : FindOf F) (d : DelegateOf D) (before now : Moment W F I D) (given : Setting) (blocked : Option (List ℕ)) (limit : ℕ) (path : List ℕ) (class : Class) (result : Result Handed Stop) : Type 0 where
-  pub gives : (made : Option Made) (s : Sources) → Stands given (w.told before.worktree) (f.holds before.objects) before.rules blocked made s → NotIncreased (w.faults before.worktree) (w.faults now.worktree)
+  pub gives : (made : Option StackSetup) (s : Sources) → Stands given (w.told before.worktree) (f.holds before.objects) before.rules blocked made s → NotIncreased (w.faults before.worktree) (w.faults now.worktree)
       → d.is_default before.delegate ≡ true
       → IfOk result (Gives given.options limit (evidence given made s) (directory_told given made s path class) (d.given before.delegate) (d.given now.delegate) before.outcome now.outcome)
-  pub part : (made : Option Made) (s : Sources) → Stands given (w.told before.worktree) (f.holds before.objects) before.rules blocked made s → NotIncreased (w.faults before.worktree) (w.faults now.worktree)
+  pub part : (made : Option StackSetup) (s : Sources) → Stands given (w.told before.worktree) (f.holds before.objects) before.rules blocked made s → NotIncreased (w.faults before.worktree) (w.faults now.worktree)
       → d.is_default before.delegate ≡ true
       → OnErr result (IsPart given.options (directory_told given made s path class) (d.given before.delegate) (d.given now.delegate) before.outcome now.outcome)
-  pub refused : (made : Option Made) (s : Sources) → Stands given (w.told before.worktree) (f.holds before.objects) before.rules blocked made s → d.is_default before.delegate ≡ true
+  pub refused : (made : Option StackSetup) (s : Sources) → Stands given (w.told before.worktree) (f.holds before.objects) before.rules blocked made s → d.is_default before.delegate ≡ true
       → IfErr result (OnRefused (DirectoryRefuses given made s limit (Increased (w.faults before.worktree) (w.faults now.worktree)) path class))
 
 -- Over any worktree: what a refusal is about, and what it says of a told tree; what the delegate is given, how it ends and what it leaves.
 pub record RootAny {W F I D : Type 0} (w : WorktreeOf W) (f : FindOf F) (i : InterruptOf I) (d : DelegateOf D) (before now : Moment W F I D) (given : Setting) (limit : ℕ) (path : List ℕ) (result : Result Handed Stop) : Type 0 where
   pub about : IfErr result (OnRefused (IsAboutFrom (made_with before.rules) given.root path limit))
   pub found : (s : Sources) → w.told before.worktree ≡ Some s.tree → IfErr result (OnRefused (IsInTree given.root (f.holds before.objects) s (made_with before.rules)))
-  pub hands : Hands path (once_within path) (d.given before.delegate) (d.given now.delegate) before.outcome now.outcome result
+  pub hands : HandsUpEntryAt path (once_within path) (d.given before.delegate) (d.given now.delegate) before.outcome now.outcome result
   pub filtered : AddsShown given.options (d.given before.delegate) (d.given now.delegate)
   pub ends : EndsThere w f i d before now result
 

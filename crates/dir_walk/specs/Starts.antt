@@ -2,7 +2,7 @@
 use Rattle.std.specs.Prelude.{◌≡◌, ℕ, true, false, not, ◌&&◌, List, [], ◌∷◌, Option, Some, Result, IfErr, OnOk, OnErr}
 use Rattle.gitbase_core.specs.Path.{is_empty}
 use Rattle.worktree_stack.specs.Reading.{Sources}
-use Rattle.worktree_stack.specs.Setup.{Made}
+use Rattle.worktree_stack.specs.Setup.{StackSetup}
 use Rattle.dir_classify.specs.declared.classify.RootOutcome.{RootOutcome}
 use Rattle.dir_classify.specs.declared.error.Error.{Error}
 use Rattle.dir_classify.specs.declared.error.Error.TheVariants as errors
@@ -22,7 +22,7 @@ use Rattle.dir_walk.specs.WalkRefused.{OnNoStart}
 use Rattle.dir_walk.specs.Walked.{Walked}
 
 -- It gives all that is walked from there, and the rules of all paths on the way could be read.
-pub record StartGives (given : Setting) (made : Option Made) (s : Sources) (root : List ℕ) (limit : ℕ) (before after : Option (List Emission)) (start stop : Outcome) : Type 0 where
+pub record StartGives (given : Setting) (made : Option StackSetup) (s : Sources) (root : List ℕ) (limit : ℕ) (before after : Option (List Emission)) (start stop : Outcome) : Type 0 where
   pub w : Walked
   pub walked_is : walked_at given made s root ≡ Some w
   pub read : (way_to given made s root).is_unread ≡ false

@@ -5,7 +5,7 @@ use Rattle.gitbase_core.specs.Path.{is_empty}
 use Rattle.worktree_fs.specs.Tree.{Names, Look, look}
 use Rattle.worktree_fs.specs.Paths.{full_path}
 use Rattle.worktree_stack.specs.Reading.{Sources}
-use Rattle.worktree_stack.specs.Setup.{Made}
+use Rattle.worktree_stack.specs.Setup.{StackSetup}
 use Rattle.worktree_stack.specs.Stacked.{Stacked}
 use Rattle.dir_classify.specs.declared.classify.Outcome.{Outcome}
 use Rattle.dir_classify.specs.Evidence.{Evidence}
@@ -22,16 +22,16 @@ abbrev pub look_directory : Setting → Names → List ℕ → Look
 look_directory given t path = look t (full_path given.root path) (is_empty path)
 
 -- what a name in a directory gives that is entered, by its path
-abbrev pub item_told : Setting → Option Made → Sources → List ℕ → Walked
+abbrev pub item_told : Setting → Option StackSetup → Sources → List ℕ → Walked
 item_told given made s path = item_at given.options (evidence given made s) path (look_name given s.tree path)
 
 -- what a directory of a class gives that is entered
-abbrev pub directory_told : Setting → Option Made → Sources → List ℕ → Outcome → Walked
+abbrev pub directory_told : Setting → Option StackSetup → Sources → List ℕ → Outcome → Walked
 directory_told given made s d c = entered_at given.options (evidence given made s) d c (look_directory given s.tree d)
 
 -- where a walk stands: the worktree tells a tree, the store, where there are rules, objects, the rules were made so and are in
 -- step with them, and the directory that must not go is this one, if there is one
-pub record Stands (given : Setting) (told : Option Names) (holds : Option Objects) (excludes : Option Stacked) (blocked : Option (List ℕ)) (made : Option Made) (s : Sources) : Type 0 where
+pub record Stands (given : Setting) (told : Option Names) (holds : Option Objects) (excludes : Option Stacked) (blocked : Option (List ℕ)) (made : Option StackSetup) (s : Sources) : Type 0 where
   pub tree : told ≡ Some s.tree
   pub objects : is_some made ≡ true → holds ≡ Some s.objects
   pub made_is : made_with excludes ≡ made

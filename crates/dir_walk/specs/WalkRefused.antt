@@ -11,7 +11,7 @@ use Rattle.worktree_fs.specs.Tree.{look}
 use Rattle.worktree_stack.specs.declared.error.AtPathError.{AtPathError}
 use Rattle.worktree_stack.specs.Reading.{Sources}
 use Rattle.worktree_stack.specs.Refused as lookups
-use Rattle.worktree_stack.specs.Setup.{Made}
+use Rattle.worktree_stack.specs.Setup.{StackSetup}
 use Rattle.dir_classify.specs.declared.classify.Outcome.{Outcome}
 use Rattle.dir_classify.specs.declared.entry.Kind.TheVariants.{Directory, Repository}
 use Rattle.dir_classify.specs.declared.error.Error.{Error}
@@ -36,14 +36,14 @@ use Rattle.dir_walk.specs.Walked.{Walked, nothing}
 -- ---- from a traversal root on: what holds of any worktree
 
 -- the lookup of a normal path on the way to the traversal root was refused
-pub record IsWayAccess (root : List ℕ) (made : Made) (e : AtPathError) : Type 0 where
+pub record IsWayAccess (root : List ℕ) (made : StackSetup) (e : AtPathError) : Type 0 where
   pub path : List ℕ
   pub normal : is_normal path ≡ true
   pub leads : LeadsTo root path
   pub access : IsAccess made path e
 
 -- what a refusal says of the worktree root, the traversal root, the rules and the limit
-abbrev pub StartAbout : Option Made → List ℕ → List ℕ → ℕ → Error → Type 0
+abbrev pub StartAbout : Option StackSetup → List ℕ → List ℕ → ℕ → Error → Type 0
 StartAbout made top root limit errors.Interrupted = Unit {0}
 StartAbout made top root limit (errors.WorktreeRootIsFile path) = (path ≡ top) × (root ≡ [])
 StartAbout made top root limit (errors.NormalizeRoot path) = ⊥
@@ -58,7 +58,7 @@ StartAbout made top root limit errors.OutOfMemory = Unit {0}
 -- ---- what holds over a told tree
 
 -- what it says of the tree, and, where the store holds these objects, of the rules, whether or not they are in step
-abbrev pub StartFound : List ℕ → Option Objects → Sources → Option Made → Error → Type 0
+abbrev pub StartFound : List ℕ → Option Objects → Sources → Option StackSetup → Error → Type 0
 StartFound top holds s made errors.Interrupted = Unit {0}
 StartFound top holds s made (errors.WorktreeRootIsFile path) = Unit {0}
 StartFound top holds s made (errors.NormalizeRoot path) = ⊥
@@ -82,7 +82,7 @@ abbrev pub IsNoDirectory : Setting → Sources → Type 0
 IsNoDirectory given s = kind_of (look s.tree given.root false) ≢ Some nodes.Directory
 
 -- there is nothing to walk: the traversal root is the worktree root, which is not entered and is no directory
-pub record IsNoRoot (given : Setting) (made : Option Made) (s : Sources) (root : List ℕ) : Type 0 where
+pub record IsNoRoot (given : Setting) (made : Option StackSetup) (s : Sources) (root : List ℕ) : Type 0 where
   pub top : root ≡ []
   pub unentered : is_root_entered given.options (evidence given made s) (way_to given made s root) ≡ false
   pub not_walked : walked_at given made s root ≡ None
@@ -104,14 +104,14 @@ recursion_of d d0 d1 = record { is_default = d.is_default d0; before = d.refusal
 
 -- The worktree root is no directory, and is not entered: its status says so, or the delegate refused it, which counted that, and does
 -- not recurse by default.
-pub record IsNoTop (given : Setting) (made : Option Made) (s : Sources) (recursion : Recursion) : Type 0 where
+pub record IsNoTop (given : Setting) (made : Option StackSetup) (s : Sources) (recursion : Recursion) : Type 0 where
   pub node : IsNoDirectory given s
   pub unentered : recursion.is_default ≡ true → is_root_entered given.options (evidence given made s) (way_to given made s []) ≡ false
   pub answered : IsAnswered (is_root_entered given.options (evidence given made s) (way_to given made s [])) false recursion.before recursion.after
 
 -- the lookup of a path on the way to the traversal root was refused, by a rules file or a blob that is refused; the way
 -- asks rules that cannot be read, unless the store failed
-pub record IsNoWay (given : Setting) (made : Option Made) (s : Sources) (root : List ℕ) (rules : Made) (StoreFailed : Type 0) (e : AtPathError) : Type 0 where
+pub record IsNoWay (given : Setting) (made : Option StackSetup) (s : Sources) (root : List ℕ) (rules : StackSetup) (StoreFailed : Type 0) (e : AtPathError) : Type 0 where
   pub path : List ℕ
   pub leads : LeadsTo root path
   pub access : IsAccess rules path e
@@ -128,20 +128,20 @@ IsHeldDirectory o ev path c =
     ⊎ ((is_ignored_status c.status ≡ true) × (is_repository c.disk_kind ≡ true))
 
 -- the whole path of the traversal root, which is entered though its names cannot be listed
-pub record IsBrokenRoot (given : Setting) (made : Option Made) (s : Sources) (root : List ℕ) (why : ListError) (path : List ℕ) : Type 0 where
+pub record IsBrokenRoot (given : Setting) (made : Option StackSetup) (s : Sources) (root : List ℕ) (why : ListError) (path : List ℕ) : Type 0 where
   pub path_is : path ≡ full_path given.root root
   pub entered : is_root_entered given.options (evidence given made s) (way_to given made s root) ≡ true
   pub node : list_of (look_root given s.tree root) ≡ Err why
   pub held : IsHeldDirectory given.options (evidence given made s) root (way_to given made s root).class
 
-abbrev pub IsUnlistedRoot : Setting → Option Made → Sources → List ℕ → List ℕ → ReadWhy → Type 0
+abbrev pub IsUnlistedRoot : Setting → Option StackSetup → Sources → List ℕ → List ℕ → ReadWhy → Type 0
 IsUnlistedRoot given made s root path reads.Absent = IsBrokenRoot given made s root lists.Absent path
 IsUnlistedRoot given made s root path reads.NotADirectory = IsBrokenRoot given made s root lists.NotADirectory path
 IsUnlistedRoot given made s root path reads.Fault = Unit {0}
 
 -- The refusal of a walk from a traversal root on. `made` is what the rules were made with, and `StoreFailed` says that the store
 -- failed.
-abbrev pub StartRefuses : Setting → Option Made → Sources → List ℕ → ℕ → Type 0 → Error → Type 0
+abbrev pub StartRefuses : Setting → Option StackSetup → Sources → List ℕ → ℕ → Type 0 → Error → Type 0
 StartRefuses given made s root limit StoreFailed errors.Interrupted = Unit {0}
 StartRefuses given made s root limit StoreFailed (errors.WorktreeRootIsFile path) = IsNoRoot given made s root
 StartRefuses given made s root limit StoreFailed (errors.NormalizeRoot path) = ⊥
@@ -185,16 +185,16 @@ OnNoStart Holds errors.OutOfMemory = Unit {0}
 -- ---- the whole: there is no traversal root, or what is walked from it is refused
 
 -- what a refusal says of what was handed in
-abbrev pub WalkAbout : Setting → Option Made → Option (List ℕ) → ℕ → Error → Type 0
+abbrev pub WalkAbout : Setting → Option StackSetup → Option (List ℕ) → ℕ → Error → Type 0
 WalkAbout given made explicit limit e = RootAbout given explicit e ⊎ ((root : List ℕ) × IsNormalized given explicit root × StartAbout made given.root root limit e)
 
 -- what it says of the tree, the store and the rules
-abbrev pub WalkFound : Setting → Option Made → Option (List ℕ) → Option Objects → Sources → Error → Type 0
+abbrev pub WalkFound : Setting → Option StackSetup → Option (List ℕ) → Option Objects → Sources → Error → Type 0
 WalkFound given made explicit holds s e = EndsIn (traversal_root given s.tree explicit) e ⊎ StartFound given.root holds s made e
 
 -- and what where the rules are in step too, a delegate recurses by default, and the worktree did not fail; `StoreFailed` says that
 -- the store did
-abbrev pub WalkRefuses : Setting → Option Made → Sources → Option (List ℕ) → ℕ → Type 0 → Error → Type 0
+abbrev pub WalkRefuses : Setting → Option StackSetup → Sources → Option (List ℕ) → ℕ → Type 0 → Error → Type 0
 WalkRefuses given made s explicit limit StoreFailed e =
     EndsIn (traversal_root given s.tree explicit) e
     ⊎ ((root : List ℕ) × (traversal_root given s.tree explicit ≡ rooted root) × StartRefuses given made s root limit StoreFailed e)

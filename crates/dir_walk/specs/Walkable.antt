@@ -8,7 +8,7 @@ use Rattle.worktree_fs.specs.Answers.{kind_of}
 use Rattle.worktree_fs.specs.Paths.{full_path, spelled, all_but_last}
 use Rattle.worktree_fs.specs.Tree.{Names, Look, look, found, absent, too_many_links, file, link, directory, other}
 use Rattle.worktree_stack.specs.Reading.{Place, Sources, in_store, in_tree, places_of}
-use Rattle.worktree_stack.specs.Setup.{Made}
+use Rattle.worktree_stack.specs.Setup.{StackSetup}
 use Rattle.dir_classify.specs.declared.entry.Kind.TheVariants.{Directory, Repository}
 use Rattle.dir_classify.specs.Chosen.{Chosen}
 use Rattle.dir_classify.specs.Class.{is_worktree}
@@ -49,7 +49,7 @@ is_fit s (in_tree path follow) = is_fit_file (look s.tree path follow)
 is_fit s (in_store path id) = is_fit_object (object_at s.objects id)
 
 -- so is each place for the rules of each directory above a path
-abbrev pub AreFitAbove : Sources → Made → List ℕ → Type 0
+abbrev pub AreFitAbove : Sources → StackSetup → List ℕ → Type 0
 AreFitAbove s made path =
     (above rest : List (List ℕ)) → all_but_last (components path) ≡ above ++ rest → list_all (is_fit s) (places_of made (spelled above)) ≡ true
 
@@ -62,11 +62,11 @@ IsHeldAs o ev path = ((ev.in_index path).up_to_date ≡ Some Directory) ⊎ ((ev
 -- ---- the whole
 
 -- what is walked from a traversal root, if something is
-abbrev pub walked_if_any : Setting → Option Made → Sources → List ℕ → Walked
+abbrev pub walked_if_any : Setting → Option StackSetup → Sources → List ℕ → Walked
 walked_if_any given made s start = walked_or_nothing (walked_at given made s start)
 
 -- A work tree, an index, rules and a limit over which a walk is not refused, as long as nothing fails.
-pub record IsWalkable (given : Setting) (made : Option Made) (s : Sources) (explicit : Option (List ℕ)) (limit : ℕ) : Type 0 where
+pub record IsWalkable (given : Setting) (made : Option StackSetup) (s : Sources) (explicit : Option (List ℕ)) (limit : ℕ) : Type 0 where
   -- The worktree root is a directory, and no link.
   pub top : IsDirectory s.tree given.root
   -- The traversal root lies within, and its components are there and no links.
@@ -84,5 +84,5 @@ pub record IsWalkable (given : Setting) (made : Option Made) (s : Sources) (expl
   pub depth : (path : List ℕ) → is_to_enter path (walked_if_any given made s start) ≡ true → depth_of path ≤ limit
 
 -- What may be handed in so that a walk is not refused as long as nothing fails: there is a report, or each of these items holds.
-abbrev pub IsValid : Setting → Option Made → Sources → Option (List ℕ) → ℕ → Type 0
+abbrev pub IsValid : Setting → Option StackSetup → Sources → Option (List ℕ) → ℕ → Type 0
 IsValid given made s explicit limit = (is_some (report given made s explicit limit) ≡ true) ⊎ IsWalkable given made s explicit limit

@@ -41,8 +41,8 @@ pub record Walked : Type 0 where
 abbrev pub nothing : Walked
 nothing = record { out = []; up = []; blocks = false; merged = 0; entered = []; broken = []; asked = []; met = []; folds = [] }
 
-abbrev pub both : Walked → Walked → Walked
-both a b =
+abbrev pub merge_walked : Walked → Walked → Walked
+merge_walked a b =
     record {
       out = a.out ++ b.out;
       up = a.up ++ b.up;
@@ -170,7 +170,7 @@ unfoldable mutual
 
   pub items : Chosen → Evidence → List ℕ → Names → Walked
   items o ev d none = nothing
-  items o ev d (named name node rest) = both (item o ev (joined d name) node) (items o ev d rest)
+  items o ev d (named name node rest) = merge_walked (item o ev (joined d name) node) (items o ev d rest)
 
 -- what a path gives whose directory is entered, by what it leads to; where that is nothing it is no directory
 abbrev pub item_at : Chosen → Evidence → List ℕ → Look → Walked

@@ -10,7 +10,7 @@ use Rattle.worktree_fs.specs.Paths.{full_path}
 use Rattle.worktree_fs.specs.Tree.{Names}
 use Rattle.worktree_stack.specs.Lookups.{refused_one}
 use Rattle.worktree_stack.specs.Reading.{Sources}
-use Rattle.worktree_stack.specs.Setup.{Made}
+use Rattle.worktree_stack.specs.Setup.{StackSetup}
 use Rattle.worktree_stack.specs.Stacked.{Stacked}
 use Rattle.dir_classify.specs.declared.error.Error.{Error}
 use Rattle.dir_classify.specs.declared.error.Error.TheVariants.{OutOfMemory}
@@ -29,7 +29,7 @@ use Rattle.dir_walk.specs.Covered.{Covers, as_matching, without_folding}
 use Rattle.dir_walk.specs.Emissions.{Emission}
 use Rattle.dir_walk.specs.Emits.{IsAmong}
 use Rattle.dir_walk.specs.Given.{listed}
-use Rattle.dir_walk.specs.Kept.{AsksInterrupt, Caused, Heeds, KeepsDelegate, KeepsTree, OnInterrupt, OnListingFault}
+use Rattle.dir_walk.specs.Kept.{AsksInterrupt, RefusalsHaveCauses, HeedsDelegateBreak, KeepsDelegate, KeepsTree, OnInterrupt, OnListingFault}
 use Rattle.dir_walk.specs.Opens.{count_within, IsListed, reads_rules_alone}
 use Rattle.dir_walk.specs.Puts.{AddsAtMost, AddsShown, hidden_in, once_at, once_within}
 use Rattle.dir_walk.specs.Report.{counts, is_walk_refused, out_of, shown}
@@ -90,7 +90,7 @@ EntersFrom w f d w0 w1 o0 old d0 given root limit spare opened =
 -- entered, and before each of them, and before one was found too deep, the interrupt was asked, and once more where it was raised. The
 -- worktree counted each as listed, or where subtrees are walked at once, over forks, at most one. Where files are read for their
 -- rules alone, the rules are ignore rules alone, and all is read over this worktree, it was read at most once for each and once for each component of the traversal root; a refusal may come with one more.
-pub record OpensDirectories {W I T : Type 0} (w : WorktreeOf W) (i : InterruptOf I) (w0 w1 : W) (i0 i1 : I) (strategy : Strategy) (given : Setting) (made : Option Made) (explicit : Option (List ℕ))
+pub record OpensDirectories {W I T : Type 0} (w : WorktreeOf W) (i : InterruptOf I) (w0 w1 : W) (i0 i1 : I) (strategy : Strategy) (given : Setting) (made : Option StackSetup) (explicit : Option (List ℕ))
     (outcome_of : T → Outcome) (path_of : T → List ℕ) (result : Result T Error) (Within : ℕ → Type 0) : Type 0 where
   pub opened : ℕ
   pub within : Within opened
@@ -145,14 +145,14 @@ pub record Ends {W F I D T : Type 0} (w : WorktreeOf W) (f : FindOf F) (i : Inte
   pub rules : KeepsRules w f w0 w1 o0 old new
   pub interrupt : AsksInterrupt i i0 i1
   pub delegate : KeepsDelegate d d0 d1
-  pub heeds : Heeds d d0 d1 result
-  pub caused : Caused w f i w0 w1 o0 o1 i0 i1 result
+  pub heeds : HeedsDelegateBreak d d0 d1 result
+  pub caused : RefusalsHaveCauses w f i w0 w1 o0 o1 i0 i1 result
 
 -- ---- what is given
 
 -- Besides what was given before, the entries of a walk that are shown, in whatever order: no path stands twice, none
 -- hides what may not be lost, and they cover what the same walk without folding shows.
-pub record GivesEntries (given : Setting) (made : Option Made) (s : Sources) (explicit : Option (List ℕ)) (walk : Walk) (front : List Emission) (after : Option (List Emission)) : Type 0 where
+pub record GivesEntries (given : Setting) (made : Option StackSetup) (s : Sources) (explicit : Option (List ℕ)) (walk : Walk) (front : List Emission) (after : Option (List Emission)) : Type 0 where
   pub more : List Emission
   pub after_is : after ≡ Some (front ++ more)
   pub same : IsPermutation more (shown given.options (out_of walk.gives))
@@ -161,7 +161,7 @@ pub record GivesEntries (given : Setting) (made : Option Made) (s : Sources) (ex
       (λ unfolded. Covers walk.gives.folds more (shown (as_matching given.options) (out_of unfolded.gives)))
 
 -- A whole walk: the report is defined, and this is what it says, with its counts and the whole path of its traversal root.
-pub record WalkGives (given : Setting) (made : Option Made) (s : Sources) (explicit : Option (List ℕ)) (limit : ℕ) (before after : Option (List Emission)) (r : Outcome × List ℕ) : Type 0 where
+pub record WalkGives (given : Setting) (made : Option StackSetup) (s : Sources) (explicit : Option (List ℕ)) (limit : ℕ) (before after : Option (List Emission)) (r : Outcome × List ℕ) : Type 0 where
   pub walk : Walk
   pub walk_is : walk_in given made s explicit ≡ Some walk
   pub whole : is_walk_refused limit (evidence given made s) walk ≡ false

@@ -6,15 +6,15 @@ ghost use Rattle.dir_classify.specs.Excludes.{made_with, tells_excludes};
 ghost use Rattle.dir_classify.specs.Kept.{KeepsRules};
 ghost use Rattle.dir_classify.specs.Layers.{setting_of, IsLookupIf};
 ghost use Rattle.dir_walk.specs.Moments.{AreSame, moment};
-ghost use Rattle.dir_walk.specs.WalkSteps.{EntersStep, WalksAny, WalksTold, at_directory, at_name, over_forks};
+ghost use Rattle.dir_walk.specs.WalkSteps.{OpensAtMostEntered, WalksAny, WalksTold, at_directory, at_name, CountsOpenedByForks};
 
-use crate::close::{close, close_empty, leaf_class};
+use crate::close::{close_empty, fold_or_emit_held, leaf_class};
 use crate::delegate::Delegate;
 use crate::directory::class_of;
-use crate::emit::put_leaf;
+use crate::emit::hold_or_emit_leaf;
 use crate::handed::{Handed, Held, Stop};
 use crate::jobs::walk_job;
-use crate::open::{is_entered, open, too_deep};
+use crate::open::{is_entered, list_directory, too_deep};
 use crate::parts::Parts;
 use crate::place::Place;
 use dir_classify::{Shared, classify};
@@ -53,9 +53,9 @@ fn walk_child<W: Worktree, F: Find, I: Interrupt, M: Matcher, D: Delegate>(
         (setting_of M.Matcher shared.now) blocked.now levels
         (at_name place.old.path name.now) result }
     // How the directories that are opened are counted, and how many they are at most.
-    ensures opens { over_forks W.Worktree I.Interrupt 0
+    ensures opens { CountsOpenedByForks W.Worktree I.Interrupt 0
         (moment parts.old) (moment parts.new)
-        result (EntersStep W.Worktree F.Find D.Delegate
+        result (OpensAtMostEntered W.Worktree F.Find D.Delegate
         (moment parts.old) (moment parts.new)
         (setting_of M.Matcher shared.now) blocked.now levels
         (at_name place.old.path name.now) result) }
@@ -84,11 +84,11 @@ fn walk_child<W: Worktree, F: Find, I: Interrupt, M: Matcher, D: Delegate>(
             return Err(Stop::Refused(too_deep(alloc, place, parts.interrupt)));
         }
         let handed = walk_job(alloc, shared, blocked, place, &class, levels - 1, parts);
-        place.leave(cut, &handed);
+        place.truncate_to_directory(cut, &handed);
         return handed;
     }
     let class = leaf_class(alloc, shared, place, &class, parts.worktree)?;
-    let handed = put_leaf(
+    let handed = hold_or_emit_leaf(
         alloc,
         &shared.options,
         path,
@@ -96,7 +96,7 @@ fn walk_child<W: Worktree, F: Find, I: Interrupt, M: Matcher, D: Delegate>(
         parts.delegate,
         parts.outcome,
     );
-    place.leave(cut, &handed);
+    place.truncate_to_directory(cut, &handed);
     handed
 }
 
@@ -127,9 +127,9 @@ pub(crate) fn walk_children<W: Worktree, F: Find, I: Interrupt, M: Matcher, D: D
         (setting_of M.Matcher shared.now) blocked.now levels
         (at_directory place.old.path class.now) result }
     // How the directories that are opened are counted, and how many they are at most.
-    ensures opens { over_forks W.Worktree I.Interrupt 1
+    ensures opens { CountsOpenedByForks W.Worktree I.Interrupt 1
         (moment parts.old) (moment parts.new)
-        result (EntersStep W.Worktree F.Find D.Delegate
+        result (OpensAtMostEntered W.Worktree F.Find D.Delegate
         (moment parts.old) (moment parts.new)
         (setting_of M.Matcher shared.now) blocked.now levels
         (at_directory place.old.path class.now) result) }
@@ -138,7 +138,7 @@ pub(crate) fn walk_children<W: Worktree, F: Find, I: Interrupt, M: Matcher, D: D
         parts.old.objects.now parts.old.excludes.now parts.new.excludes.now }
 {
     let path = place.path();
-    let names = open(alloc, place, parts.worktree, parts.interrupt, parts.outcome)?;
+    let names = list_directory(alloc, place, parts.worktree, parts.interrupt, parts.outcome)?;
     if names.as_slice().is_empty() {
         return close_empty(
             alloc,
@@ -163,9 +163,9 @@ pub(crate) fn walk_children<W: Worktree, F: Find, I: Interrupt, M: Matcher, D: D
             levels,
             parts,
         )?;
-        held.take(alloc, handed)?;
+        held.add_handed(alloc, handed)?;
     }
-    close(
+    fold_or_emit_held(
         alloc,
         shared,
         blocked,

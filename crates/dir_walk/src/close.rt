@@ -3,20 +3,20 @@ ghost use Rattle.std.specs.Prelude.{◌≡◌, true, false, Some, None, Option, 
 ghost use Rattle.worktree_fs.specs.Causes.{NotIncreased};
 ghost use Rattle.worktree_fs.specs.Kept.{Asks};
 ghost use Rattle.worktree_stack.specs.Reading.{Sources};
-ghost use Rattle.worktree_stack.specs.Setup.{Made};
+ghost use Rattle.worktree_stack.specs.Setup.{StackSetup};
 ghost use Rattle.dir_classify.specs.Chosen.{chosen, may_hide_repositories};
 ghost use Rattle.dir_classify.specs.Class.{leaf_class, is_hiding};
 ghost use Rattle.dir_classify.specs.Entries.{entry_at};
 ghost use Rattle.dir_classify.specs.Evidence.{Evidence, is_blocked, is_at};
 ghost use Rattle.dir_classify.specs.Layers.{setting_of, evidence};
 ghost use Rattle.dir_walk.specs.Emits.{Closes, IsPart, folded_of};
-ghost use Rattle.dir_walk.specs.Kept.{KeepsDelegate, Heeds, WantsMemory};
-ghost use Rattle.dir_walk.specs.Puts.{AddsShown, Hands, once_at, once_over};
+ghost use Rattle.dir_walk.specs.Kept.{KeepsDelegate, HeedsDelegateBreak, WantsMemory};
+ghost use Rattle.dir_walk.specs.Puts.{AddsShown, HandsUpEntryAt, once_at, once_over};
 ghost use Rattle.dir_walk.specs.Told.{IsEvidence};
 ghost use Rattle.dir_walk.specs.Walked.{closed, holding, empty_directory, empty_class, match_kind_of, property_without_names};
 
 use crate::delegate::Delegate;
-use crate::emit::{emit_all, emit_collapsed, put_leaf};
+use crate::emit::{emit_all, emit_collapsed, hold_or_emit_leaf};
 use crate::fold::fold;
 use crate::handed::{Handed, Held, Stop};
 use crate::open::deletion_mode;
@@ -49,7 +49,7 @@ pub(crate) fn leaf_class<W: Worktree, M: Matcher>(
     worktree: &mut W,
 ) -> Result<classify::Outcome, OutOfMemory>
     requires { place.now.root ≡ shared.now.worktree_root.now }
-    ensures class { (made : Option Made) (s : Sources) → W.told worktree.old ≡ Some s.tree
+    ensures class { (made : Option StackSetup) (s : Sources) → W.told worktree.old ≡ Some s.tree
         → NotIncreased (W.faults worktree.old) (W.faults worktree.new)
         → IfOk result (λ c. c ≡ leaf_class (chosen shared.now.options)
         (evidence (setting_of M.Matcher shared.now) made s) place.now.path class.now) }
@@ -57,7 +57,7 @@ pub(crate) fn leaf_class<W: Worktree, M: Matcher>(
     ensures reads { may_hide_repositories (chosen shared.now.options).for_deletion ≡ false
         → W.reads worktree.new ≡ W.reads worktree.old }
 {
-    if !is_hiding(&shared.options, class) {
+    if !directory_may_hide_repositories(&shared.options, class) {
         return Ok(*class);
     }
     let disk_kind = maybe_upgrade_to_repository(
@@ -78,7 +78,7 @@ pub(crate) fn leaf_class<W: Worktree, M: Matcher>(
 
 /// Whether a path of a class that is not entered may hide repositories that deletion would take
 /// along.
-fn is_hiding(options: &Options<'_>, class: &classify::Outcome) -> bool
+fn directory_may_hide_repositories(options: &Options<'_>, class: &classify::Outcome) -> bool
     ensures { result ≡ is_hiding (chosen options.now) class.now }
 {
     let may_hide = may_hide_repositories(deletion_mode(options));
@@ -123,15 +123,15 @@ pub(crate) fn close_empty<M: Matcher, D: Delegate>(
     ensures delegate { KeepsDelegate D.Delegate delegate.old delegate.new }
     ensures filtered { AddsShown (chosen shared.now.options) (D.given delegate.old)
         (D.given delegate.new) }
-    ensures heeds { Heeds D.Delegate delegate.old delegate.new result }
-    ensures hands { Hands path.now (once_at path.now) (D.given delegate.old) (D.given delegate.new)
+    ensures heeds { HeedsDelegateBreak D.Delegate delegate.old delegate.new result }
+    ensures hands { HandsUpEntryAt path.now (once_at path.now) (D.given delegate.old) (D.given delegate.new)
         outcome.old outcome.new result }
     ensures entered { outcome.new.read_dir_calls ≡ outcome.old.read_dir_calls }
     ensures memory { WantsMemory result }
 {
     let blocks = is_blocked(blocked, path);
     let class = empty_class(shared, blocks, path, class);
-    let handed = put_leaf(alloc, &shared.options, path, &class, delegate, outcome)?;
+    let handed = hold_or_emit_leaf(alloc, &shared.options, path, &class, delegate, outcome)?;
     Ok(Handed {
         entry: handed.entry,
         blocks,
@@ -187,7 +187,7 @@ fn match_kind_of<M: Matcher>(pathspec: &M, path: &[u8]) -> Option<PathspecMatch>
 /// put out.
 #[tactic(auto, unfolding(crate::specs::Walked::closed))]
 #[inline(never)]
-pub(crate) fn close<M: Matcher, D: Delegate>(
+pub(crate) fn fold_or_emit_held<M: Matcher, D: Delegate>(
     alloc: Global,
     shared: &Shared<'_, M>,
     blocked: &Option<PathText>,
@@ -212,8 +212,8 @@ pub(crate) fn close<M: Matcher, D: Delegate>(
     ensures delegate { KeepsDelegate D.Delegate delegate.old delegate.new }
     ensures filtered { AddsShown (chosen shared.now.options) (D.given delegate.old)
         (D.given delegate.new) }
-    ensures heeds { Heeds D.Delegate delegate.old delegate.new result }
-    ensures hands { Hands path.now (once_over path.now held.entries.items) (D.given delegate.old)
+    ensures heeds { HeedsDelegateBreak D.Delegate delegate.old delegate.new result }
+    ensures hands { HandsUpEntryAt path.now (once_over path.now held.entries.items) (D.given delegate.old)
         (D.given delegate.new) outcome.old outcome.new result }
     ensures entered { outcome.new.read_dir_calls ≡ outcome.old.read_dir_calls }
     ensures memory { WantsMemory result }

@@ -7,29 +7,29 @@ ghost use Rattle.worktree_fs.specs.Kept.{AsksStore};
 ghost use Rattle.worktree_fs.specs.Naming.{IsName};
 ghost use Rattle.worktree_fs.specs.Paths.{full_path, is_normal, spelled};
 ghost use Rattle.worktree_stack.specs.Reading.{Sources};
-ghost use Rattle.worktree_stack.specs.Setup.{Made};
+ghost use Rattle.worktree_stack.specs.Setup.{StackSetup};
 ghost use Rattle.dir_classify.specs.Chosen.{chosen};
 ghost use Rattle.dir_classify.specs.Classes.{Classes};
 ghost use Rattle.dir_classify.specs.Excludes.{made_with, maps_blobs, tells_excludes};
 ghost use Rattle.dir_classify.specs.Kept.{KeepsRules};
-ghost use Rattle.dir_classify.specs.Layers.{setting_of, evidence, IsLookupIf, IsSeenIn};
+ghost use Rattle.dir_classify.specs.Layers.{setting_of, evidence, IsLookupIf, IsNameInIndexDirectory};
 ghost use Rattle.dir_walk.specs.Emits.{Gives, IsPart};
 ghost use Rattle.dir_walk.specs.Given.{OnRefused};
-ghost use Rattle.dir_walk.specs.Kept.{KeepsTree, AsksInterrupt, KeepsDelegate, Heeds, Caused};
+ghost use Rattle.dir_walk.specs.Kept.{KeepsTree, AsksInterrupt, KeepsDelegate, HeedsDelegateBreak, RefusalsHaveCauses};
 ghost use Rattle.dir_walk.specs.Moments.{AreSame, moment};
 ghost use Rattle.dir_walk.specs.Opens.{EntersAtMost, OpensWithin, refused_walk};
-ghost use Rattle.dir_walk.specs.Puts.{AddsShown, Hands, once_within};
+ghost use Rattle.dir_walk.specs.Puts.{AddsShown, HandsUpEntryAt, once_within};
 ghost use Rattle.dir_walk.specs.Refused.{IsAbout, IsInTree, Refuses, DirectoryRefuses};
 ghost use Rattle.dir_walk.specs.Report.{depth_of};
 ghost use Rattle.dir_walk.specs.Told.{Stands, item_told, directory_told};
 ghost use Rattle.dir_walk.specs.Unopened.{deep_walk, unlisted_walk};
-ghost use Rattle.dir_walk.specs.WalkSteps.{EntersStep, WalksAny, WalksTold, at_directory, at_name, over_worktree};
+ghost use Rattle.dir_walk.specs.WalkSteps.{OpensAtMostEntered, WalksAny, WalksTold, at_directory, at_name, CountsOpenedDirectories};
 
-use crate::close::{close, close_empty, leaf_class};
+use crate::close::{close_empty, fold_or_emit_held, leaf_class};
 use crate::delegate::Delegate;
-use crate::emit::put_leaf;
+use crate::emit::hold_or_emit_leaf;
 use crate::handed::{Handed, Held, Stop};
-use crate::open::{is_entered, open, too_deep};
+use crate::open::{is_entered, list_directory, too_deep};
 use crate::outcome::Outcome;
 use crate::parts::Parts;
 use crate::place::Place;
@@ -59,12 +59,12 @@ pub(crate) fn class_of<W: Worktree, F: Find, M: Matcher>(
     requires normal { is_normal path.now ≡ true }
     requires spelled { path.now ≡ spelled (components path.now) }
     requires lookup { IsLookupIf shared.now.index.now shared.now.ignore_case_index_lookup.now }
-    requires seen { IsSeenIn shared.now.index.now path.now name.now beneath.now }
+    requires seen { IsNameInIndexDirectory shared.now.index.now path.now name.now beneath.now }
     requires excludes { tells_excludes (made_with excludes.old) ≡ true }
     ensures { Classes W.Worktree F.Find worktree.old worktree.new objects.old objects.new
         excludes.old excludes.new (setting_of M.Matcher shared.now) path.now None true result }
 {
-    classify::at(
+    classify::classify_in_directory(
         alloc, full, path, name, beneath, None, true, shared, excludes, worktree, objects,
     )
 }
@@ -106,12 +106,14 @@ fn walk_name<W: Worktree, F: Find, I: Interrupt, M: Matcher, D: Delegate>(
         (moment parts.old) (moment parts.new)
         (setting_of M.Matcher shared.now) blocked.now levels
         (at_name place.old.path name.now) result }
-    // How many directories are opened below this place, and how often rules files are read. The
-    // place's own directory was opened before, so it is not among them (0).
-    ensures opens { over_worktree W.Worktree I.Interrupt (chosen shared.now.options)
+    // Some number of directories was opened: the worktree, the walk and the interrupt counted so
+    // many, and over what is told it is at most the number that the walk enters from here, and one
+    // where a listing was refused for want of memory. 0: the place's own directory was opened
+    // before, which bounds how often rules files are read.
+    ensures opens { CountsOpenedDirectories W.Worktree I.Interrupt (chosen shared.now.options)
         (components place.old.path) 0
         (moment parts.old) (moment parts.new)
-        result (EntersStep W.Worktree F.Find D.Delegate
+        result (OpensAtMostEntered W.Worktree F.Find D.Delegate
         (moment parts.old) (moment parts.new)
         (setting_of M.Matcher shared.now) blocked.now levels
         (at_name place.old.path name.now) result) }
@@ -144,11 +146,11 @@ fn walk_name<W: Worktree, F: Find, I: Interrupt, M: Matcher, D: Delegate>(
             return Err(Stop::Refused(too_deep(alloc, place, parts.interrupt)));
         }
         let handed = walk_directory(alloc, shared, blocked, place, &class, levels - 1, parts);
-        place.leave(cut, &handed);
+        place.truncate_to_directory(cut, &handed);
         return handed;
     }
     let class = leaf_class(alloc, shared, place, &class, parts.worktree)?;
-    let handed = put_leaf(
+    let handed = hold_or_emit_leaf(
         alloc,
         &shared.options,
         path,
@@ -156,7 +158,7 @@ fn walk_name<W: Worktree, F: Find, I: Interrupt, M: Matcher, D: Delegate>(
         parts.delegate,
         parts.outcome,
     );
-    place.leave(cut, &handed);
+    place.truncate_to_directory(cut, &handed);
     handed
 }
 
@@ -206,10 +208,10 @@ pub(crate) fn walk_directory<W: Worktree, F: Find, I: Interrupt, M: Matcher, D: 
         (setting_of M.Matcher shared.now) blocked.now levels
         (at_directory place.old.path class.now) result }
     // How the directories that are opened are counted, and how many they are at most.
-    ensures opens { over_worktree W.Worktree I.Interrupt (chosen shared.now.options)
+    ensures opens { CountsOpenedDirectories W.Worktree I.Interrupt (chosen shared.now.options)
         (components place.old.path) 1
         (moment parts.old) (moment parts.new)
-        result (EntersStep W.Worktree F.Find D.Delegate
+        result (OpensAtMostEntered W.Worktree F.Find D.Delegate
         (moment parts.old) (moment parts.new)
         (setting_of M.Matcher shared.now) blocked.now levels
         (at_directory place.old.path class.now) result) }
@@ -223,7 +225,7 @@ pub(crate) fn walk_directory<W: Worktree, F: Find, I: Interrupt, M: Matcher, D: 
     ensures stays { OnOk result (place.new ≡ place.old) }
 {
     let path = place.path();
-    let names = open(alloc, place, parts.worktree, parts.interrupt, parts.outcome)?;
+    let names = list_directory(alloc, place, parts.worktree, parts.interrupt, parts.outcome)?;
     if names.as_slice().is_empty() {
         return close_empty(
             alloc,
@@ -248,9 +250,9 @@ pub(crate) fn walk_directory<W: Worktree, F: Find, I: Interrupt, M: Matcher, D: 
             levels,
             parts,
         )?;
-        held.take(alloc, handed)?;
+        held.add_handed(alloc, handed)?;
     }
-    close(
+    fold_or_emit_held(
         alloc,
         shared,
         blocked,

@@ -4,8 +4,8 @@ ghost use Rattle.dir_classify.specs.Chosen.{chosen};
 ghost use Rattle.dir_classify.specs.Entries.{entry_of, entry_at};
 ghost use Rattle.dir_walk.specs.Emissions.{emission_of, shows, is_shown, is_wanted, is_empty_directory, is_unmatched};
 ghost use Rattle.dir_walk.specs.Emits.{Emits, Within, IsPart, Closes, shown_by, put_plain, put_within};
-ghost use Rattle.dir_walk.specs.Kept.{KeepsDelegate, Heeds, WantsMemory};
-ghost use Rattle.dir_walk.specs.Puts.{AddsShown, Puts, Hands, held_at, once_at};
+ghost use Rattle.dir_walk.specs.Kept.{KeepsDelegate, HeedsDelegateBreak, WantsMemory};
+ghost use Rattle.dir_walk.specs.Puts.{AddsShown, Puts, HandsUpEntryAt, held_at, once_at};
 ghost use Rattle.dir_walk.specs.Walked.{leaf};
 
 use crate::delegate::{Action, Delegate};
@@ -37,7 +37,7 @@ pub(crate) fn emit<D: Delegate>(
     ensures delegate { KeepsDelegate D.Delegate delegate.old delegate.new }
     ensures filtered { AddsShown (chosen options.now) (D.given delegate.old)
         (D.given delegate.new) }
-    ensures heeds { Heeds D.Delegate delegate.old delegate.new result }
+    ensures heeds { HeedsDelegateBreak D.Delegate delegate.old delegate.new result }
     ensures puts { Puts (once_at (entry_of entry.entry).rela_path) (D.given delegate.old)
         (D.given delegate.new) outcome.old outcome.new [] }
     ensures entered { outcome.new.read_dir_calls ≡ outcome.old.read_dir_calls }
@@ -71,7 +71,7 @@ pub(crate) fn emit_all<D: Delegate>(
     ensures delegate { KeepsDelegate D.Delegate delegate.old delegate.new }
     ensures filtered { AddsShown (chosen options.now) (D.given delegate.old)
         (D.given delegate.new) }
-    ensures heeds { Heeds D.Delegate delegate.old delegate.new result }
+    ensures heeds { HeedsDelegateBreak D.Delegate delegate.old delegate.new result }
     ensures puts { Puts (λ path. held_at path held.now) (D.given delegate.old)
         (D.given delegate.new) outcome.old outcome.new [] }
     ensures entered { outcome.new.read_dir_calls ≡ outcome.old.read_dir_calls }
@@ -102,7 +102,7 @@ pub(crate) fn emit_collapsed<D: Delegate>(
     ensures delegate { KeepsDelegate D.Delegate delegate.old delegate.new }
     ensures filtered { AddsShown (chosen options.now) (D.given delegate.old)
         (D.given delegate.new) }
-    ensures heeds { Heeds D.Delegate delegate.old delegate.new result }
+    ensures heeds { HeedsDelegateBreak D.Delegate delegate.old delegate.new result }
     ensures puts { Puts (λ path. held_at path held.now) (D.given delegate.old)
         (D.given delegate.new) outcome.old outcome.new [] }
     ensures entered { outcome.new.read_dir_calls ≡ outcome.old.read_dir_calls }
@@ -130,7 +130,7 @@ fn emit_merged<D: Delegate>(
     ensures delegate { KeepsDelegate D.Delegate delegate.old delegate.new }
     ensures filtered { AddsShown (chosen options.now) (D.given delegate.old)
         (D.given delegate.new) }
-    ensures heeds { Heeds D.Delegate delegate.old delegate.new result }
+    ensures heeds { HeedsDelegateBreak D.Delegate delegate.old delegate.new result }
     ensures puts { Puts (once_at entry.now.rela_path) (D.given delegate.old)
         (D.given delegate.new) outcome.old outcome.new [] }
     ensures entered { outcome.new.read_dir_calls ≡ outcome.old.read_dir_calls }
@@ -153,7 +153,7 @@ fn emit_merged<D: Delegate>(
 /// A path that is not entered: it is handed up, or put out.
 #[tactic(auto, unfolding(crate::specs::Walked::leaf))]
 #[inline(never)]
-pub(crate) fn put_leaf<D: Delegate>(
+pub(crate) fn hold_or_emit_leaf<D: Delegate>(
     alloc: Global,
     options: &Options<'_>,
     path: &[u8],
@@ -170,8 +170,8 @@ pub(crate) fn put_leaf<D: Delegate>(
     ensures delegate { KeepsDelegate D.Delegate delegate.old delegate.new }
     ensures filtered { AddsShown (chosen options.now) (D.given delegate.old)
         (D.given delegate.new) }
-    ensures heeds { Heeds D.Delegate delegate.old delegate.new result }
-    ensures hands { Hands path.now (once_at path.now) (D.given delegate.old) (D.given delegate.new)
+    ensures heeds { HeedsDelegateBreak D.Delegate delegate.old delegate.new result }
+    ensures hands { HandsUpEntryAt path.now (once_at path.now) (D.given delegate.old) (D.given delegate.new)
         outcome.old outcome.new result }
     ensures entered { outcome.new.read_dir_calls ≡ outcome.old.read_dir_calls }
     ensures memory { WantsMemory result }

@@ -5,13 +5,13 @@ ghost use Rattle.worktree_fs.specs.Causes.{NotIncreased};
 ghost use Rattle.worktree_fs.specs.Kept.{Asks};
 ghost use Rattle.worktree_fs.specs.Paths.{is_normal, spelled};
 ghost use Rattle.worktree_stack.specs.Reading.{Sources};
-ghost use Rattle.worktree_stack.specs.Setup.{Made};
+ghost use Rattle.worktree_stack.specs.Setup.{StackSetup};
 ghost use Rattle.dir_classify.specs.Chosen.{chosen};
 ghost use Rattle.dir_classify.specs.Excludes.{made_with, maps_blobs, tells_excludes};
 ghost use Rattle.dir_classify.specs.Layers.{setting_of, evidence, rest_behind, IsLookupIf};
 ghost use Rattle.dir_walk.specs.declared.strategy.Strategy.TheVariants.{Held};
 ghost use Rattle.dir_walk.specs.Emits.{Emits, Within, put_plain};
-ghost use Rattle.dir_walk.specs.Kept.{KeepsDelegate, Heeds, WantsMemory};
+ghost use Rattle.dir_walk.specs.Kept.{KeepsDelegate, HeedsDelegateBreak, WantsMemory};
 ghost use Rattle.dir_walk.specs.Moments.{AreSame, moment};
 ghost use Rattle.dir_walk.specs.Puts.{AddsShown, Puts, held_at};
 ghost use Rattle.dir_walk.specs.Report.{depth_of};
@@ -65,7 +65,7 @@ fn blocked_directory<W: Worktree, M: Matcher>(
     shared: &Shared<'_, M>,
     worktree: &mut W,
 ) -> Result<Option<PathText>, OutOfMemory>
-    ensures blocked { (made : Option Made) (s : Sources) → W.told worktree.old ≡ Some s.tree
+    ensures blocked { (made : Option StackSetup) (s : Sources) → W.told worktree.old ≡ Some s.tree
         → NotIncreased (W.faults worktree.old) (W.faults worktree.new)
         → IfOk result (λ blocked. (evidence (setting_of M.Matcher shared.now) made s).blocked
         ≡ blocked) }
@@ -106,7 +106,7 @@ fn put_handed<D: Delegate>(
     ensures delegate { KeepsDelegate D.Delegate delegate.old delegate.new }
     ensures filtered { AddsShown (chosen options.now) (D.given delegate.old)
         (D.given delegate.new) }
-    ensures heeds { Heeds D.Delegate delegate.old delegate.new result }
+    ensures heeds { HeedsDelegateBreak D.Delegate delegate.old delegate.new result }
     ensures memory { WantsMemory result }
 {
     match &handed.entry {
@@ -117,7 +117,7 @@ fn put_handed<D: Delegate>(
 
 /// Walks a directory that is entered as the traversal root, as a strategy says, unless it lies too
 /// deep.
-fn walk_deep<W: Worktree, F: Find, I: Interrupt, M: Matcher, D: Delegate>(
+fn walk_within_depth_limit<W: Worktree, F: Find, I: Interrupt, M: Matcher, D: Delegate>(
     alloc: Global,
     shared: &Shared<'_, M>,
     blocked: &Option<PathText>,
@@ -194,9 +194,9 @@ pub(crate) fn walk_entered<W: Worktree, F: Find, I: Interrupt, M: Matcher, D: De
     ensures leaves { EnteredLeaves W.Worktree F.Find I.Interrupt D.Delegate
         (moment parts.old) (moment parts.new) (setting_of M.Matcher shared.now) path.now result }
 {
-    let mut place = Place::at(alloc, shared.worktree_root, path)?;
+    let mut place = Place::from_root_and_path(alloc, shared.worktree_root, path)?;
     let blocked = blocked_directory(alloc, shared, parts.worktree)?;
-    let handed = walk_deep(
+    let handed = walk_within_depth_limit(
         alloc,
         shared,
         &blocked,

@@ -4,7 +4,7 @@ ghost use Rattle.dir_classify.specs.Chosen.{chosen, collapses, collapses_if, is_
 ghost use Rattle.dir_classify.specs.Entries.{entry_at};
 ghost use Rattle.dir_classify.specs.Evidence.{Evidence};
 ghost use Rattle.dir_classify.specs.Evidence as evidence;
-ghost use Rattle.dir_walk.specs.Fold.{IsSmall, are_loose, fold, fold_status, folded_class, folds_expendable, folds_precious, folds_untracked, greatest, has_no_names, is_barring, is_expendable, is_matched, is_picked, is_precious, is_same_status, is_untracked, match_over, may_delete_all, one_if, own_match, property_over, rank_of, shows_collapsed, tally, tally_more};
+ghost use Rattle.dir_walk.specs.Fold.{IsSmall, are_all_untracked_or_ignored, fold, fold_status, folded_class, folds_expendable, folds_precious, folds_untracked, greatest, has_no_names, is_barring, is_expendable, is_matched, is_prefix_or_wildcard_match, is_precious, is_same_status, is_untracked, match_over, may_delete_all, one_if, match_unless_prefix_or_excluded, property_over, rank_of, shows_collapsed, tally, tally_more};
 ghost use Rattle.dir_walk.specs.Walked.{is_held};
 
 use crate::tally::Tally;
@@ -132,7 +132,7 @@ fn tally_more(counts: Tally, entry: &Entry) -> Tally
         expendable: counts.expendable + one_if(is_expendable(entry)),
         precious: counts.precious + one_if(is_precious(entry)),
         barring: counts.barring + one_if(is_barring(entry)),
-        picked: counts.picked + one_if(is_picked(entry)),
+        picked: counts.picked + one_if(is_prefix_or_wildcard_match(entry)),
         without_names: counts.without_names + one_if(has_no_names(entry)),
         always: counts.always + one_if(is_matched(entry, PathspecMatch::Always)),
         excluded: counts.excluded + one_if(is_matched(entry, PathspecMatch::Excluded)),
@@ -187,8 +187,8 @@ fn is_barring(entry: &Entry) -> bool
 }
 
 /// Whether a spec matches an entry by a directory above it or by its wildcards.
-fn is_picked(entry: &Entry) -> bool
-    ensures { result ≡ is_picked entry.now }
+fn is_prefix_or_wildcard_match(entry: &Entry) -> bool
+    ensures { result ≡ is_prefix_or_wildcard_match entry.now }
 {
     let prefixed = is_matched(entry, PathspecMatch::Prefix);
     let wild = is_matched(entry, PathspecMatch::WildcardMatch);
@@ -242,15 +242,15 @@ fn folds_untracked(options: &Options<'_>, counts: &Tally) -> bool
     ensures { result ≡ folds_untracked (chosen options.now) counts.now }
 {
     let some = counts.untracked != 0;
-    let loose = are_loose(counts);
+    let loose = are_all_untracked_or_ignored(counts);
     let deletable = may_delete_all(options, counts);
     collapses(options.emit_untracked) & some & loose & deletable
 }
 
 /// Whether all that is held is untracked or ignored.
-fn are_loose(counts: &Tally) -> bool
+fn are_all_untracked_or_ignored(counts: &Tally) -> bool
     requires { counts.now.untracked + counts.now.expendable + counts.now.precious ≤ counts.now.all }
-    ensures { result ≡ are_loose counts.now }
+    ensures { result ≡ are_all_untracked_or_ignored counts.now }
 {
     counts.untracked + counts.expendable + counts.precious == counts.all
 }
@@ -362,7 +362,7 @@ fn match_over(counts: &Tally, class: &Outcome) -> Option<PathspecMatch>
 {
     match greatest(counts) {
         Some(found) => Some(found),
-        None => own_match(class.pathspec_match),
+        None => match_unless_prefix_or_excluded(class.pathspec_match),
     }
 }
 
@@ -387,8 +387,8 @@ fn greatest(counts: &Tally) -> Option<PathspecMatch>
     None
 }
 
-fn own_match(found: Option<PathspecMatch>) -> Option<PathspecMatch>
-    ensures { result ≡ own_match found }
+fn match_unless_prefix_or_excluded(found: Option<PathspecMatch>) -> Option<PathspecMatch>
+    ensures { result ≡ match_unless_prefix_or_excluded found }
 {
     match found {
         Some(PathspecMatch::Always) => found,

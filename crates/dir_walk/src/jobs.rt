@@ -51,7 +51,7 @@ pub(crate) fn walk_job<W: Worktree, F: Find, I: Interrupt, M: Matcher, D: Delega
         delegate: parts.delegate,
         outcome: parts.outcome,
     };
-    on_worktree(alloc, shared, blocked, place, class, levels, &mut forked)
+    walk_with_worktree_fork(alloc, shared, blocked, place, class, levels, &mut forked)
 }
 
 /// Rules that are made as these were, and of which nothing is pushed.
@@ -66,7 +66,7 @@ fn fresh_rules(alloc: Global, excludes: &Option<Stack>) -> Result<Option<Stack>,
 }
 
 /// The job over a fork of the worktree.
-fn on_worktree<W: Worktree, F: Find, I: Interrupt, M: Matcher, D: Delegate>(
+fn walk_with_worktree_fork<W: Worktree, F: Find, I: Interrupt, M: Matcher, D: Delegate>(
     alloc: Global,
     shared: &Shared<'_, M>,
     blocked: &Option<PathText>,
@@ -94,13 +94,13 @@ fn on_worktree<W: Worktree, F: Find, I: Interrupt, M: Matcher, D: Delegate>(
         delegate: parts.delegate,
         outcome: parts.outcome,
     };
-    let result = on_store(alloc, shared, blocked, place, class, levels, &mut forked);
+    let result = walk_with_store_fork(alloc, shared, blocked, place, class, levels, &mut forked);
     parts.worktree.absorb(fork);
     result
 }
 
 /// The job over a fork of the store.
-fn on_store<W: Worktree, F: Find, I: Interrupt, M: Matcher, D: Delegate>(
+fn walk_with_store_fork<W: Worktree, F: Find, I: Interrupt, M: Matcher, D: Delegate>(
     alloc: Global,
     shared: &Shared<'_, M>,
     blocked: &Option<PathText>,
@@ -127,13 +127,21 @@ fn on_store<W: Worktree, F: Find, I: Interrupt, M: Matcher, D: Delegate>(
         delegate: parts.delegate,
         outcome: parts.outcome,
     };
-    let result = on_interrupt(alloc, shared, blocked, place, class, levels, &mut forked);
+    let result = walk_with_interrupt_fork(
+        alloc,
+        shared,
+        blocked,
+        place,
+        class,
+        levels,
+        &mut forked,
+    );
     parts.objects.absorb(fork);
     result
 }
 
 /// The job over a fork of the interrupt.
-fn on_interrupt<W: Worktree, F: Find, I: Interrupt, M: Matcher, D: Delegate>(
+fn walk_with_interrupt_fork<W: Worktree, F: Find, I: Interrupt, M: Matcher, D: Delegate>(
     alloc: Global,
     shared: &Shared<'_, M>,
     blocked: &Option<PathText>,

@@ -13,7 +13,7 @@ ghost use Rattle.dir_walk.specs.Given.{IsAnswered};
 ghost use Rattle.dir_walk.specs.Kept.{AsksInterrupt};
 ghost use Rattle.dir_walk.specs.Opened.{OpenCaused, OpenCounts};
 ghost use Rattle.dir_walk.specs.Refused.{OpenRefuses, IsDeep, read_error};
-ghost use Rattle.dir_walk.specs.Unopened.{deep_one};
+ghost use Rattle.dir_walk.specs.Unopened.{too_deep_count};
 
 use crate::delegate::Delegate;
 use crate::outcome::Outcome;
@@ -30,7 +30,7 @@ use worktree_fs::{Interrupt, ListError, NameList, Worktree};
 /// See docs/DECISIONS.md#when-interrupt-is-asked.
 /// See docs/DIFFERENCES.md#gix-link-as-directory.
 #[inline(never)]
-pub(crate) fn open<W: Worktree, I: Interrupt>(
+pub(crate) fn list_directory<W: Worktree, I: Interrupt>(
     alloc: Global,
     place: &Place,
     worktree: &mut W,
@@ -102,7 +102,7 @@ pub(crate) fn too_deep<I: Interrupt>(alloc: Global, place: &Place, interrupt: &m
     ensures deep { IsDeep (full_path place.now.root place.now.path)
         (Increased (I.raised interrupt.old) (I.raised interrupt.new)) result }
     ensures interrupt { AsksInterrupt I.Interrupt interrupt.old interrupt.new }
-    ensures asked { with_more (I.questions interrupt.old) (deep_one result
+    ensures asked { with_more (I.questions interrupt.old) (too_deep_count result
         + (I.raised interrupt.new - I.raised interrupt.old)) ≤ I.questions interrupt.new }
 {
     let raised = interrupt.is_raised();

@@ -37,7 +37,11 @@ impl Model for Place {
 impl Place {
     /// The path `path` of a worktree; it is normal: one slash parts each two components, and none
     /// stands at the end.
-    pub fn at(alloc: Global, worktree_root: &[u8], path: &[u8]) -> Result<Place, OutOfMemory>
+    pub fn from_root_and_path(
+        alloc: Global,
+        worktree_root: &[u8],
+        path: &[u8],
+    ) -> Result<Place, OutOfMemory>
         requires normal { is_normal path.now ≡ true }
         requires plain { ends_in_slash path.now ≡ false }
         requires spelled { path.now ≡ spelled (components path.now) }
@@ -91,7 +95,7 @@ impl Place {
     /// Goes back to the directory whose whole path has so many bytes, where the walk of a name in
     /// it ended well. A walk that is refused or broken ends wherever it stands.
     #[inline(never)]
-    pub fn leave(&mut self, cut: usize, handed: &Result<Handed, Stop>)
+    pub fn truncate_to_directory(&mut self, cut: usize, handed: &Result<Handed, Stop>)
         requires { (directory : Standing)
             × OnOk handed.now (IsPushed cut directory self.old) }
         ensures { (directory : Standing)

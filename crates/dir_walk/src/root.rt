@@ -60,7 +60,7 @@ pub(crate) fn traversal_root<W: Worktree, M: Matcher>(
             if is_absolute(path.as_bytes()) {
                 return Err(Error::NormalizeRoot { root: asked });
             }
-            through_components(alloc, shared, path.as_bytes(), worktree)?;
+            check_root_components(alloc, shared, path.as_bytes(), worktree)?;
             Ok(path)
         }
     }
@@ -143,7 +143,7 @@ pub(crate) fn leads_to_directory<W: Worktree>(
 }
 
 /// Goes through the components of a path, of which each is to be there and none a link.
-fn through_components<W: Worktree, M: Matcher>(
+fn check_root_components<W: Worktree, M: Matcher>(
     alloc: Global,
     shared: &Shared<'_, M>,
     path: &[u8],

@@ -3,7 +3,7 @@ ghost use Rattle.std.specs.Prelude.{◌≡◌, ◌&&◌, not, ℕ, List, [], Opt
 ghost use Rattle.worktree_fs.specs.Causes.{NotIncreased, Increased};
 ghost use Rattle.worktree_fs.specs.Kept.{Asks};
 ghost use Rattle.worktree_stack.specs.Reading.{Sources};
-ghost use Rattle.worktree_stack.specs.Setup.{Made};
+ghost use Rattle.worktree_stack.specs.Setup.{StackSetup};
 ghost use Rattle.dir_classify.specs.Chosen.{chosen};
 ghost use Rattle.dir_classify.specs.Excludes.{made_with, maps_blobs, tells_excludes};
 ghost use Rattle.gitbase_core.specs.Path.{is_empty};
@@ -14,7 +14,7 @@ ghost use Rattle.dir_walk.specs.declared.strategy.Strategy.TheVariants.{Held};
 ghost use Rattle.dir_walk.specs.Emissions.{plain};
 ghost use Rattle.dir_walk.specs.Emits.{Emits, shown_by};
 ghost use Rattle.dir_walk.specs.Given.{IsAnswered, OnRefused};
-ghost use Rattle.dir_walk.specs.Kept.{KeepsDelegate, Heeds};
+ghost use Rattle.dir_walk.specs.Kept.{KeepsDelegate, HeedsDelegateBreak};
 ghost use Rattle.dir_walk.specs.Moments.{AreSame, moment};
 ghost use Rattle.dir_walk.specs.Puts.{AddsShown, Puts, once_at};
 ghost use Rattle.dir_walk.specs.Root.{is_root_entered, root_kind};
@@ -47,7 +47,7 @@ fn root_kind<W: Worktree, M: Matcher>(
     reached: &RootOutcome,
     worktree: &mut W,
 ) -> Result<Option<Kind>, OutOfMemory>
-    ensures kind { (made : Option Made) (s : Sources) → W.told worktree.old ≡ Some s.tree
+    ensures kind { (made : Option StackSetup) (s : Sources) → W.told worktree.old ≡ Some s.tree
         → NotIncreased (W.faults worktree.old) (W.faults worktree.new)
         → IfOk result (λ kind. kind ≡ root_kind
         (evidence (setting_of M.Matcher shared.now) made s) (reached_by reached.now false)) }
@@ -82,12 +82,12 @@ fn is_root_entered<W: Worktree, M: Matcher, D: Delegate>(
     worktree: &mut W,
     delegate: &mut D,
 ) -> Result<bool, OutOfMemory>
-    ensures entered { (made : Option Made) (s : Sources) → W.told worktree.old ≡ Some s.tree
+    ensures entered { (made : Option StackSetup) (s : Sources) → W.told worktree.old ≡ Some s.tree
         → NotIncreased (W.faults worktree.old) (W.faults worktree.new)
         → D.is_default delegate.old ≡ true
         → IfOk result (λ entered. entered ≡ is_root_entered (chosen shared.now.options)
         (evidence (setting_of M.Matcher shared.now) made s) (reached_by reached.now false)) }
-    ensures answered { (made : Option Made) (s : Sources) → W.told worktree.old ≡ Some s.tree
+    ensures answered { (made : Option StackSetup) (s : Sources) → W.told worktree.old ≡ Some s.tree
         → NotIncreased (W.faults worktree.old) (W.faults worktree.new)
         → IfOk result (λ entered. IsAnswered (is_root_entered (chosen shared.now.options)
         (evidence (setting_of M.Matcher shared.now) made s) (reached_by reached.now false)) entered
@@ -103,7 +103,7 @@ fn is_root_entered<W: Worktree, M: Matcher, D: Delegate>(
         return Ok(false);
     }
     let kind = root_kind(alloc, shared, reached, worktree)?;
-    let class = seen_as(&reached.outcome, kind);
+    let class = with_disk_kind(&reached.outcome, kind);
     let in_repository = reached.worktree_root_is_repository;
     Ok(is_entered(
         &shared.options,
@@ -115,7 +115,7 @@ fn is_root_entered<W: Worktree, M: Matcher, D: Delegate>(
 }
 
 /// A class with another kind on disk.
-fn seen_as(class: &classify::Outcome, disk_kind: Option<Kind>) -> classify::Outcome
+fn with_disk_kind(class: &classify::Outcome, disk_kind: Option<Kind>) -> classify::Outcome
     ensures { result ≡ record class.now { disk_kind = disk_kind } }
 {
     classify::Outcome {
@@ -132,7 +132,7 @@ fn seen_as(class: &classify::Outcome, disk_kind: Option<Kind>) -> classify::Outc
 /// root that is no directory is refused.
 ///
 /// See docs/DECISIONS.md#nothing-entered.
-fn put_root<D: Delegate, M: Matcher>(
+fn emit_unentered_root<D: Delegate, M: Matcher>(
     alloc: Global,
     shared: &Shared<'_, M>,
     root: &[u8],
@@ -149,10 +149,10 @@ fn put_root<D: Delegate, M: Matcher>(
     ensures delegate { KeepsDelegate D.Delegate delegate.old delegate.new }
     ensures filtered { AddsShown (chosen shared.now.options) (D.given delegate.old)
         (D.given delegate.new) }
-    ensures heeds { Heeds D.Delegate delegate.old delegate.new result }
+    ensures heeds { HeedsDelegateBreak D.Delegate delegate.old delegate.new result }
 {
     let class = &reached.outcome;
-    if is_no_root(root, class) {
+    if is_non_directory_worktree_root(root, class) {
         let root = PathText::from_bytes(alloc, shared.worktree_root)?;
         return Err(Stop::Refused(Error::WorktreeRootIsFile { root }));
     }
@@ -167,7 +167,7 @@ fn put_root<D: Delegate, M: Matcher>(
 }
 
 /// Whether the traversal root is the worktree root, and its class has it as no directory.
-fn is_no_root(root: &[u8], class: &classify::Outcome) -> bool
+fn is_non_directory_worktree_root(root: &[u8], class: &classify::Outcome) -> bool
     ensures { result ≡ (is_empty root.now && not (holds_names class.now.disk_kind)) }
 {
     root.is_empty() & !holds_names(class.disk_kind)
@@ -230,5 +230,5 @@ pub(crate) fn walk_from<W: Worktree, F: Find, I: Interrupt, M: Matcher, D: Deleg
             parts,
         );
     }
-    put_root(alloc, shared, root, &reached, parts.delegate, parts.outcome)
+    emit_unentered_root(alloc, shared, root, &reached, parts.delegate, parts.outcome)
 }

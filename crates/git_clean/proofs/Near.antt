@@ -14,8 +14,8 @@ use Rattle.dir_classify.specs.Kinds.{is_repository}
 use Rattle.ls_files.specs.Others.{with_name}
 use Rattle.worktree_report.specs.SetupMeant.{ordered_after}
 use Rattle.worktree_report.specs.declared.report.ReportEntry.{ReportEntry}
-use Rattle.git_clean.specs.Beneath.{Rise, begins_with, lies_in, path_of, stands_below}
-use Rattle.git_clean.specs.Lines.{line_inside, removes, skip_line, skips}
+use Rattle.git_clean.specs.Beneath.{AreSortedByPath, begins_with, lies_in, path_of, stands_below}
+use Rattle.git_clean.specs.Lines.{line_inside, would_remove_text, skip_line, would_skip_repository_text}
 use Rattle.git_clean.specs.Parts.{free_part, is_left, part_of, parts_of}
 use Rattle.git_clean.specs.Places.{is_kept}
 use Rattle.git_clean.specs.Scenes.{Scene}
@@ -55,12 +55,12 @@ falls : (b : Bool) → true ≡ not b → b ≡ false
 falls true e = absurd (cc e)
 falls false e = refl
 
-pub rise-is : (found : List ReportEntry) (r : Bool) → IsAllAdjacentAnswer (λ x y b. b ≡ not (stands_below y x)) found r → r ≡ true → Rise found
+pub rise-is : (found : List ReportEntry) (r : Bool) → IsAllAdjacentAnswer (λ x y b. b ≡ not (stands_below y x)) found r → r ≡ true → AreSortedByPath found
 rise-is found true h is = λ k d low high. falls (stands_below (get_or found (k + 1) d) (get_or found k d)) (h k d high)
 rise-is found false h is = absurd (cc is)
 
 -- each path stands at or behind all before it
-pub ascends-rise : (found : List ReportEntry) → Rise found → AscendsBy path_of found
+pub ascends-rise : (found : List ReportEntry) → AreSortedByPath found → AscendsBy path_of found
 ascends-rise found up =
     record {
       at = λ i j d low high.
@@ -114,10 +114,10 @@ beneath-run directory found run low is =
 module _ (s : Scene) (directory : List ℕ) where
   skip-none : (e : ReportEntry) → lies_in directory e ≡ false → skip_line s directory e ≡ []
   skip-none e apart =
-      ap (λ (b : Bool). cond (not (s.cleaning.repositories || not (b && is_repository e.entry.disk_kind)) && not (is_kept s e.entry.rela_path)) (line_inside s skips directory e.entry.rela_path) []) apart
+      ap (λ (b : Bool). cond (not (s.cleaning.repositories || not (b && is_repository e.entry.disk_kind)) && not (is_kept s e.entry.rela_path)) (line_inside s would_skip_repository_text directory e.entry.rela_path) []) apart
       ∙ go s.cleaning.repositories
     where
-      go : (r : Bool) → cond (not (r || true) && not (is_kept s e.entry.rela_path)) (line_inside s skips directory e.entry.rela_path) [] ≡ []
+      go : (r : Bool) → cond (not (r || true) && not (is_kept s e.entry.rela_path)) (line_inside s would_skip_repository_text directory e.entry.rela_path) [] ≡ []
       go true = refl
       go false = refl
 
@@ -142,5 +142,5 @@ module _ (s : Scene) (directory : List ℕ) where
     parts-same : parts_of s directory near ≡ parts_of s directory s.found
     parts-same = sym (parts-passing near) ∙ ap (parts_of s directory) same ∙ parts-passing s.found
 
-    pub parts-near : flat_map (line_inside s removes directory) (ordered_after [] (parts_of s directory near)) ≡ flat_map (line_inside s removes directory) (ordered_after [] (parts_of s directory s.found))
-    parts-near = ap (λ (parts : List (List ℕ)). flat_map (line_inside s removes directory) (ordered_after [] parts)) parts-same
+    pub parts-near : flat_map (line_inside s would_remove_text directory) (ordered_after [] (parts_of s directory near)) ≡ flat_map (line_inside s would_remove_text directory) (ordered_after [] (parts_of s directory s.found))
+    parts-near = ap (λ (parts : List (List ℕ)). flat_map (line_inside s would_remove_text directory) (ordered_after [] parts)) parts-same

@@ -69,7 +69,7 @@ module _ {W F I : Type 0} {w : WorktreeOf W} {f : FindOf F} {i : InterruptOf I} 
 
   -- the refusal that stands for that of a report
   pub TellsCleaning-refused : (e : ReportError) (refusal : Refusal) → MakesReport w f i w0 w1 o0 o1 i0 i1 root setup (Err e) → f.holds o0 ≡ Some setup.blobs
-      → NotIncreased (f.faults o0) (f.faults o1) → refusal ≡ converted.of_report e
+      → NotIncreased (f.faults o0) (f.faults o1) → refusal ≡ converted.refusal_of_report_error e
       → words.TellsCleaning w i (w.precomposes w0) w0 w1 i0 i1 root setup c prefix named (Err refusal)
   TellsCleaning-refused e refusal made held kept same =
       record {

@@ -13,8 +13,8 @@ abbrev pub stands_below : ReportEntry → ReportEntry → Bool
 stands_below e other = is_lt (path_cmp (path_of e) (path_of other))
 
 -- the paths do not fall along the entries
-abbrev pub Rise : List ReportEntry → Type 0
-Rise found = IsSortedBy stands_below found
+abbrev pub AreSortedByPath : List ReportEntry → Type 0
+AreSortedByPath found = IsSortedBy stands_below found
 
 -- the path of an entry begins with some bytes
 abbrev pub begins_with : List ℕ → ReportEntry → Bool

@@ -46,8 +46,8 @@ is_stay c e = not c.repositories && (is_repository e.disk_kind || is_marked_dot_
 -- ---- what keeps the directories above an entry from going whole
 
 -- an ignored path; with `-X` any other
-abbrev pub bars : Cleaning → Entry → Bool
-bars c e = if c.ignored_only then not (is_ignored_status e.status) else is_ignored_status e.status
+abbrev pub blocks_whole_removal : Cleaning → Entry → Bool
+blocks_whole_removal c e = if c.ignored_only then not (is_ignored_status e.status) else is_ignored_status e.status
 
 -- a file, a link, or a directory that holds nothing
 abbrev pub is_leaf : Option Kind → Bool
@@ -60,9 +60,9 @@ is_leaf (Some Repository) = false
 
 -- With `-X` and without `-d` git passes over a directory in which all is ignored. What is untracked shows that it is no such one, unless
 -- it lies in a directory that holds a `.git`.
-abbrev pub shows : Cleaning → Entry → Bool
-shows c e = c.ignored_only && (is_untracked e.status && is_leaf e.disk_kind)
+abbrev pub proves_parents_unignored : Cleaning → Entry → Bool
+proves_parents_unignored c e = c.ignored_only && (is_untracked e.status && is_leaf e.disk_kind)
 
 -- the entries for which the directories above are marked; with `-X` and without `-d` those that lie in no directory that holds a `.git`
 abbrev pub marks : Cleaning → Entry → Bool
-marks c e = if c.directories then bars c e else shows c e
+marks c e = if c.directories then blocks_whole_removal c e else proves_parents_unignored c e

@@ -12,7 +12,7 @@ use Rattle.glob_rules.specs.declared.pathspec.Match.{Match}
 use Rattle.glob_rules.specs.declared.pathspec.MatchKind.{MatchKind}
 use Rattle.glob_rules.specs.declared.pathspec.MatchKind.TheVariants.{Always, Prefix, WildcardMatch, Verbatim}
 use Rattle.ls_files.specs.declared.options.NamedSpec.{NamedSpec}
-use Rattle.ls_files.specs.Cached.{takes}
+use Rattle.ls_files.specs.Cached.{is_including_match}
 use Rattle.ls_files.specs.Others.{ends_in_dots, is_out}
 
 -- ---- matches
@@ -55,8 +55,8 @@ abbrev pub is_meant : List ℕ → NamedSpec → Bool
 is_meant d named = is_of_path (list_match named.spec d (Some true)) && asks_for_directory d named
 
 -- A spec settles that a directory goes as a whole: it has a slash at its end, as the name has, or wildcards that match the name.
-abbrev pub settles : List ℕ → List ℕ → NamedSpec → Bool
-settles name d named = is_by_wildcards (list_match named.spec name (Some false)) || is_meant d named
+abbrev pub takes_directory_whole : List ℕ → List ℕ → NamedSpec → Bool
+takes_directory_whole name d named = is_by_wildcards (list_match named.spec name (Some false)) || is_meant d named
 
 -- ---- specs that lead further down
 
@@ -85,15 +85,15 @@ strays d named = is_bare named.text && begins_otherwise (plain_front named.text)
 abbrev pub leads : List ℕ → List ℕ → NamedSpec → Bool
 leads name d named =
     can_match named.spec d
-    && not (settles name d named || (is_from_above (list_match named.spec name (Some true)) || strays d named))
+    && not (takes_directory_whole name d named || (is_from_above (list_match named.spec name (Some true)) || strays d named))
 
 -- ---- all of them
 
 -- the specs match a directory, and none leads further down
 abbrev pub is_whole : List PathSpec → List NamedSpec → List ℕ → List ℕ → Bool
-is_whole specs named name d = takes (list_match specs name (Some true)) && not (list_any (leads name d) named)
+is_whole specs named name d = is_including_match (list_match specs name (Some true)) && not (list_any (leads name d) named)
 
 -- none takes it out, and one settles it, or it is matched as a whole
 abbrev pub is_taken : List PathSpec → List NamedSpec → List ℕ → List ℕ → Bool
 is_taken specs named name d =
-    not (is_out (list_match specs name (Some true))) && (list_any (settles name d) named || is_whole specs named name d)
+    not (is_out (list_match specs name (Some true))) && (list_any (takes_directory_whole name d) named || is_whole specs named name d)

@@ -11,14 +11,14 @@ use Rattle.git_clean.specs.Parts.{is_skipped, parts, refuses_here}
 use Rattle.git_clean.specs.Places.{names}
 use Rattle.git_clean.specs.Scenes.{Scene}
 
-unfoldable pub removes : List ℕ
-removes = codes "Would remove "
+unfoldable pub would_remove_text : List ℕ
+would_remove_text = codes "Would remove "
 
-unfoldable pub skips : List ℕ
-skips = codes "Would skip repository "
+unfoldable pub would_skip_repository_text : List ℕ
+would_skip_repository_text = codes "Would skip repository "
 
-unfoldable pub refusal : List ℕ
-refusal = codes "Would refuse to remove current working directory\n"
+unfoldable pub would_refuse_text : List ℕ
+would_refuse_text = codes "Would refuse to remove current working directory\n"
 
 -- "-q: Be quiet, only report errors, but not the files that are successfully removed."
 abbrev pub line : Cleaning → List ℕ → List ℕ → List ℕ
@@ -35,16 +35,16 @@ abbrev pub line_inside : Scene → List ℕ → List ℕ → List ℕ → List �
 line_inside s words directory path = line s.cleaning words (name_inside s.prefix directory path)
 
 abbrev pub skip_line : Scene → List ℕ → ReportEntry → List ℕ
-skip_line s directory e = if is_skipped s directory e.entry then line_inside s skips directory e.entry.rela_path else []
+skip_line s directory e = if is_skipped s directory e.entry then line_inside s would_skip_repository_text directory e.entry.rela_path else []
 
 abbrev pub skip_lines : Scene → List ℕ → List ℕ
 skip_lines s directory = flat_map (skip_line s directory) s.found
 
 abbrev pub refusal_line : Scene → List ℕ → List ℕ
-refusal_line s directory = if refuses_here s directory then refusal else []
+refusal_line s directory = if refuses_here s directory then would_refuse_text else []
 
 abbrev pub part_lines : Scene → List ℕ → List ℕ
-part_lines s directory = flat_map (line_inside s removes directory) (parts s directory)
+part_lines s directory = flat_map (line_inside s would_remove_text directory) (parts s directory)
 
 -- of a directory that cannot go: what is skipped, the current directory, and what goes of it
 abbrev pub lines_inside : Scene → List ℕ → List ℕ
@@ -54,7 +54,7 @@ abbrev pub is_held_name : Scene → List ℕ → Bool
 is_held_name s name = ends_in_slash name && is_among (without_slash name) s.held
 
 abbrev pub removed_line : Scene → List ℕ → List ℕ
-removed_line s name = line s.cleaning removes (relative_from name s.prefix)
+removed_line s name = line s.cleaning would_remove_text (relative_from name s.prefix)
 
 abbrev pub lines_of : Scene → List ℕ → List ℕ
 lines_of s name = if is_held_name s name then lines_inside s (without_slash name) else removed_line s name

@@ -7,7 +7,7 @@ use Rattle.dir_classify.specs.Kinds.{is_repository}
 use Rattle.dir_classify.specs.declared.entry.Entry.{Entry}
 use Rattle.worktree_report.specs.SetupMeant.{ordered_after}
 use Rattle.worktree_report.specs.declared.report.ReportEntry.{ReportEntry}
-use Rattle.ls_files.specs.Others.{above, with_name}
+use Rattle.ls_files.specs.Others.{directories_above_path, with_name}
 use Rattle.git_clean.specs.Going.{is_stay}
 use Rattle.git_clean.specs.Places.{is_kept}
 use Rattle.git_clean.specs.Scenes.{Scene}
@@ -22,7 +22,7 @@ is_free_at s directory path at = is_slash (slice_index path at) && is_free s dir
 
 -- the highest one above a path that can, else the path itself
 abbrev pub free_part : Scene → List ℕ → List ℕ → List ℕ
-free_part s directory path = unwrap_or (find (is_free s directory) (above path)) path
+free_part s directory path = unwrap_or (find (is_free s directory) (directories_above_path path)) path
 
 -- an entry beneath a directory stays
 abbrev pub is_left : Scene → Entry → Bool

@@ -11,7 +11,7 @@ use Rattle.dir_classify.specs.Kinds.{holds_names}
 use Rattle.dir_classify.specs.declared.entry.Entry.{Entry}
 use Rattle.worktree_report.specs.SetupMeant.{ordered_after}
 use Rattle.worktree_report.specs.declared.report.ReportEntry.{ReportEntry}
-use Rattle.ls_files.specs.Others.{above, as_directory, has_beneath, is_entry_matched, is_unseen, is_untracked, name, name_unless, place_at, with_name}
+use Rattle.ls_files.specs.Others.{directories_above_path, as_directory, has_beneath, is_entry_matched, is_unseen, is_untracked, name, name_unless, place_at, with_name}
 use Rattle.ls_files.specs.Places.{Place}
 use Rattle.git_clean.specs.Going.{is_removable}
 use Rattle.git_clean.specs.Leading.{is_taken}
@@ -36,7 +36,7 @@ is_kept_directory_at s path at = is_slash (slice_index path at) && is_kept_direc
 
 -- so is a path beneath one
 abbrev pub is_kept : Scene → List ℕ → Bool
-is_kept s path = list_any (is_kept_directory s) (above path)
+is_kept s path = list_any (is_kept_directory s) (directories_above_path path)
 
 -- ---- directories
 
@@ -48,22 +48,22 @@ abbrev pub hides_at : Scene → List ℕ → ℕ → Bool
 hides_at s path at = is_slash (slice_index path at) && hides s (take at path)
 
 abbrev pub is_hidden : Scene → List ℕ → Bool
-is_hidden s path = list_any (hides s) (above path)
+is_hidden s path = list_any (hides s) (directories_above_path path)
 
 -- the path specs let a directory go as a whole
 abbrev pub is_taken_by : Scene → List ℕ → Bool
 is_taken_by s d = is_taken s.specs s.named (name (as_directory d)) d
 
 -- A directory goes as a whole: the index has nothing in it, no entry beneath keeps it from that, and the path specs take it.
-abbrev pub folds : Scene → List ℕ → Bool
-folds s d = hides s d && is_taken_by s d
+abbrev pub is_removed_whole : Scene → List ℕ → Bool
+is_removed_whole s d = hides s d && is_taken_by s d
 
 abbrev pub folds_at : Scene → List ℕ → ℕ → Bool
-folds_at s path at = is_slash (slice_index path at) && folds s (take at path)
+folds_at s path at = is_slash (slice_index path at) && is_removed_whole s (take at path)
 
 -- the highest directory above a path that does
 abbrev pub top : Scene → List ℕ → Option (List ℕ)
-top s path = find (folds s) (above path)
+top s path = find (is_removed_whole s) (directories_above_path path)
 
 -- git comes to what has a name
 abbrev pub is_seen : Scene → List ℕ → Bool

@@ -12,8 +12,8 @@ deletion_for c = if c.ignored_only then FindNonBareRepositoriesInIgnoredDirector
 
 -- Options with those set that a cleaning needs: for deletion, each path by itself and none folded or hidden but what is tracked, "-x: Don't
 -- use the standard ignore rules", and git's rule that what an ignored directory holds is ignored. All others stay.
-abbrev pub walking : Cleaning → SetupOptions → SetupOptions
-walking c options =
+abbrev pub options_for_cleaning_walk : Cleaning → SetupOptions → SetupOptions
+options_for_cleaning_walk c options =
     record options {
       excludes = not c.ignored_too;
       strict_parents = true;

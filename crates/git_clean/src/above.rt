@@ -1,7 +1,7 @@
 //! Directories above paths, as sets.
 ghost use Rattle.std.specs.Prelude.{◌≡◌, ◌<◌, ◌∷◌, [], OnOk, IfOk, length};
 ghost use Rattle.gitbase_core.specs.Among.{is_among};
-ghost use Rattle.ls_files.specs.Others.{above};
+ghost use Rattle.ls_files.specs.Others.{directories_above_path};
 ghost use Rattle.worktree_report.specs.SetupMeant.{ordered_after};
 ghost use Rattle.git_clean.specs.Directories as words;
 
@@ -83,7 +83,7 @@ pub fn add_above(
     path: &[u8],
 ) -> Result<(), OutOfMemory>
     ensures { OnOk result (directories.new.keys
-        ≡ ordered_after directories.old.keys (above path.now)) }
+        ≡ ordered_after directories.old.keys (directories_above_path path.now)) }
 {
     let mut at = 0;
     while at < path.len() {

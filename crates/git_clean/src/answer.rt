@@ -9,7 +9,9 @@ use gitbase_core::{Bytes, Find};
 use ls_files::NamedSpec;
 use std::alloc::Global;
 use worktree_fs::Interrupt;
-use worktree_report::{CountsFaults, Refusal, Setup, has_failed_since, of_report, worktree_report};
+use worktree_report::{
+    CountsFaults, Refusal, Setup, has_failed_since, refusal_of_report_error, worktree_report,
+};
 
 /// What `git clean -n` prints of the work tree at `root`, called in its directory `prefix`: a line
 /// for each path that git would remove, by a report that is made for it. Nothing is removed.
@@ -56,6 +58,6 @@ pub fn dry_clean<W: CountsFaults, I: Interrupt>(
             let found = report.entries.into_vec();
             Ok(clean_found(alloc, cleaning, prefix, named, setup, found)?)
         }
-        Err(error) => Err(of_report(alloc, error)?),
+        Err(error) => Err(refusal_of_report_error(alloc, error)?),
     }
 }

@@ -27,7 +27,7 @@ fn stands_below(entry: &ReportEntry, other: &ReportEntry) -> bool
 
 /// Whether the paths do not fall along entries, as they do not in a report.
 pub fn rise(found: &[ReportEntry]) -> bool
-    ensures { result ≡ true → words.Rise found.now }
+    ensures { result ≡ true → words.AreSortedByPath found.now }
 {
     found.is_sorted_by(|earlier, later| !stands_below(later, earlier))
 }
@@ -60,7 +60,7 @@ fn stands_among(entry: &ReportEntry, name: &[u8]) -> bool
 
 /// The entries whose paths begin with a name, which stand beside one another.
 fn run_of<'a>(found: &'a [ReportEntry], name: &[u8]) -> &'a [ReportEntry]
-    requires { words.Rise found.now }
+    requires { words.AreSortedByPath found.now }
     ensures { result.now ≡ filter (words.begins_with name.now) found.now }
 {
     let start = found.partition_point(|entry| stands_before(entry, name));
@@ -78,7 +78,7 @@ pub fn beneath<'a>(
     rise: bool,
     directory: &[u8],
 ) -> Result<&'a [ReportEntry], OutOfMemory>
-    requires { rise ≡ true → words.Rise found.now }
+    requires { rise ≡ true → words.AreSortedByPath found.now }
     ensures { IfOk result (λ some. filter (words.lies_in directory.now) some.now
         ≡ filter (words.lies_in directory.now) found.now) }
 {

@@ -1,7 +1,7 @@
 //! What would go, by the entries of a report.
 ghost use Rattle.std.specs.Prelude.{◌≡◌, ◌++◌, true, IfOk, OnOk};
 ghost use Rattle.gitbase_core.specs.Path as paths;
-ghost use Rattle.git_clean.specs.Beneath.{Rise};
+ghost use Rattle.git_clean.specs.Beneath.{AreSortedByPath};
 ghost use Rattle.git_clean.specs.Cleaned as words;
 ghost use Rattle.git_clean.specs.Lines as lines;
 ghost use Rattle.git_clean.specs.Scenes.{scene_by};
@@ -9,7 +9,7 @@ ghost use Rattle.git_clean.specs.Scenes.{scene_by};
 use crate::above::has;
 use crate::beneath::rise;
 use crate::inside::add_inside;
-use crate::line::{add_line, removes};
+use crate::line::{add_line, would_remove_text};
 use crate::names::names;
 use crate::options::Cleaning;
 use crate::ruled::all_ruled;
@@ -59,7 +59,7 @@ fn add_removed_line(
         ++ lines.removed_line (scene_by scene.now) name.now) }
 {
     let read = relative_from(alloc, name, scene.prefix)?;
-    add_line(text, scene.cleaning, removes(), read.as_bytes())
+    add_line(text, scene.cleaning, would_remove_text(), read.as_bytes())
 }
 
 /// Adds the lines of a name.
@@ -70,7 +70,7 @@ fn add_lines(
     rise: bool,
     name: &[u8],
 ) -> Result<(), OutOfMemory>
-    requires { rise ≡ true → Rise scene.now.found.now }
+    requires { rise ≡ true → AreSortedByPath scene.now.found.now }
     ensures { OnOk result (text.new.items ≡ text.old.items
         ++ lines.lines_of (scene_by scene.now) name.now) }
 {
@@ -82,7 +82,7 @@ fn add_lines(
 
 /// The lines of all that goes; `rise` says that paths do not fall along the entries.
 fn text_of(alloc: Global, scene: &Scene<'_>, rise: bool) -> Result<Bytes, OutOfMemory>
-    requires { rise ≡ true → Rise scene.now.found.now }
+    requires { rise ≡ true → AreSortedByPath scene.now.found.now }
     ensures { IfOk result (λ text. text ≡ lines.text (scene_by scene.now)) }
 {
     let mut text = Vec::new(alloc);

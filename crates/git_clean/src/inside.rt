@@ -1,13 +1,13 @@
 //! The lines of a directory that cannot go itself.
 ghost use Rattle.std.specs.Prelude.{◌≡◌, ◌++◌, ◌∷◌, [], true, IfOk, OnOk, drop};
 ghost use Rattle.std.specs.List.{flat_map};
-ghost use Rattle.git_clean.specs.Beneath.{Rise};
+ghost use Rattle.git_clean.specs.Beneath.{AreSortedByPath};
 ghost use Rattle.git_clean.specs.Lines as lines;
 ghost use Rattle.git_clean.specs.Parts as parts;
 ghost use Rattle.git_clean.specs.Scenes.{scene_by};
 
 use crate::beneath::beneath;
-use crate::line::{add_line, refusal, removes, skips};
+use crate::line::{add_line, would_refuse_text, would_remove_text, would_skip_repository_text};
 use crate::parts::{is_skipped, parts, refuses_here};
 use crate::scene::Scene;
 use git_paths::relative_from;
@@ -81,7 +81,14 @@ fn add_skip(
         return Ok(());
     }
     let path = entry.entry.rela_path.as_bytes();
-    add_line_inside(alloc, text, scene, skips(), directory, path)
+    add_line_inside(
+        alloc,
+        text,
+        scene,
+        would_skip_repository_text(),
+        directory,
+        path,
+    )
 }
 
 /// Adds the lines of the repositories in a directory that are skipped.
@@ -112,7 +119,7 @@ fn add_current_directory_refusal(
     if !refuses_here(scene, directory) {
         return Ok(());
     }
-    text.extend_from_slice(refusal())?;
+    text.extend_from_slice(would_refuse_text())?;
     Ok(())
 }
 
@@ -127,7 +134,14 @@ fn add_parts(
         ++ lines.part_lines (scene_by scene.now) directory.now) }
 {
     for path in parts(alloc, scene, directory)? {
-        add_line_inside(alloc, text, scene, removes(), directory, path.as_bytes())?;
+        add_line_inside(
+            alloc,
+            text,
+            scene,
+            would_remove_text(),
+            directory,
+            path.as_bytes(),
+        )?;
     }
     Ok(())
 }
@@ -139,7 +153,7 @@ fn narrowed<'a>(
     rise: bool,
     directory: &[u8],
 ) -> Result<Scene<'a>, OutOfMemory>
-    requires { rise ≡ true → Rise scene.now.found.now }
+    requires { rise ≡ true → AreSortedByPath scene.now.found.now }
     ensures skips { IfOk result (λ narrow. lines.skip_lines (scene_by narrow) directory.now
         ≡ lines.skip_lines (scene_by scene.now) directory.now) }
     ensures parts { IfOk result (λ narrow. lines.part_lines (scene_by narrow) directory.now
@@ -158,7 +172,7 @@ pub fn add_inside(
     rise: bool,
     directory: &[u8],
 ) -> Result<(), OutOfMemory>
-    requires { rise ≡ true → Rise scene.now.found.now }
+    requires { rise ≡ true → AreSortedByPath scene.now.found.now }
     ensures { OnOk result (text.new.items ≡ text.old.items
         ++ lines.lines_inside (scene_by scene.now) directory.now) }
 {

@@ -2,7 +2,7 @@
 ghost use Rattle.std.specs.Prelude.{◌≡◌, ◌≤◌, length, take};
 ghost use Rattle.std.specs.List.{before_first, list_any, position_or_len};
 ghost use Rattle.glob_rules.specs.Glob as globs;
-ghost use Rattle.ls_files.specs.Cached.{takes};
+ghost use Rattle.ls_files.specs.Cached.{is_including_match};
 ghost use Rattle.ls_files.specs.Others.{is_dots, is_out};
 ghost use Rattle.git_clean.specs.Leading as words;
 
@@ -76,7 +76,7 @@ fn is_out(found: Option<Match>) -> bool
 
 /// Whether path specs match, and do not take out.
 fn takes(found: Option<Match>) -> bool
-    ensures { result ≡ takes found }
+    ensures { result ≡ is_including_match found }
 {
     match found {
         Some(found) => !found.is_excluded(),
@@ -115,8 +115,8 @@ fn is_meant(directory: &[u8], named: &NamedSpec) -> bool
 }
 
 /// Whether a spec settles that a directory of this name goes as a whole.
-fn settles(name: &[u8], directory: &[u8], named: &NamedSpec) -> bool
-    ensures { result ≡ words.settles name.now directory.now named.now }
+fn takes_directory_whole(name: &[u8], directory: &[u8], named: &NamedSpec) -> bool
+    ensures { result ≡ words.takes_directory_whole name.now directory.now named.now }
 {
     let found = named.spec.pattern_matching_relative_path(name, Some(false));
     is_by_wildcards(found) || is_meant(directory, named)
@@ -188,7 +188,7 @@ fn leads(name: &[u8], directory: &[u8], named: &NamedSpec) -> bool
     if !named.spec.can_match_relative_path(directory, Some(true)) {
         return false;
     }
-    if settles(name, directory, named) {
+    if takes_directory_whole(name, directory, named) {
         return false;
     }
     let found = named.spec.pattern_matching_relative_path(name, Some(true));
@@ -197,9 +197,10 @@ fn leads(name: &[u8], directory: &[u8], named: &NamedSpec) -> bool
 
 /// Whether one of some specs settles that a directory goes as a whole.
 fn some_settles(name: &[u8], directory: &[u8], all: &[NamedSpec]) -> bool
-    ensures { result ≡ list_any (words.settles name.now directory.now) all.now }
+    ensures { result ≡ list_any (words.takes_directory_whole name.now directory.now) all.now }
 {
-    all.iter().any(|named| settles(name, directory, named))
+    all.iter()
+        .any(|named| takes_directory_whole(name, directory, named))
 }
 
 /// Whether one of some specs leads further down.

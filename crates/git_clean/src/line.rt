@@ -7,25 +7,25 @@ use git_paths::add_quoted;
 use gitbase_core::OutOfMemory;
 
 /// What stands before a path that would be removed.
-#[tactic(auto, unfolding(crate::specs::Lines::removes))]
-pub fn removes() -> &'static [u8]
-    ensures { result.now ≡ lines.removes }
+#[tactic(auto, unfolding(crate::specs::Lines::would_remove_text))]
+pub fn would_remove_text() -> &'static [u8]
+    ensures { result.now ≡ lines.would_remove_text }
 {
     b"Would remove "
 }
 
 /// What stands before a repository that would be skipped.
-#[tactic(auto, unfolding(crate::specs::Lines::skips))]
-pub fn skips() -> &'static [u8]
-    ensures { result.now ≡ lines.skips }
+#[tactic(auto, unfolding(crate::specs::Lines::would_skip_repository_text))]
+pub fn would_skip_repository_text() -> &'static [u8]
+    ensures { result.now ≡ lines.would_skip_repository_text }
 {
     b"Would skip repository "
 }
 
 /// The line of the current directory.
-#[tactic(auto, unfolding(crate::specs::Lines::refusal))]
-pub fn refusal() -> &'static [u8]
-    ensures { result.now ≡ lines.refusal }
+#[tactic(auto, unfolding(crate::specs::Lines::would_refuse_text))]
+pub fn would_refuse_text() -> &'static [u8]
+    ensures { result.now ≡ lines.would_refuse_text }
 {
     b"Would refuse to remove current working directory\n"
 }

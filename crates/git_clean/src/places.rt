@@ -121,8 +121,9 @@ pub fn is_taken_by(alloc: Global, scene: &Scene<'_>, directory: &[u8]) -> Result
 }
 
 /// Whether a directory goes as a whole.
-fn folds(alloc: Global, scene: &Scene<'_>, directory: &[u8]) -> Result<bool, OutOfMemory>
-    ensures { IfOk result (λ goes. goes ≡ words.folds (scene_by scene.now) directory.now) }
+fn is_removed_whole(alloc: Global, scene: &Scene<'_>, directory: &[u8]) -> Result<bool, OutOfMemory>
+    ensures { IfOk result (λ goes. goes ≡ words.is_removed_whole (scene_by scene.now)
+        directory.now) }
 {
     if !hides(alloc, scene, directory)? {
         return Ok(false);
@@ -138,7 +139,7 @@ fn folds_at(alloc: Global, scene: &Scene<'_>, path: &[u8], at: usize) -> Result<
     if path[at] != b'/' {
         return Ok(false);
     }
-    folds(alloc, scene, &path[..at])
+    is_removed_whole(alloc, scene, &path[..at])
 }
 
 /// The highest directory above a path that goes as a whole.

@@ -139,15 +139,15 @@ fn is_leaf(kind: Option<Kind>) -> bool
 }
 
 /// Whether an entry keeps the directories above it from going whole.
-fn bars(cleaning: &Cleaning, entry: &Entry) -> bool
-    ensures { result ≡ words.bars cleaning.now entry.now }
+fn blocks_whole_removal(cleaning: &Cleaning, entry: &Entry) -> bool
+    ensures { result ≡ words.blocks_whole_removal cleaning.now entry.now }
 {
     entry.status.is_ignored() != cleaning.ignored_only
 }
 
 /// Whether an entry shows that in the directories above it not all is ignored.
-fn shows(cleaning: &Cleaning, entry: &Entry) -> bool
-    ensures { result ≡ words.shows cleaning.now entry.now }
+fn proves_parents_unignored(cleaning: &Cleaning, entry: &Entry) -> bool
+    ensures { result ≡ words.proves_parents_unignored cleaning.now entry.now }
 {
     cleaning.ignored_only && is_untracked(entry.status) && is_leaf(entry.disk_kind)
 }
@@ -158,7 +158,7 @@ pub fn marks(cleaning: &Cleaning, entry: &Entry) -> bool
     ensures { result ≡ words.marks cleaning.now entry.now }
 {
     if cleaning.directories {
-        return bars(cleaning, entry);
+        return blocks_whole_removal(cleaning, entry);
     }
-    shows(cleaning, entry)
+    proves_parents_unignored(cleaning, entry)
 }

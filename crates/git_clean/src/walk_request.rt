@@ -22,7 +22,7 @@ fn deletion_for(cleaning: &Cleaning) -> ForDeletionMode
 ///
 /// See docs/DECISIONS.md#dry-clean-by-leaves.
 pub fn walk_options(cleaning: &Cleaning, options: &SetupOptions) -> SetupOptions
-    ensures { result ≡ words.walking cleaning.now options.now }
+    ensures { result ≡ words.options_for_cleaning_walk cleaning.now options.now }
 {
     let mut options = *options;
     options.excludes = !cleaning.ignored_too;

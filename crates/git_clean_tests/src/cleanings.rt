@@ -6,7 +6,7 @@ use git_clean::{Cleaning, dry_clean, walk_options, wrong_in};
 use gitbase_core::Bytes;
 use ls_files::NamedSpec;
 use std::alloc::Global;
-use test_cases::{lines_of, parted, tree_of};
+use test_cases::{lines_of, split_at_byte, tree_of};
 use worktree_fs::PlannedInterrupt;
 use worktree_report::Setup;
 
@@ -62,7 +62,7 @@ fn cleaned_in(
     options: &[u8],
     specs: &[u8],
 ) -> Option<Bytes> {
-    let (text, steps) = parted(tree, b'^');
+    let (text, steps) = split_at_byte(tree, b'^');
     let cleaning = cleaning_of(options, specs, prefix);
     let setup = setup_for(alloc, text, &cleaning, options, specs)?;
     let named = all_named(alloc, specs)?;
@@ -100,10 +100,10 @@ fn cleans(
 
 /// Whether a row is met.
 fn is_met(alloc: Global, row: &[u8]) -> bool {
-    let (number, rest) = parted(row, b'^');
-    let (prefix, rest) = parted(rest, b'^');
-    let (options, rest) = parted(rest, b'^');
-    let (specs, want) = parted(rest, b'^');
+    let (number, rest) = split_at_byte(row, b'^');
+    let (prefix, rest) = split_at_byte(rest, b'^');
+    let (options, rest) = split_at_byte(rest, b'^');
+    let (specs, want) = split_at_byte(rest, b'^');
     match tree_at(number) {
         Some(tree) => cleans(alloc, tree, prefix, options, specs, want),
         None => false,

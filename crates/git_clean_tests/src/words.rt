@@ -5,7 +5,7 @@ use gitbase_core::Bytes;
 use glob_rules::pathspec::{Defaults, Search, Spec};
 use ls_files::NamedSpec;
 use std::alloc::Global;
-use test_cases::parted;
+use test_cases::split_at_byte;
 
 /// What is asked where there is no word.
 fn usual() -> Cleaning {
@@ -88,7 +88,7 @@ pub fn all_named(alloc: Global, words: &[u8]) -> Option<Vec<NamedSpec>> {
     let mut named = Vec::new(alloc);
     for word in words.split(|byte| *byte == b'|') {
         if !word.is_empty() {
-            let (told, text) = parted(word, b'&');
+            let (told, text) = split_at_byte(word, b'&');
             named.push(named_of(alloc, told, text)?).ok()?;
         }
     }
@@ -100,7 +100,7 @@ pub fn specs_of(alloc: Global, words: &[u8]) -> Option<Search> {
     let mut specs = Vec::new(alloc);
     for word in words.split(|byte| *byte == b'|') {
         if !word.is_empty() {
-            let (_, text) = parted(word, b'&');
+            let (_, text) = split_at_byte(word, b'&');
             specs.push(spec_of(alloc, text)?).ok()?;
         }
     }

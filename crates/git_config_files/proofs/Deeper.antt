@@ -5,9 +5,9 @@ use Rattle.git_config_lite.specs.Sections.{Section}
 use Rattle.worktree_fs.specs.declared.worktree.Worktree.{Ghosts as WorktreeOf}
 use Rattle.worktree_fs.specs.Tree.{Names}
 use Rattle.git_config_files.specs.Conditions.{Known}
-use Rattle.git_places.specs.Answers.{GivesBy}
+use Rattle.git_places.specs.Answers.{IsFoundOrFailed}
 use Rattle.git_config_files.specs.Finds.{Finds}
-use Rattle.git_config_files.specs.Includes.{Follow, after, placed, in_place, keys_in, expanded, text_at, too_deep}
+use Rattle.git_config_files.specs.Includes.{Follow, expand_keys_behind_done, expand_include_keys, in_place, keys_in, expanded, text_at, too_deep}
 use Rattle.git_config_files.proofs.Laws.{placed_is}
 use Rattle.gitbase_core.specs.Steps.{and_then}
 use Rattle.git_config_files.specs.declared.error.FilesError.{FilesError}
@@ -16,10 +16,10 @@ use Rattle.git_config_files.specs.declared.error.FilesError.TheVariants as error
 -- what a file says, where its keys are gone through one by one
 abbrev pub in_order : Names → Known → Follow → Source → List ℕ → Option (List ℕ) → Result (List Section) FilesError
 in_order t known follow source path None = Ok []
-in_order t known follow source path (Some bytes) = and_then (after t known follow path []) (keys_in source path bytes)
+in_order t known follow source path (Some bytes) = and_then (expand_keys_behind_done t known follow path []) (keys_in source path bytes)
 
 same_keys : (t : Names) (known : Known) (follow : Follow) (path : List ℕ) (r : Result (List Section) FilesError)
-    → and_then (after t known follow path []) r ≡ and_then (placed t known follow path) r
+    → and_then (expand_keys_behind_done t known follow path []) r ≡ and_then (expand_include_keys t known follow path) r
 same_keys t known follow path (Err e) = refl
 same_keys t known follow path (Ok keys) = placed_is t known follow path keys
 
@@ -34,7 +34,7 @@ pub found_as : {W A : Type 0} (w : WorktreeOf W) (before now : W) (found other :
     → ((t : Names) → found t ≡ other t) → Finds w before now found result → Finds w before now other result
 found_as {A = A} w before now found other result same finds =
     record {
-      gives = λ t told. subst (λ (r : Result A FilesError). GivesBy errors.Fault errors.OutOfMemory result r) (same t) (finds.gives t told);
+      gives = λ t told. subst (λ (r : Result A FilesError). IsFoundOrFailed errors.Fault errors.OutOfMemory result r) (same t) (finds.gives t told);
       cause = finds.cause;
       unfaulted = finds.unfaulted;
       keeps = finds.keeps;

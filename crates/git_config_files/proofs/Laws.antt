@@ -5,7 +5,7 @@ use Rattle.git_config_lite.specs.Sections.{Section}
 use Rattle.worktree_fs.specs.Tree.{Names}
 use Rattle.git_config_files.specs.Conditions.{Known}
 use Rattle.git_config_files.specs.Files.{Configured, stacked, stack_in}
-use Rattle.git_config_files.specs.Includes.{Follow, after, behind, expanded, placed}
+use Rattle.git_config_files.specs.Includes.{Follow, expand_keys_behind_done, expand_include_key, expanded, expand_include_keys}
 use Rattle.gitbase_core.specs.Steps.{and_then}
 use Rattle.git_config_files.specs.declared.error.FilesError.{FilesError}
 
@@ -19,17 +19,17 @@ whole done key more (Err e) = refl
 whole done key more (Ok rest) = ap good (append_assoc done (key ∷ more) rest)
 
 one : (t : Names) (known : Known) (follow : Follow) (from : List ℕ) (done : List Section) (key : Section) (keys : List Section) (b : Result (List Section) FilesError)
-    → ((now : List Section) → after t known follow from now keys ≡ and_then (λ (rest : List Section). Ok (now ++ rest)) (placed t known follow from keys))
-    → and_then (λ (more : List Section). after t known follow from (done ++ key ∷ more) keys) b
-    ≡ and_then (λ (rest : List Section). Ok (done ++ rest)) (and_then (λ (more : List Section). and_then (λ (rest : List Section). Ok ((key ∷ more) ++ rest)) (placed t known follow from keys)) b)
+    → ((now : List Section) → expand_keys_behind_done t known follow from now keys ≡ and_then (λ (rest : List Section). Ok (now ++ rest)) (expand_include_keys t known follow from keys))
+    → and_then (λ (more : List Section). expand_keys_behind_done t known follow from (done ++ key ∷ more) keys) b
+    ≡ and_then (λ (rest : List Section). Ok (done ++ rest)) (and_then (λ (more : List Section). and_then (λ (rest : List Section). Ok ((key ∷ more) ++ rest)) (expand_include_keys t known follow from keys)) b)
 one t known follow from done key keys (Err e) rest_is = refl
-one t known follow from done key keys (Ok more) rest_is = rest_is (done ++ key ∷ more) ∙ whole done key more (placed t known follow from keys)
+one t known follow from done key keys (Ok more) rest_is = rest_is (done ++ key ∷ more) ∙ whole done key more (expand_include_keys t known follow from keys)
 
 pub after_is : (t : Names) (known : Known) (follow : Follow) (from : List ℕ) (done keys : List Section)
-    → after t known follow from done keys ≡ and_then (λ (rest : List Section). Ok (done ++ rest)) (placed t known follow from keys)
-unfolding after placed
+    → expand_keys_behind_done t known follow from done keys ≡ and_then (λ (rest : List Section). Ok (done ++ rest)) (expand_include_keys t known follow from keys)
+unfolding expand_keys_behind_done expand_include_keys
 after_is t known follow from done [] = ap good (sym (append-nil done))
-after_is t known follow from done (key ∷ keys) = one t known follow from done key keys (behind t known follow from key) (λ now. after_is t known follow from now keys)
+after_is t known follow from done (key ∷ keys) = one t known follow from done key keys (expand_include_key t known follow from key) (λ now. after_is t known follow from now keys)
 
 -- of a whole file the same
 alike : (r : Result (List Section) FilesError) → and_then (λ (rest : List Section). Ok ([] ++ rest)) r ≡ r
@@ -37,8 +37,8 @@ alike (Err e) = refl
 alike (Ok rest) = refl
 
 pub placed_is : (t : Names) (known : Known) (follow : Follow) (from : List ℕ) (keys : List Section)
-    → after t known follow from [] keys ≡ placed t known follow from keys
-placed_is t known follow from keys = after_is t known follow from [] keys ∙ alike (placed t known follow from keys)
+    → expand_keys_behind_done t known follow from [] keys ≡ expand_include_keys t known follow from keys
+placed_is t known follow from keys = after_is t known follow from [] keys ∙ alike (expand_include_keys t known follow from keys)
 
 -- ---- the same of several files
 

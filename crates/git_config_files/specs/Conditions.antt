@@ -38,11 +38,11 @@ at_home (Some home) None pattern = pattern
 at_home (Some home) (Some rest) pattern = home ++ rest
 
 -- one that is not absolute then may lie anywhere
-abbrev pub anywhere : List ℕ → List ℕ
-anywhere pattern = if is_absolute pattern then pattern else codes "**/" ++ pattern
+abbrev pub with_leading_double_star : List ℕ → List ℕ
+with_leading_double_star pattern = if is_absolute pattern then pattern else codes "**/" ++ pattern
 
 abbrev pub whole_pattern : Option (List ℕ) → List ℕ → List ℕ
-whole_pattern home pattern = with_stars (anywhere (at_home home (behind_front (codes "~") pattern) pattern))
+whole_pattern home pattern = with_stars (with_leading_double_star (at_home home (behind_front (codes "~") pattern) pattern))
 
 abbrev pub matches_path : Case → List ℕ → List ℕ → Bool
 matches_path case pattern text = matches (mode_of case) pattern text
@@ -69,8 +69,8 @@ abbrev pub with_double_star : List ℕ → List ℕ
 with_double_star rest = if is_empty rest || ends_with nat_eq rest (47 ∷ []) then rest ++ codes "**" else rest
 
 -- either spelling of the git directory may match
-abbrev pub either : Repository → (List ℕ → Bool) → Bool
-either here test = test here.git || test here.spelled
+abbrev pub either_git_directory_passes : Repository → (List ℕ → Bool) → Bool
+either_git_directory_passes here test = test here.git || test here.spelled
 
 -- a pattern beneath a directory matches the git directory without links, which has to lie there, or as it is spelled
 abbrev pub matches_beneath : Repository → Case → List ℕ → List ℕ → Option (List ℕ) → Bool
@@ -99,19 +99,19 @@ abbrev pub is_unknown_home : List ℕ → Bool
 is_unknown_home path = is_user (behind_front (codes "~") path) || is_some (behind_front (codes "%(prefix)/") path)
 
 -- a home that is the empty text, which is no path, in a pattern that begins with it
-abbrev pub is_lost : Option (List ℕ) → Option (List ℕ) → Bool
-is_lost None rest = false
-is_lost (Some home) None = false
-is_lost (Some home) (Some rest) = is_empty home
+abbrev pub expands_to_empty_home : Option (List ℕ) → Option (List ℕ) → Bool
+expands_to_empty_home None rest = false
+expands_to_empty_home (Some home) None = false
+expands_to_empty_home (Some home) (Some rest) = is_empty home
 
 -- whether a pattern begins with a home that cannot be asked for
 abbrev pub lacks_home : Option (List ℕ) → List ℕ → Bool
-lacks_home home pattern = is_unknown_home pattern || is_lost home (behind_front (codes "~") pattern)
+lacks_home home pattern = is_unknown_home pattern || expands_to_empty_home home (behind_front (codes "~") pattern)
 
 -- whether the git directory is where a pattern of the file `from` says
 abbrev pub is_at : Names → Repository → Option (List ℕ) → List ℕ → Case → Option (List ℕ) → List ℕ → Bool
 is_at t here home from case (Some rest) pattern = matches_from here case (unwrap_or (real_path t from (47 ∷ [])) from) rest
-is_at t here home from case None pattern = either here (matches_path case (whole_pattern home pattern))
+is_at t here home from case None pattern = either_git_directory_passes here (matches_path case (whole_pattern home pattern))
 
 -- where no repository is known, no such condition holds
 abbrev pub repository_holds : Names → Option (List ℕ) → List ℕ → Case → List ℕ → Option Repository → Result Bool FilesError

@@ -3,7 +3,7 @@ use Rattle.std.specs.Prelude.{ℕ, zero, suc, Bool, true, false, codes, bytes_eq
 use Rattle.git_config_lite.specs.declared.entry.Entry.{Entry}
 use Rattle.git_config_lite.specs.declared.metadata.Metadata.{Metadata}
 use Rattle.git_config_lite.specs.declared.metadata.Source.{Source}
-use Rattle.git_config_lite.specs.Grammar.{said}
+use Rattle.git_config_lite.specs.Grammar.{parse_text_sections}
 use Rattle.git_config_lite.specs.Sections.{Section}
 use Rattle.worktree_fs.specs.Changes.{real_path}
 use Rattle.worktree_fs.specs.Tree.{Names, Look, found, absent, too_many_links, file, link, directory, other, look}
@@ -14,13 +14,13 @@ use Rattle.git_config_files.specs.declared.error.FilesError.{FilesError}
 use Rattle.git_config_files.specs.declared.error.FilesError.TheVariants as errors
 
 -- a key by itself: a section with this key alone
-abbrev pub alone : Section → Entry → Section
-alone section e = record { name = section.name; subsection = section.subsection; meta = section.meta; entries = e ∷ [] }
+abbrev pub single_key_section : Section → Entry → Section
+single_key_section section e = record { name = section.name; subsection = section.subsection; meta = section.meta; entries = e ∷ [] }
 
 -- the keys of sections, in their order, each by itself
 abbrev pub keys_of : List Section → List Section
 keys_of [] = []
-keys_of (section ∷ sections) = map (alone section) section.entries ++ keys_of sections
+keys_of (section ∷ sections) = map (single_key_section section) section.entries ++ keys_of sections
 
 -- where a file is read: what it belongs to, and its path
 abbrev pub read_at : Source → List ℕ → Metadata
@@ -32,7 +32,7 @@ keys_said path (Err line) = Err (errors.Config path line)
 
 -- the keys of a file by its bytes, or its first line outside the grammar
 abbrev pub keys_in : Source → List ℕ → List ℕ → Result (List Section) FilesError
-keys_in source path bytes = keys_said path (said (read_at source path) bytes)
+keys_in source path bytes = keys_said path (parse_text_sections (read_at source path) bytes)
 
 -- what is said by the file at a path, with what that includes
 abbrev pub Follow : Type 0
@@ -47,14 +47,14 @@ abbrev pub behind_key : Names → Known → Follow → List ℕ → Section → 
 behind_key t known follow from key [] = Ok []
 behind_key t known follow from key (e ∷ es) = and_then (followed follow) (target t known from key e)
 
-abbrev pub behind : Names → Known → Follow → List ℕ → Section → Result (List Section) FilesError
-behind t known follow from key = behind_key t known follow from key key.entries
+abbrev pub expand_include_key : Names → Known → Follow → List ℕ → Section → Result (List Section) FilesError
+expand_include_key t known follow from key = behind_key t known follow from key key.entries
 
 -- keys of the file `from`: each of them, and right behind it what the file says that it includes
-unfoldable pub placed : Names → Known → Follow → List ℕ → List Section → Result (List Section) FilesError
-placed t known follow from [] = Ok []
-placed t known follow from (key ∷ keys) =
-    and_then (λ more. and_then (λ rest. Ok ((key ∷ more) ++ rest)) (placed t known follow from keys)) (behind t known follow from key)
+unfoldable pub expand_include_keys : Names → Known → Follow → List ℕ → List Section → Result (List Section) FilesError
+expand_include_keys t known follow from [] = Ok []
+expand_include_keys t known follow from (key ∷ keys) =
+    and_then (λ more. and_then (λ rest. Ok ((key ∷ more) ++ rest)) (expand_include_keys t known follow from keys)) (expand_include_key t known follow from key)
 
 -- the node at a path without links is the null device, by its place
 abbrev pub is_null : Option (List ℕ) → Bool
@@ -80,7 +80,7 @@ text_at t path = text_by path (real_path t path (47 ∷ [])) (look t path true)
 
 abbrev pub in_place : Names → Known → Follow → Source → List ℕ → Option (List ℕ) → Result (List Section) FilesError
 in_place t known follow source path None = Ok []
-in_place t known follow source path (Some bytes) = and_then (placed t known follow path) (keys_in source path bytes)
+in_place t known follow source path (Some bytes) = and_then (expand_include_keys t known follow path) (keys_in source path bytes)
 
 -- an included file that is there is too deep behind ten others
 abbrev pub too_deep : List ℕ → Option (List ℕ) → Result (List Section) FilesError
@@ -96,7 +96,7 @@ expanded t known source (suc levels) path =
 -- ---- the same key by key
 
 -- behind what is done, some keys of the file `from`, each with what stands behind it
-unfoldable pub after : Names → Known → Follow → List ℕ → List Section → List Section → Result (List Section) FilesError
-after t known follow from done [] = Ok done
-after t known follow from done (key ∷ keys) =
-    and_then (λ more. after t known follow from (done ++ key ∷ more) keys) (behind t known follow from key)
+unfoldable pub expand_keys_behind_done : Names → Known → Follow → List ℕ → List Section → List Section → Result (List Section) FilesError
+expand_keys_behind_done t known follow from done [] = Ok done
+expand_keys_behind_done t known follow from done (key ∷ keys) =
+    and_then (λ more. expand_keys_behind_done t known follow from (done ++ key ∷ more) keys) (expand_include_key t known follow from key)

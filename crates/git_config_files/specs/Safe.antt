@@ -6,7 +6,7 @@ use Rattle.git_places.specs.GitDirectory.{dot_git}
 use Rattle.gitbase_core.specs.Steps.{and_then}
 use Rattle.git_places.specs.Surroundings.{Surroundings}
 use Rattle.git_places.specs.Upward.{Top}
-use Rattle.worktree_fs.specs.Owners.{Owned}
+use Rattle.worktree_fs.specs.Owners.{OwnershipByPath}
 use Rattle.worktree_fs.specs.Tree.{Names, is_empty}
 use Rattle.worktree_fs.specs.declared.owners.ownership.Ownership.{Ownership}
 use Rattle.git_config_files.specs.Stack.{Stack, known_with, stack_by, unless_elsewhere}
@@ -17,11 +17,11 @@ use Rattle.git_config_files.specs.declared.error.FilesError.TheVariants as error
 
 -- ---- what is the user's
 
-abbrev pub owner_at : Owned → List ℕ → Bool → Option ℕ
+abbrev pub owner_at : OwnershipByPath → List ℕ → Bool → Option ℕ
 owner_at owned path follow = option_map (λ (found : Ownership). found.owner) (owned path follow)
 
 -- the user is the owner of `/proc/self`
-abbrev pub user_in : Owned → Option ℕ
+abbrev pub user_in : OwnershipByPath → Option ℕ
 user_in owned = owner_at owned (codes "/proc/self") true
 
 -- whether a number is the one that `SUDO_UID` names
@@ -39,11 +39,11 @@ is_owned None sudo owner = false
 is_owned (Some user) sudo None = false
 is_owned (Some user) sudo (Some owner) = is_users user sudo owner
 
-abbrev pub is_owned_at : Owned → Option (List ℕ) → List ℕ → Bool → Bool
+abbrev pub is_owned_at : OwnershipByPath → Option (List ℕ) → List ℕ → Bool → Bool
 is_owned_at owned sudo path follow = is_owned (user_in owned) sudo (owner_at owned path follow)
 
 -- a work tree is the user's where three nodes are: what stands at `.git`, the directory, and the git directory that a file there names
-abbrev pub is_own : Owned → Option (List ℕ) → Top → Bool
+abbrev pub is_own : OwnershipByPath → Option (List ℕ) → Top → Bool
 is_own owned sudo top =
     if is_owned_at owned sudo (dot_git top.directory) false
     then (if is_owned_at owned sudo top.directory false
@@ -82,8 +82,8 @@ abbrev pub safe_top : Names → Surroundings → Top → Result Top FilesError
 safe_top t around top = and_then (unless_foreign top) (safe_in t around top.directory)
 
 -- a work tree that is the user's, or safe
-abbrev pub own_or_safe : Names → Owned → Surroundings → Top → Result Top FilesError
+abbrev pub own_or_safe : Names → OwnershipByPath → Surroundings → Top → Result Top FilesError
 own_or_safe t owned around top = if is_own owned around.sudo_user top then Ok top else safe_top t around top
 
-abbrev pub own_top : Names → Owned → Surroundings → Top → Result Top FilesError
-own_top t owned around top = unless_elsewhere around.elsewhere (own_or_safe t owned around top)
+abbrev pub require_trusted_top : Names → OwnershipByPath → Surroundings → Top → Result Top FilesError
+require_trusted_top t owned around top = unless_elsewhere around.elsewhere (own_or_safe t owned around top)

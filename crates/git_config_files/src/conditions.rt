@@ -55,8 +55,8 @@ fn at_home(alloc: Global, home: Option<&[u8]>, pattern: &[u8]) -> Result<Bytes, 
 }
 
 /// One that is not absolute then may lie anywhere.
-fn anywhere(alloc: Global, pattern: &[u8]) -> Result<Bytes, OutOfMemory>
-    ensures { IfOk result (λ made. made ≡ words.anywhere pattern.now) }
+fn with_leading_double_star(alloc: Global, pattern: &[u8]) -> Result<Bytes, OutOfMemory>
+    ensures { IfOk result (λ made. made ≡ words.with_leading_double_star pattern.now) }
 {
     if is_absolute(pattern) {
         return Bytes::from_slice(alloc, pattern);
@@ -81,7 +81,7 @@ fn whole_pattern(alloc: Global, home: Option<&[u8]>, pattern: &[u8]) -> Result<B
         (λ made. made ≡ words.whole_pattern (option_copied home.entry) pattern.now) }
 {
     let pattern = at_home(alloc, home, pattern)?;
-    let pattern = anywhere(alloc, pattern.as_bytes())?;
+    let pattern = with_leading_double_star(alloc, pattern.as_bytes())?;
     with_stars(alloc, pattern.as_bytes())
 }
 
@@ -205,7 +205,7 @@ fn matches_whole(
     case: Case,
     pattern: &[u8],
 ) -> Result<bool, OutOfMemory>
-    ensures { IfOk result (λ is. is ≡ words.either here.now (words.matches_path case
+    ensures { IfOk result (λ is. is ≡ words.either_git_directory_passes here.now (words.matches_path case
         (words.whole_pattern (option_copied home.entry) pattern.now))) }
 {
     let pattern = whole_pattern(alloc, home, pattern)?;
@@ -249,8 +249,8 @@ pub fn is_unknown_home(path: &[u8]) -> bool
 }
 
 /// Whether a pattern begins with a home that is the empty text.
-fn is_lost(home: Option<&[u8]>, rest: Option<&[u8]>) -> bool
-    ensures { result ≡ words.is_lost (option_copied home.entry) (option_copied rest.entry) }
+fn expands_to_empty_home(home: Option<&[u8]>, rest: Option<&[u8]>) -> bool
+    ensures { result ≡ words.expands_to_empty_home (option_copied home.entry) (option_copied rest.entry) }
 {
     match (home, rest) {
         (Some(home), Some(_)) => home.is_empty(),
@@ -263,7 +263,7 @@ fn is_lost(home: Option<&[u8]>, rest: Option<&[u8]>) -> bool
 fn lacks_home(home: Option<&[u8]>, pattern: &[u8]) -> bool
     ensures { result ≡ words.lacks_home (option_copied home.entry) pattern.now }
 {
-    is_unknown_home(pattern) || is_lost(home, behind(pattern, b"~".as_slice()))
+    is_unknown_home(pattern) || expands_to_empty_home(home, behind(pattern, b"~".as_slice()))
 }
 
 /// Whether the git directory is where a pattern of the file `from` says.

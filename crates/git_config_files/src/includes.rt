@@ -97,7 +97,7 @@ pub fn text_at<W: Worktree>(
 
 /// What stands behind a key of a file.
 #[cycle(expand)]
-fn behind<W: Worktree>(
+fn expand_include_key<W: Worktree>(
     alloc: Global,
     worktree: &mut W,
     known: &Known,
@@ -106,7 +106,7 @@ fn behind<W: Worktree>(
     from: &[u8],
     key: &Section,
 ) -> Result<Keys, FilesError>
-    ensures { Finds W.Worktree worktree.old worktree.new (λ t. words.behind t known.now
+    ensures { Finds W.Worktree worktree.old worktree.new (λ t. words.expand_include_key t known.now
         (words.expanded t known.now source levels) from.now key.now) result }
 {
     let [entry, ..] = key.entries() else {
@@ -120,8 +120,8 @@ fn behind<W: Worktree>(
 
 /// Keys of a file, each with what stands behind it.
 #[cycle(expand)]
-#[tactic(auto, unfolding(crate::specs::Includes::after))]
-fn all<W: Worktree>(
+#[tactic(auto, unfolding(crate::specs::Includes::expand_keys_behind_done))]
+fn expand_all_includes<W: Worktree>(
     alloc: Global,
     worktree: &mut W,
     known: &Known,
@@ -130,12 +130,12 @@ fn all<W: Worktree>(
     from: &[u8],
     keys: Keys,
 ) -> Result<Keys, FilesError>
-    ensures { Finds W.Worktree worktree.old worktree.new (λ t. words.after t known.now
+    ensures { Finds W.Worktree worktree.old worktree.new (λ t. words.expand_keys_behind_done t known.now
         (words.expanded t known.now source levels) from.now [] keys) result }
 {
     let mut done = Keys::new(alloc);
     for key in keys.into_sections() {
-        let more = behind(alloc, worktree, known, source, levels, from, &key)?;
+        let more = expand_include_key(alloc, worktree, known, source, levels, from, &key)?;
         done.add(key, more)?;
     }
     Ok(done)
@@ -165,7 +165,7 @@ fn expand<W: Worktree>(
         });
     }
     let keys = keys_in(alloc, source, path, bytes.as_bytes())?;
-    all(alloc, worktree, known, source, levels - 1, path, keys)
+    expand_all_includes(alloc, worktree, known, source, levels - 1, path, keys)
 }
 
 /// The keys of the file at a path, in order, with those of the files that it includes in their

@@ -95,8 +95,12 @@ fn entry_of(alloc: Global, entry: &Entry) -> Result<Entry, OutOfMemory>
 }
 
 /// A key by itself.
-fn alone(alloc: Global, section: &Section, entry: &Entry) -> Result<Section, OutOfMemory>
-    ensures { IfOk result (λ key. key ≡ words.alone section.now entry.now) }
+fn single_key_section(
+    alloc: Global,
+    section: &Section,
+    entry: &Entry,
+) -> Result<Section, OutOfMemory>
+    ensures { IfOk result (λ key. key ≡ words.single_key_section section.now entry.now) }
 {
     let subsection = subsection_of(alloc, section)?;
     let entry = entry_of(alloc, entry)?;
@@ -107,11 +111,11 @@ fn alone(alloc: Global, section: &Section, entry: &Entry) -> Result<Section, Out
 
 /// Keys, and those of a section behind them.
 fn with_section(alloc: Global, keys: Keys, section: &Section) -> Result<Keys, OutOfMemory>
-    ensures { IfOk result (λ all. all ≡ keys ++ map (words.alone section.now) section.now.entries) }
+    ensures { IfOk result (λ all. all ≡ keys ++ map (words.single_key_section section.now) section.now.entries) }
 {
     let mut all = keys;
     for entry in section.entries() {
-        all.push(alone(alloc, section, entry)?)?;
+        all.push(single_key_section(alloc, section, entry)?)?;
     }
     Ok(all)
 }

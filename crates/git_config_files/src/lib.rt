@@ -17,5 +17,5 @@ mod which;
 pub use config_files::{ConfigFiles, Configured};
 pub use error::FilesError;
 pub use rules::{Rules, RulesFile, rules_files};
-pub use safe::own_top;
+pub use safe::require_trusted_top;
 pub use stack::{Stack, read_stack};

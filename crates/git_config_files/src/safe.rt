@@ -1,6 +1,6 @@
 //! Whose repository is read.
 ghost use Rattle.std.specs.Prelude.{◌≡◌, Some, None, Ok, IfOk, IsTrue, option_copied};
-ghost use Rattle.worktree_fs.specs.Owners.{Owned};
+ghost use Rattle.worktree_fs.specs.Owners.{OwnershipByPath};
 ghost use Rattle.git_config_files.specs.Answers.{Decides};
 ghost use Rattle.git_config_files.specs.Finds.{Finds, FindsOwned, FindsWith};
 ghost use Rattle.git_config_files.specs.Safe as words;
@@ -205,7 +205,7 @@ fn own_or_safe<W: Worktree, O: Owners>(
 ) -> Result<Top, FilesError>
     ensures finds { FindsWith W.Worktree O.Owners worktree.old worktree.new owners.old owners.new
         (λ t owned. words.own_or_safe t owned around.now top) result }
-    ensures unread { (owned : Owned) → O.told owners.old ≡ Some owned
+    ensures unread { (owned : OwnershipByPath) → O.told owners.old ≡ Some owned
         → IsTrue (words.is_own owned around.now.sudo_user top)
         → W.reads worktree.new ≡ W.reads worktree.old }
 {
@@ -238,7 +238,7 @@ fn own_or_safe<W: Worktree, O: Owners>(
 /// - `OutOfMemory` for want of memory.
 ///
 /// See docs/DIFFERENCES.md#repository-owner.
-pub fn own_top<W: Worktree, O: Owners>(
+pub fn require_trusted_top<W: Worktree, O: Owners>(
     alloc: Global,
     worktree: &mut W,
     owners: &mut O,
@@ -246,8 +246,8 @@ pub fn own_top<W: Worktree, O: Owners>(
     top: Top,
 ) -> Result<Top, FilesError>
     ensures finds { FindsWith W.Worktree O.Owners worktree.old worktree.new owners.old owners.new
-        (λ t owned. words.own_top t owned around.now top) result }
-    ensures unread { (owned : Owned) → O.told owners.old ≡ Some owned
+        (λ t owned. words.require_trusted_top t owned around.now top) result }
+    ensures unread { (owned : OwnershipByPath) → O.told owners.old ≡ Some owned
         → IsTrue (words.is_own owned around.now.sudo_user top)
         → W.reads worktree.new ≡ W.reads worktree.old }
 {

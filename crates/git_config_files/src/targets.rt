@@ -12,7 +12,7 @@ use git_config_lite::{Entry, Section};
 use git_places::path_copied;
 use gitbase_core::{Bytes, OutOfMemory, PathText, eq_ignore_case};
 use std::alloc::Global;
-use worktree_fs::{Worktree, beside};
+use worktree_fs::{Worktree, resolve_from_file_parent};
 
 /// The refusal of a path that has a home which is not known.
 fn home_error(alloc: Global, from: &[u8]) -> Result<FilesError, OutOfMemory>
@@ -126,7 +126,7 @@ fn named_by(
         return Err(nul_error(alloc, from)?);
     }
     match expanded_path(alloc, bytes_of(&known.home), text)? {
-        Some(path) => Ok(Some(beside(alloc, path.as_bytes(), from)?)),
+        Some(path) => Ok(Some(resolve_from_file_parent(alloc, path.as_bytes(), from)?)),
         None => Err(home_error(alloc, from)?),
     }
 }

@@ -131,14 +131,19 @@ fn beneath(
         ≡ words.beneath (option_copied directory.entry) (option_copied home.entry) name.now) }
 {
     match (directory, home) {
-        (Some(directory), _) => Ok(Some(three(alloc, directory, b"/git/", name)?)),
-        (None, Some(home)) => Ok(Some(three(alloc, home, b"/.config/git/", name)?)),
+        (Some(directory), _) => Ok(Some(join_three_texts(alloc, directory, b"/git/", name)?)),
+        (None, Some(home)) => Ok(Some(join_three_texts(alloc, home, b"/.config/git/", name)?)),
         (None, None) => Ok(None),
     }
 }
 
 /// Three texts, one behind another.
-fn three(alloc: Global, front: &[u8], middle: &[u8], end: &[u8]) -> Result<Bytes, OutOfMemory>
+fn join_three_texts(
+    alloc: Global,
+    front: &[u8],
+    middle: &[u8],
+    end: &[u8],
+) -> Result<Bytes, OutOfMemory>
     ensures { IfOk result (λ made. made ≡ front.now ++ middle.now ++ end.now) }
 {
     let mut made = Bytes::from_slice(alloc, front)?;

@@ -1,11 +1,11 @@
 //! Whose repositories are read, and where the search for one ends.
 use crate::owned_answers as git;
 use crate::surroundings::{surroundings_of, wanted};
-use git_config_files::{FilesError, own_top};
+use git_config_files::{FilesError, require_trusted_top};
 use git_places::{Limits, PlacesError, Surroundings, Top, find_top, limits_of};
 use gitbase_core::Bytes;
 use std::alloc::Global;
-use test_cases::{parted, tree_of};
+use test_cases::{split_at_byte, tree_of};
 use worktree_fs::{MemoryOwners, MemoryWorktree, OwnedNode, Ownership, Worktree};
 
 /// The number that digits spell.
@@ -21,7 +21,7 @@ fn number(digits: &[u8]) -> u32 {
 
 /// Whose a node is, by `OWNER,DEVICE`.
 fn ownership_of(numbers: &[u8]) -> Ownership {
-    let (owner, device) = parted(numbers, b',');
+    let (owner, device) = split_at_byte(numbers, b',');
     Ownership {
         owner: number(owner),
         device: u64::from(number(device)),
@@ -38,8 +38,8 @@ fn link_of(numbers: &[u8]) -> Option<Ownership> {
 
 /// A node, by `PATH=OWNER,DEVICE`, and behind a `@` the same of the link that leads there.
 fn node_of(alloc: Global, word: &[u8]) -> Option<OwnedNode> {
-    let (path, told) = parted(word, b'=');
-    let (followed, link) = parted(told, b'@');
+    let (path, told) = split_at_byte(word, b'=');
+    let (followed, link) = split_at_byte(told, b'@');
     Some(OwnedNode {
         path: Bytes::from_slice(alloc, path).ok()?,
         ownership: ownership_of(followed),
@@ -66,8 +66,8 @@ fn leads_to(alloc: Global, tree: &mut MemoryWorktree, path: &[u8], want: &[u8]) 
 }
 
 fn is_top(alloc: Global, tree: &mut MemoryWorktree, top: &Top, want: &[u8]) -> bool {
-    let (word, paths) = parted(want, b' ');
-    let (root, git) = parted(paths, b' ');
+    let (word, paths) = split_at_byte(want, b' ');
+    let (root, git) = split_at_byte(paths, b' ');
     word == b"found".as_slice()
         && top.directory.as_bytes() == root
         && leads_to(alloc, tree, top.git.as_bytes(), git)
@@ -75,7 +75,7 @@ fn is_top(alloc: Global, tree: &mut MemoryWorktree, top: &Top, want: &[u8]) -> b
 
 /// Whether a refusal is the one that is wanted, with the path or the key that it names.
 fn is_refused(error: &PlacesError, want: &[u8]) -> bool {
-    let (word, named) = parted(want, b' ');
+    let (word, named) = split_at_byte(want, b' ');
     match error {
         PlacesError::NoRepository => word == b"no-repository".as_slice(),
         PlacesError::Bare { .. } => word == b"bare".as_slice(),
@@ -89,7 +89,7 @@ fn is_refused(error: &PlacesError, want: &[u8]) -> bool {
 
 /// The same of what configurations are refused with.
 fn is_not_read(error: &FilesError, want: &[u8]) -> bool {
-    let (word, named) = parted(want, b' ');
+    let (word, named) = split_at_byte(want, b' ');
     match error {
         FilesError::Foreign { path } => word == b"foreign".as_slice() && path.as_bytes() == named,
         FilesError::Value { key, .. } => word == b"value".as_slice() && key.as_bytes() == named,
@@ -109,7 +109,7 @@ fn is_own(
     top: Top,
     want: &[u8],
 ) -> bool {
-    match own_top(alloc, tree, owners, around, top) {
+    match require_trusted_top(alloc, tree, owners, around, top) {
         Ok(top) => is_top(alloc, tree, &top, want),
         Err(error) => is_not_read(&error, want),
     }
@@ -187,9 +187,9 @@ fn is_answered(alloc: Global, want: &[u8], words: &[u8], owned: &[u8], steps: &[
 
 fn first_lie(alloc: Global, rows: &'static [u8]) -> Option<&'static [u8]> {
     for row in rows.split(|byte| *byte == b'\n') {
-        let (answer, asked) = parted(row, b'^');
-        let (words, rest) = parted(asked, b'^');
-        let (owned, steps) = parted(rest, b'^');
+        let (answer, asked) = split_at_byte(row, b'^');
+        let (words, rest) = split_at_byte(asked, b'^');
+        let (owned, steps) = split_at_byte(rest, b'^');
         if !row.is_empty() && !is_answered(alloc, wanted(answer), words, owned, steps) {
             return Some(row);
         }

@@ -5,7 +5,7 @@ use crate::surroundings::{places_in, surroundings_of, wanted};
 use git_config_files::{FilesError, Rules, RulesFile, read_stack, rules_files};
 use git_places::{Places, Surroundings};
 use std::alloc::Global;
-use test_cases::{parted, tree_of};
+use test_cases::{split_at_byte, tree_of};
 use worktree_fs::{MemoryWorktree, Worktree};
 
 /// Rows: the file in which stands what is refused, or `-`; what is set in the environment; and the
@@ -40,7 +40,7 @@ fn is_file(
 }
 
 fn are_rules(alloc: Global, tree: &mut MemoryWorktree, rules: &Rules, want: &[u8]) -> bool {
-    let (user, repository) = parted(want, b' ');
+    let (user, repository) = split_at_byte(want, b' ');
     is_file(alloc, tree, &rules.user, user, b"u\n")
         && is_file(alloc, tree, &rules.repository, repository, b"r\n")
 }
@@ -82,8 +82,8 @@ fn is_answered(alloc: Global, want: &[u8], words: &[u8], steps: &[u8]) -> bool {
 
 fn first_lie(alloc: Global, rows: &'static [u8]) -> Option<&'static [u8]> {
     for row in rows.split(|byte| *byte == b'\n') {
-        let (answer, asked) = parted(row, b'^');
-        let (words, steps) = parted(asked, b'^');
+        let (answer, asked) = split_at_byte(row, b'^');
+        let (words, steps) = split_at_byte(asked, b'^');
         if !row.is_empty() && !is_answered(alloc, wanted(answer), words, steps) {
             return Some(row);
         }
@@ -121,8 +121,8 @@ fn is_refused_in(alloc: Global, want: &[u8], words: &[u8], steps: &[u8]) -> bool
 
 fn first_lie_of_files(alloc: Global) -> Option<&'static [u8]> {
     for row in FILES.split(|byte| *byte == b'\n') {
-        let (want, asked) = parted(row, b'^');
-        let (words, steps) = parted(asked, b'^');
+        let (want, asked) = split_at_byte(row, b'^');
+        let (words, steps) = split_at_byte(asked, b'^');
         if !row.is_empty() && !is_refused_in(alloc, want, words, steps) {
             return Some(row);
         }

@@ -5,7 +5,7 @@ use git_config_files::{FilesError, Stack, read_stack};
 use git_config_lite::{Entry, Metadata, Section, Source};
 use git_places::{Places, PlacesError, Surroundings};
 use std::alloc::Global;
-use test_cases::{lines_of, parted, tree_of};
+use test_cases::{lines_of, split_at_byte, tree_of};
 use worktree_fs::{MemoryWorktree, Worktree};
 
 /// Rows that git cannot be asked, since what they need is not there or is given up.
@@ -118,7 +118,7 @@ fn word_of(error: &FilesError) -> &'static [u8] {
 
 /// Whether a line is wanted that is outside the grammar.
 fn is_config_line(alloc: Global, line: usize, want: &[u8]) -> bool {
-    let (word, number) = parted(want, b' ');
+    let (word, number) = split_at_byte(want, b' ');
     word == b"!config".as_slice() && is_line(alloc, line, number)
 }
 
@@ -127,7 +127,7 @@ pub fn is_refused(alloc: Global, error: &FilesError, want: &[u8]) -> bool {
     match error {
         FilesError::Config { line, .. } => is_config_line(alloc, *line, want),
         FilesError::UserDir { value, .. } => {
-            let (word, named) = parted(want, b' ');
+            let (word, named) = split_at_byte(want, b' ');
             word == word_of(error) && value.as_bytes() == named
         }
         error => want == word_of(error),
@@ -166,8 +166,8 @@ fn is_answered(alloc: Global, want: &[u8], words: &[u8], steps: &[u8]) -> bool {
 
 fn first_lie(alloc: Global, rows: &'static [u8]) -> Option<&'static [u8]> {
     for row in rows.split(|byte| *byte == b'\n') {
-        let (answer, asked) = parted(row, b'^');
-        let (words, steps) = parted(asked, b'^');
+        let (answer, asked) = split_at_byte(row, b'^');
+        let (words, steps) = split_at_byte(asked, b'^');
         if !row.is_empty() && !is_answered(alloc, wanted(answer), words, steps) {
             return Some(row);
         }

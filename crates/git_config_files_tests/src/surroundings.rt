@@ -3,13 +3,13 @@ use bstr::ByteSlice;
 use git_places::{Ceilings, Limits, Places, PlacesError, Surroundings, find_top, places_of};
 use gitbase_core::{Bytes, PathText};
 use std::alloc::Global;
-use test_cases::parted;
+use test_cases::split_at_byte;
 use worktree_fs::{MemoryOwners, MemoryWorktree};
 
 /// What is set for a name.
 fn told(alloc: Global, words: &[u8], name: &[u8]) -> Option<Bytes> {
     for word in words.split(|byte| *byte == b';') {
-        let (before, value) = parted(word, b'=');
+        let (before, value) = split_at_byte(word, b'=');
         if before == name {
             return Bytes::from_slice(alloc, value).ok();
         }

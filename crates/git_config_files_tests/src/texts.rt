@@ -3,7 +3,7 @@ use crate::surroundings::{places_in, surroundings_of};
 use git_config_files::{ConfigFiles, FilesError, read_stack};
 use gitbase_core::{Bytes, PathText};
 use std::alloc::Global;
-use test_cases::{parted, tree_of};
+use test_cases::{split_at_byte, tree_of};
 
 /// Rows, parted by bars: an error and its text, parted by a backquote.
 const ROWS: &[u8] = b"\
@@ -40,7 +40,7 @@ fn is_value_shown(alloc: Global, want: &[u8]) -> bool {
 
 /// Whether a row holds.
 fn holds(alloc: Global, row: &[u8]) -> bool {
-    let (error, text) = parted(row, b'`');
+    let (error, text) = split_at_byte(row, b'`');
     match error {
         b"depth" => is_depth_shown(alloc, text),
         b"value" => is_value_shown(alloc, text),

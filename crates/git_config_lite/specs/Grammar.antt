@@ -25,19 +25,19 @@ pub record Draft : Type 0 where
 abbrev pub entry : List ℕ → Option (List ℕ) → Entry
 entry key value = record { key = key; value = value }
 
-abbrev pub whole : List Section → Draft
-whole sections = record { sections = sections; pending = None }
+abbrev pub draft_without_pending : List Section → Draft
+draft_without_pending sections = record { sections = sections; pending = None }
 
 -- a key with one more piece of its value
 abbrev pub with_piece : List Section → List ℕ → Option Piece → Option Draft
 with_piece sections key None = None
 with_piece sections key (Some piece) =
     if piece.continues then Some (record { sections = sections; pending = Some (record { key = key; elements = piece.elements }) })
-    else Some (whole (adding_entry (entry key (Some (value_of piece.elements))) sections))
+    else Some (draft_without_pending (adding_entry (entry key (Some (value_of piece.elements))) sections))
 
 -- a key, by the text behind its `=`
 abbrev pub with_text : List Section → List ℕ → Option (List ℕ) → Option Draft
-with_text sections key None = Some (whole (adding_entry (entry key None) sections))
+with_text sections key None = Some (draft_without_pending (adding_entry (entry key None) sections))
 with_text sections key (Some text) = with_piece sections key (piece_of text)
 
 abbrev pub with_key : List Section → Option Keyed → Option Draft
@@ -51,7 +51,7 @@ key_line (section ∷ more) bytes = with_key (section ∷ more) (key_at bytes)
 
 -- what may follow a header on its line
 abbrev pub behind_header : List Section → List ℕ → Option Draft
-behind_header sections bytes = if says_nothing bytes then Some (whole sections) else key_line sections bytes
+behind_header sections bytes = if says_nothing bytes then Some (draft_without_pending sections) else key_line sections bytes
 
 abbrev pub with_header : Metadata → List Section → Option Headed → Option Draft
 with_header meta sections None = None
@@ -68,8 +68,8 @@ abbrev pub taken_by : Metadata → List Section → Option Pending → List ℕ 
 taken_by meta sections None line = fresh_line meta sections (past_blanks line)
 taken_by meta sections (Some pending) line = with_piece sections pending.key (option_map (before_piece pending.elements) (piece_of line))
 
-abbrev pub taken : Metadata → Draft → List ℕ → Option Draft
-taken meta draft line = taken_by meta draft.sections draft.pending line
+abbrev pub parse_next_line : Metadata → Draft → List ℕ → Option Draft
+parse_next_line meta draft line = taken_by meta draft.sections draft.pending line
 
 -- the end of a text ends a value too
 abbrev pub finished_by : List Section → Option Pending → List Section
@@ -86,8 +86,8 @@ unless_outside number behind (Some draft) = behind draft
 -- what some lines say behind a draft, or the number of the first that is outside the grammar; the first has this number
 abbrev pub said_from : Metadata → ℕ → Draft → List (List ℕ) → Result (List Section) ℕ
 said_from meta number draft [] = Ok (finished draft)
-said_from meta number draft (line ∷ lines) = unless_outside number (λ next. said_from meta (number + 1) next lines) (taken meta draft line)
+said_from meta number draft (line ∷ lines) = unless_outside number (λ next. said_from meta (number + 1) next lines) (parse_next_line meta draft line)
 
 -- The sections that a text says, or the number of its first line outside the grammar, counted from 1.
-abbrev pub said : Metadata → List ℕ → Result (List Section) ℕ
-said meta text = said_from meta 1 (whole []) (text_lines text)
+abbrev pub parse_text_sections : Metadata → List ℕ → Result (List Section) ℕ
+parse_text_sections meta text = said_from meta 1 (draft_without_pending []) (text_lines text)

@@ -82,11 +82,11 @@ piece_from place [] = piece_end place
 piece_from place (b ∷ bytes) = piece_by place (λ p. piece_from p bytes) (value_byte place b)
 
 -- outside quotes, and behind no backslash
-abbrev pub bare : Place
-bare = record { is_quoted = false; is_escaped = false }
+abbrev pub unquoted_unescaped_place : Place
+unquoted_unescaped_place = record { is_quoted = false; is_escaped = false }
 
 abbrev pub piece_of : List ℕ → Option Piece
-piece_of line = piece_from bare line
+piece_of line = piece_from unquoted_unescaped_place line
 
 abbrev pub is_blank_element : Element → Bool
 is_blank_element (Blank _) = true

@@ -2,9 +2,9 @@
 ghost use Rattle.std.specs.Prelude.{◌≡◌, ◌≤◌, length, option_map, IfOk};
 ghost use Rattle.git_config_lite.specs.Texts as texts;
 ghost use Rattle.git_config_lite.specs.Grammar as grammar;
-ghost use Rattle.git_config_lite.specs.Grammar.{said};
+ghost use Rattle.git_config_lite.specs.Grammar.{parse_text_sections};
 ghost use Rattle.git_config_lite.specs.Sections.{adding_entry};
-ghost use Rattle.git_config_lite.specs.Gives.{SaysGives};
+ghost use Rattle.git_config_lite.specs.Gives.{DraftAgreesWithGrammar};
 ghost use Rattle.git_config_lite.specs.Seen as seen;
 
 use crate::element::Element;
@@ -58,7 +58,7 @@ fn with_entry(
     value: Option<Bytes>,
 ) -> Result<Draft, OutOfMemory>
     ensures { IfOk result
-        (λ draft. draft ≡ grammar.whole (adding_entry (grammar.entry key value) sections.items)) }
+        (λ draft. draft ≡ grammar.draft_without_pending (adding_entry (grammar.entry key value) sections.items)) }
 {
     add_entry(&mut sections, Entry { key, value })?;
     Ok(Draft {
@@ -182,13 +182,13 @@ fn fresh_line(
 }
 
 /// What is said with one more line. None where that is outside the grammar.
-fn taken(
+fn parse_next_line(
     alloc: Global,
     meta: &Metadata,
     draft: Draft,
     line: &[u8],
 ) -> Result<Option<Draft>, OutOfMemory>
-    ensures { IfOk result (λ next. next ≡ grammar.taken meta.now draft line.now) }
+    ensures { IfOk result (λ next. next ≡ grammar.parse_next_line meta.now draft line.now) }
 {
     let Draft { sections, pending } = draft;
     let Some(pending) = pending else {
@@ -201,7 +201,7 @@ fn taken(
 
 /// What is said where no line is left, which ends a value.
 fn finished(alloc: Global, draft: Draft) -> Result<Draft, OutOfMemory>
-    ensures { IfOk result (λ done. done ≡ grammar.whole (grammar.finished draft)) }
+    ensures { IfOk result (λ done. done ≡ grammar.draft_without_pending (grammar.finished draft)) }
 {
     let Draft { sections, pending } = draft;
     let Some(pending) = pending else {
@@ -231,7 +231,7 @@ fn without_mark(bytes: &[u8]) -> &[u8]
 ///
 /// `Syntax` names the first line outside the grammar, counted from 1.
 pub fn read(alloc: Global, meta: &Metadata, bytes: &[u8]) -> Result<Draft, ParseError>
-    ensures { SaysGives result (said meta.now bytes.now) }
+    ensures { DraftAgreesWithGrammar result (parse_text_sections meta.now bytes.now) }
 {
     let mut draft = Draft {
         sections: Vec::new(alloc),
@@ -240,7 +240,7 @@ pub fn read(alloc: Global, meta: &Metadata, bytes: &[u8]) -> Result<Draft, Parse
     let mut number = 0;
     for line in without_mark(bytes).lines() {
         number += 1;
-        match taken(alloc, meta, draft, line)? {
+        match parse_next_line(alloc, meta, draft, line)? {
             Some(next) => draft = next,
             None => return Err(ParseError::Syntax { line: number }),
         }

@@ -110,12 +110,12 @@ impl Index {
             ≡ last_found name.now (option_copied subsection.entry) key.now sections.now }
     {
         let run = run_of(&self.places, key_of(subsection));
-        last_placed(sections, run, name, subsection, key)
+        last_value_at_places(sections, run, name, subsection, key)
     }
 }
 
 /// The last value of a key in the sections at some places.
-fn last_placed<'a>(
+fn last_value_at_places<'a>(
     sections: &'a [Section],
     run: &[SectionPlace],
     name: &[u8],

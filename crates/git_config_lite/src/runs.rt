@@ -51,7 +51,7 @@ fn run_from(alloc: Global, sections: &[Section], start: usize) -> Option<Run>
 }
 
 /// Where the last run starts, if it has no more sections than stand behind it.
-fn short_last(runs: &[Run], start: usize, total: usize) -> Option<usize>
+fn short_last_run_start(runs: &[Run], start: usize, total: usize) -> Option<usize>
     ensures { IfSome result (EndsWithRunAt runs.now) }
 {
     let Some((run, _)) = runs.split_last() else {
@@ -65,14 +65,14 @@ fn short_last(runs: &[Run], start: usize, total: usize) -> Option<usize>
 
 /// Takes off the last runs as long as they have no more sections than stand behind them, and says
 /// how many sections the runs that are left have.
-fn without_short(runs: &mut Vec<Run>, sections: &[Section], start: usize) -> usize
+fn pop_short_runs(runs: &mut Vec<Run>, sections: &[Section], start: usize) -> usize
     requires start { start ≤ length sections.now }
     requires runs { AreRunsOf (reverse runs.old.items) (take start sections.now) }
     ensures within { result ≤ length sections.now }
     ensures runs { AreRunsOf (reverse runs.new.items) (take result sections.now) }
 {
     let mut end = start;
-    while let Some(at) = short_last(runs, end, sections.len()) {
+    while let Some(at) = short_last_run_start(runs, end, sections.len()) {
         let _run = runs.pop();
         end = at;
     }
@@ -107,6 +107,6 @@ pub fn runs_of(alloc: Global, runs: Vec<Run>, sections: &[Section], start: usize
         return with_rest(alloc, Vec::new(alloc), sections, 0);
     }
     let mut long = runs;
-    let end = without_short(&mut long, sections, start);
+    let end = pop_short_runs(&mut long, sections, start);
     with_rest(alloc, long, sections, end)
 }

@@ -7,10 +7,10 @@ use Rattle.byteorder.specs.Endian.{big_number, big_bytes}
 use Rattle.gitbase_core.specs.declared.entry.IndexEntry.{IndexEntry}
 use Rattle.gitbase_core.specs.Steps.{and_then}
 use Rattle.git_index.specs.Parts.{is_nul, word}
-use Rattle.git_index.specs.Entries.{Entries, Listed, Read, entries_after, entry_at, last_path, none_listed, path_or, with_entry}
+use Rattle.git_index.specs.Entries.{Entries, Listed, EntryAndRest, entries_after, entry_at, last_path, none_listed, path_or, with_entry}
 use Rattle.git_index.specs.Extensions.{Extension, extension_at, extensions_after, is_optional, named_extension}
 use Rattle.git_index.specs.Fault.{IsFaultAt, path_behind}
-use Rattle.git_index.specs.IndexFile.{index_behind, index_beside, index_of, index_of_bytes, index_with, is_directory, is_sum, is_version, marked_index, unless_unmarked}
+use Rattle.git_index.specs.IndexFile.{index_with_extensions, read_verified_body, index_of, index_of_bytes, index_with, is_directory, is_sum, is_version, marked_index, unless_unmarked}
 use Rattle.git_index.specs.Written.{AreWritable, IsWritable, Written, detail_of, entries_text, entry_of, entry_text}
 use Rattle.git_index.specs.declared.error.IndexFileError.{IndexFileError}
 use Rattle.git_index.specs.declared.error.IndexFileError.TheVariants as errors
@@ -47,8 +47,8 @@ cut_entries version listed previous zero bytes at ok plain last h = absurd (cc)
 cut_entries version listed previous (suc n) bytes at ok plain last h =
     go (entry_at version (last_path listed.entries) bytes) refl h (λ l p b ok plain last h. cut_entries version l p n b at ok plain last h)
   where
-    go : (found : Option Read) → entry_at version (last_path listed.entries) bytes ≡ found
-        → and_then (λ (read : Read). entries_after version (with_entry listed read.entry read.detail) n read.rest) (ok_or found (errors.Entry (length listed.entries))) ≡ Err (errors.Entry at)
+    go : (found : Option EntryAndRest) → entry_at version (last_path listed.entries) bytes ≡ found
+        → and_then (λ (read : EntryAndRest). entries_after version (with_entry listed read.entry read.detail) n read.rest) (ok_or found (errors.Entry (length listed.entries))) ≡ Err (errors.Entry at)
         → ((l : Listed) (p : List ℕ) (b : List ℕ) → AreBytes b → list_any is_nul p ≡ false → last_path l.entries ≡ p → entries_after version l n b ≡ Err (errors.Entry at) → AreCut version l p n b at)
         → AreCut version listed previous (suc n) bytes at
     go None is h again =
@@ -85,7 +85,7 @@ none_written : (version : ℕ) (previous rest : List ℕ) → entry_at version p
 none_written version previous rest none w behind ok is =
     clash (record { entry = entry_of w; detail = detail_of w; rest = behind }) (sym (ap (entry_at version previous) is ∙ entry_exact version previous w behind ok) ∙ none)
   where
-    clash : (read : Read) → Some read ≡ None → ⊥
+    clash : (read : EntryAndRest) → Some read ≡ None → ⊥
     clash read h = cc
 
 -- ---- what else has no such fault
@@ -128,14 +128,14 @@ marked_without listed sparse at h = go sparse (position is_directory listed.entr
   go true (Some a) h = cc
   go false (Some a) h = cc
 
-behind_without : (read : Entries) (at : ℕ) → index_behind read ≡ Err (errors.Entry at) → ⊥
+behind_without : (read : Entries) (at : ℕ) → index_with_extensions read ≡ Err (errors.Entry at) → ⊥
 behind_without read at h = go (extensions_after 0 false read.rest) refl h where
   go : (r : Result Bool IndexFileError) → extensions_after 0 false read.rest ≡ r → and_then (marked_index read.listed) r ≡ Err (errors.Entry at) → ⊥
   go (Ok sparse) is h = marked_without read.listed sparse at h
   go (Err e) is h = extensions_without 0 false read.rest at (is ∙ ap (λ (x : IndexFileError). Err x) (fault_is h))
 
 -- so the entries have it
-of_entries : (r : Result Entries IndexFileError) (at : ℕ) → and_then index_behind r ≡ Err (errors.Entry at) → r ≡ Err (errors.Entry at)
+of_entries : (r : Result Entries IndexFileError) (at : ℕ) → and_then index_with_extensions r ≡ Err (errors.Entry at) → r ≡ Err (errors.Entry at)
 of_entries (Ok read) at h = absurd (behind_without read at h)
 of_entries (Err e) at h = ap (λ (x : IndexFileError). Err x) (fault_is h)
 
@@ -149,7 +149,7 @@ record IsBodyFault (body : List ℕ) (at : ℕ) : Type 0 where
   cut : AreCut version none_listed [] count (drop 12 body) at
   front : body ≡ codes "DIRC" ++ (big_bytes 4 version ++ (big_bytes 4 count ++ drop 12 body))
 
-fault_in_body : (body sum : List ℕ) (at : ℕ) → 12 ≤ length body → AreBytes body → index_beside body sum ≡ Err (errors.Entry at) → IsBodyFault body at
+fault_in_body : (body sum : List ℕ) (at : ℕ) → 12 ≤ length body → AreBytes body → read_verified_body body sum ≡ Err (errors.Entry at) → IsBodyFault body at
 fault_in_body body sum at long ok h =
     let version = word 1 body in
     let count = word 2 body in
@@ -189,7 +189,7 @@ unfolding index_of_bytes
 fault_is_first bytes at ok h =
     let body = take (length bytes - 20) bytes in
     let sum = drop (length bytes - 20) bytes in
-    let long = passed at (nat_lt (length bytes) 32) errors.Short (index_beside body sum) other_short h in
+    let long = passed at (nat_lt (length bytes) 32) errors.Short (read_verified_body body sum) other_short h in
     let fits : 32 ≤ length bytes = ltb-false (length bytes) 32 long.0 in
     let body_size : length body ≡ length bytes - 20 = length-take-le (length bytes - 20) bytes (omega (arith, fits)) in
     let read = fault_in_body body sum at (omega (arith, fits, body_size)) (bytes_front (length bytes - 20) bytes ok) long.1 in

@@ -4,13 +4,13 @@ use Rattle.std.specs.List.{list_any, list_all}
 use Rattle.byteorder.specs.Endian.{big_number, big_bytes}
 use Rattle.gitbase_core.specs.declared.entry.Mode.{Mode}
 use Rattle.gitbase_core.specs.Steps.{◌>>=◌}
-use Rattle.git_index.specs.Parts.{Parted, front, is_nul, text, word}
+use Rattle.git_index.specs.Parts.{PartAndRest, front, is_nul, text, word}
 use Rattle.git_index.specs.Varint.{Number, leading_bytes, number, number_text}
 use Rattle.git_index.specs.Head.{Fixed, fixed_of, is_assumed, is_extended, mode_of, mode_with, stage_of, stat_of}
-use Rattle.git_index.specs.More.{More, is_more, more_at, more_of, second_flags}
-use Rattle.git_index.specs.Name.{Named, cut_path, fits_length, if_fitting, kept_path, padded, padding, path_at, whole_path}
-use Rattle.git_index.specs.Entries.{Read, entry_at, entry_by, named_by, read_of}
-use Rattle.git_index.specs.Written.{AreWords, IsWritable, Written, bit, detail_of, entry_of, entry_text, head_text, more_text, name_text, words_of, words_text}
+use Rattle.git_index.specs.More.{ExtendedFlagsAndRest, has_only_known_bits, more_at, more_of, second_flags}
+use Rattle.git_index.specs.Name.{PathAndRest, cut_path, fits_length, if_fitting, kept_path, padded, padding, path_at, whole_path}
+use Rattle.git_index.specs.Entries.{EntryAndRest, entry_at, entry_by, named_by, read_of}
+use Rattle.git_index.specs.Written.{AreWords, IsWritable, Written, worth_if_set, detail_of, entry_of, entry_text, head_text, more_text, name_text, words_of, words_text}
 use Rattle.git_index.proofs.Bits.{flags_back, more_back}
 use Rattle.git_index.proofs.Numbers.{AreBytes, bytes_behind, bytes_front, number_small, two_back}
 use Rattle.git_index.proofs.ReadParts.{IsFront, from_front, from_text, mode_back, no_nul_front, no_nul_joined, nuls_back}
@@ -32,26 +32,26 @@ head_back head h ok =
 
 -- ---- the second pair of flags
 
-pub record IsMoreOf (version : ℕ) (extended : Bool) (bytes : List ℕ) (more : More) : Type 0 where
-  pub whole : bytes ≡ (if extended then big_bytes 2 (bit more.is_skipped 16384 + bit more.intent_to_add 8192) else []) ++ more.rest
+pub record IsMoreOf (version : ℕ) (extended : Bool) (bytes : List ℕ) (more : ExtendedFlagsAndRest) : Type 0 where
+  pub whole : bytes ≡ (if extended then big_bytes 2 (worth_if_set more.is_skipped 16384 + worth_if_set more.intent_to_add 8192) else []) ++ more.rest
   pub size : more.size ≡ (if extended then 2 else 0)
   pub allowed : extended ≡ true → (version == 2) ≡ false
   pub plain : extended ≡ false → (more.is_skipped ≡ false) × (more.intent_to_add ≡ false)
   pub rest_bytes : AreBytes more.rest
 
-abbrev more_with : ℕ → List ℕ → More
+abbrev more_with : ℕ → List ℕ → ExtendedFlagsAndRest
 more_with bits rest = record { size = 2; is_skipped = bits / 16384 % 2 == 1; intent_to_add = bits / 8192 % 2 == 1; rest = rest }
 
-second_back : (version : ℕ) (bytes : List ℕ) (more : More) → AreBytes bytes → (version == 2) ≡ false → second_flags bytes ≡ Some more → IsMoreOf version true bytes more
+second_back : (version : ℕ) (bytes : List ℕ) (more : ExtendedFlagsAndRest) → AreBytes bytes → (version == 2) ≡ false → second_flags bytes ≡ Some more → IsMoreOf version true bytes more
 second_back version bytes more ok allowed h =
-    let two = bound (front 2 bytes) (λ (p : Parted). more_of (big_number 2 p.part) p.rest) more h in
+    let two = bound (front 2 bytes) (λ (p : PartAndRest). more_of (big_number 2 p.part) p.rest) more h in
     let p = two.0 in
     let part = from_front 2 bytes p two.1 in
     let bits = big_number 2 p.part in
     let bytes_of : AreBytes p.part = subst AreBytes (sym part.part) (bytes_front 2 bytes ok) in
-    let told = chosen (is_more bits) (Some (more_with bits p.rest)) more two.2 in
+    let told = chosen (has_only_known_bits bits) (Some (more_with bits p.rest)) more two.2 in
     let same : more_with bits p.rest ≡ more = some_is told.1 in
-    let written : big_bytes 2 (bit (bits / 16384 % 2 == 1) 16384 + bit (bits / 8192 % 2 == 1) 8192) ≡ p.part =
+    let written : big_bytes 2 (worth_if_set (bits / 16384 % 2 == 1) 16384 + worth_if_set (bits / 8192 % 2 == 1) 8192) ≡ p.part =
     ap (big_bytes 2) (more_back bits (number_small 2 p.part bytes_of) told.0) ∙ two_back p.part part.size bytes_of in
     subst (IsMoreOf version true bytes) same (record {
       whole = part.whole ∙ ap (λ x. x ++ p.rest) (sym written);
@@ -61,7 +61,7 @@ second_back version bytes more ok allowed h =
       rest_bytes = subst AreBytes (sym part.rest) (bytes_behind 2 bytes ok);
     })
 
-pub from_more : (version : ℕ) (extended : Bool) (bytes : List ℕ) (more : More) → AreBytes bytes → more_at version extended bytes ≡ Some more → IsMoreOf version extended bytes more
+pub from_more : (version : ℕ) (extended : Bool) (bytes : List ℕ) (more : ExtendedFlagsAndRest) → AreBytes bytes → more_at version extended bytes ≡ Some more → IsMoreOf version extended bytes more
 from_more version false bytes more ok h =
     subst (IsMoreOf version false bytes) (some_is h) (record { whole = refl; size = refl; allowed = λ e. absurd (cc); plain = λ _. (refl, refl); rest_bytes = ok })
 from_more version true bytes more ok h = go (version == 2) refl h where
@@ -72,26 +72,26 @@ from_more version true bytes more ok h = go (version == 2) refl h where
 -- ---- the path
 
 -- the path, with what it is written as
-pub record IsPathOf (version : ℕ) (previous : List ℕ) (before : ℕ) (bytes : List ℕ) (named : Named) : Type 0 where
+pub record IsPathOf (version : ℕ) (previous : List ℕ) (before : ℕ) (bytes : List ℕ) (named : PathAndRest) : Type 0 where
   pub cut : ℕ
   pub plain : list_any is_nul named.path ≡ false
   pub keeps : (version == 4) ≡ true → (cut < 2 ^ 32) × (cut ≤ length previous)
       × (take (length previous - cut) previous ++ drop (length previous - cut) named.path ≡ named.path)
   pub whole : bytes ≡ (if version == 4 then number_text cut ++ (drop (length previous - cut) named.path ++ 0 ∷ []) else named.path ++ 0 ∷ replicate (padding (before + length named.path)) 0) ++ named.rest
 
-record IsWhole (before : ℕ) (bytes : List ℕ) (named : Named) : Type 0 where
+record IsWhole (before : ℕ) (bytes : List ℕ) (named : PathAndRest) : Type 0 where
   plain : list_any is_nul named.path ≡ false
   whole : bytes ≡ (named.path ++ 0 ∷ replicate (padding (before + length named.path)) 0) ++ named.rest
 
-whole_back : (before : ℕ) (bytes : List ℕ) (named : Named) → whole_path before bytes ≡ Some named → IsWhole before bytes named
+whole_back : (before : ℕ) (bytes : List ℕ) (named : PathAndRest) → whole_path before bytes ≡ Some named → IsWhole before bytes named
 whole_back before bytes named h =
-    let read = bound (text bytes) (λ (name : Parted). padded name.part (before + length name.part) name.rest) named h in
+    let read = bound (text bytes) (λ (name : PartAndRest). padded name.part (before + length name.part) name.rest) named h in
     let name = read.0 in
     let split = from_text bytes name read.1 in
-    let fill = bound (front (padding (before + length name.part)) name.rest) (λ (fill : Parted). if list_all is_nul fill.part then Some (record { path = name.part; rest = fill.rest }) else None) named read.2 in
+    let fill = bound (front (padding (before + length name.part)) name.rest) (λ (fill : PartAndRest). if list_all is_nul fill.part then Some (record { path = name.part; rest = fill.rest }) else None) named read.2 in
     let part = from_front (padding (before + length name.part)) name.rest fill.0 fill.1 in
     let told = chosen (list_all is_nul fill.0.part) (Some (record { path = name.part; rest = fill.0.rest })) named fill.2 in
-    let same : (◌≡◌ {A = Named} (record { path = name.part; rest = fill.0.rest }) named) = some_is told.1 in
+    let same : (◌≡◌ {A = PathAndRest} (record { path = name.part; rest = fill.0.rest }) named) = some_is told.1 in
     let nuls : fill.0.part ≡ replicate (padding (before + length name.part)) 0 = nuls_back fill.0.part told.0 ∙ ap (λ n. replicate n 0) part.size in
     subst (IsWhole before bytes) same (record {
       plain = split.plain;
@@ -99,7 +99,7 @@ whole_back before bytes named h =
           ∙ sym (append_assoc name.part (0 ∷ replicate (padding (before + length name.part)) 0) fill.0.rest);
     })
 
-record IsCut (previous bytes : List ℕ) (named : Named) : Type 0 where
+record IsCut (previous bytes : List ℕ) (named : PathAndRest) : Type 0 where
   cut : ℕ
   plain : list_any is_nul named.path ≡ false
   small : cut < 2 ^ 32
@@ -107,7 +107,7 @@ record IsCut (previous bytes : List ℕ) (named : Named) : Type 0 where
   same : take (length previous - cut) previous ++ drop (length previous - cut) named.path ≡ named.path
   whole : bytes ≡ (number_text cut ++ (drop (length previous - cut) named.path ++ 0 ∷ [])) ++ named.rest
 
-cut_back : (previous bytes : List ℕ) (named : Named) → AreBytes bytes → list_any is_nul previous ≡ false → cut_path previous bytes ≡ Some named → IsCut previous bytes named
+cut_back : (previous bytes : List ℕ) (named : PathAndRest) → AreBytes bytes → list_any is_nul previous ≡ false → cut_path previous bytes ≡ Some named → IsCut previous bytes named
 unfolding leading_bytes
 cut_back previous bytes named ok plain h =
     let read = bound (number bytes) (λ (n : Number). kept_path previous n.value n.rest) named h in
@@ -115,9 +115,9 @@ cut_back previous bytes named ok plain h =
     let text_of = from_number 0 bytes n ok read.1 in
     let whole_text : bytes ≡ number_text n.value ++ n.rest = text_of.whole ∙ ap (λ x. x ++ n.rest) (text_of.is) in
     let kept = length previous - n.value in
-    let told = chosen (nat_le n.value (length previous)) (option_map (λ (name : Parted). record { path = take kept previous ++ name.part; rest = name.rest }) (text n.rest)) named read.2 in
+    let told = chosen (nat_le n.value (length previous)) (option_map (λ (name : PartAndRest). record { path = take kept previous ++ name.part; rest = name.rest }) (text n.rest)) named read.2 in
     let within : n.value ≤ length previous = leb-true n.value (length previous) told.0 in
-    let tail = mapped (text n.rest) (λ (name : Parted). record { path = take kept previous ++ name.part; rest = name.rest }) named told.1 in
+    let tail = mapped (text n.rest) (λ (name : PartAndRest). record { path = take kept previous ++ name.part; rest = name.rest }) named told.1 in
     let split = from_text n.rest tail.0 tail.1 in
     let behind : drop kept (take kept previous ++ tail.0.part) ≡ tail.0.part =
     drop_exact kept (take kept previous) tail.0.part (length-take-le kept previous (omega arith)) in
@@ -132,7 +132,7 @@ cut_back previous bytes named ok plain h =
           ∙ sym (append_assoc (number_text n.value) (drop kept (take kept previous ++ tail.0.part) ++ 0 ∷ []) tail.0.rest);
     })
 
-pub from_path : (version : ℕ) (previous : List ℕ) (before : ℕ) (bytes : List ℕ) (named : Named) → AreBytes bytes → list_any is_nul previous ≡ false
+pub from_path : (version : ℕ) (previous : List ℕ) (before : ℕ) (bytes : List ℕ) (named : PathAndRest) → AreBytes bytes → list_any is_nul previous ≡ false
     → path_at version previous before bytes ≡ Some named → IsPathOf version previous before bytes named
 from_path version previous before bytes named ok plain h = go (version == 4) refl h where
   go : (b : Bool) → (version == 4) ≡ b → (if b then cut_path previous bytes else whole_path before bytes) ≡ Some named → IsPathOf version previous before bytes named
@@ -155,7 +155,7 @@ from_path version previous before bytes named ok plain h = go (version == 4) ref
 
 -- ---- an entry
 
-pub record IsEntryOf (version : ℕ) (previous bytes : List ℕ) (read : Read) : Type 0 where
+pub record IsEntryOf (version : ℕ) (previous bytes : List ℕ) (read : EntryAndRest) : Type 0 where
   pub w : Written
   pub whole : bytes ≡ entry_text version previous w ++ read.rest
   pub writable : IsWritable version previous w
@@ -163,7 +163,7 @@ pub record IsEntryOf (version : ℕ) (previous bytes : List ℕ) (read : Read) :
   pub detail : detail_of w ≡ read.detail
 
 -- what is written where these parts are read
-written_by : List ℕ → More → Named → ℕ → Written
+written_by : List ℕ → ExtendedFlagsAndRest → PathAndRest → ℕ → Written
 written_by head more named cut = record {
   stat = stat_of head;
   mode = word 6 head;
@@ -178,34 +178,34 @@ written_by head more named cut = record {
 }
 
 -- the head says its numbers
-head_is : (head : List ℕ) (more : More) (named : Named) (cut : ℕ) → length head ≡ 62 → AreBytes head → fits_length (big_number 2 (drop 60 head)) named ≡ true
+head_is : (head : List ℕ) (more : ExtendedFlagsAndRest) (named : PathAndRest) (cut : ℕ) → length head ≡ 62 → AreBytes head → fits_length (big_number 2 (drop 60 head)) named ≡ true
     → head ≡ head_text (written_by head more named cut)
 unfolding written_by words_at
 head_is head more named cut size ok fits =
     let f = big_number 2 (drop 60 head) in
-    let flags : bit (is_assumed f) 32768 + bit (is_extended f) 16384 + stage_of f * 4096 + min (length named.path) 4095 ≡ f =
+    let flags : worth_if_set (is_assumed f) 32768 + worth_if_set (is_extended f) 16384 + stage_of f * 4096 + min (length named.path) 4095 ≡ f =
     flags_back f (min (length named.path) 4095) (number_small 2 (drop 60 head) (bytes_behind 60 head ok)) (eqb-true _ _ fits) in
     head_back head size ok ∙ ap (λ k. words_text (words_at 10 0 head) ++ (take 20 (drop 40 head) ++ big_bytes 2 k)) (sym flags)
 
-words_are : (head : List ℕ) (more : More) (named : Named) (cut : ℕ) → AreBytes head → AreWords (words_of (written_by head more named cut))
+words_are : (head : List ℕ) (more : ExtendedFlagsAndRest) (named : PathAndRest) (cut : ℕ) → AreBytes head → AreWords (words_of (written_by head more named cut))
 unfolding written_by words_at
 words_are head more named cut ok = words_small 10 0 head ok
 
 -- the parts that an entry is read from
-record AreParts (version : ℕ) (previous bytes : List ℕ) (read : Read) : Type 0 where
-  p : Parted
+record AreParts (version : ℕ) (previous bytes : List ℕ) (read : EntryAndRest) : Type 0 where
+  p : PartAndRest
   is_front : IsFront 62 bytes p
-  m : More
+  m : ExtendedFlagsAndRest
   mode_is : mode_of (word 6 p.part) ≡ Some (mode_with (word 6 p.part))
   more_is : more_at version (is_extended (big_number 2 (drop 60 p.part))) p.rest ≡ Some m
-  n : Named
+  n : PathAndRest
   path_is : path_at version previous (62 + m.size) m.rest ≡ Some n
   fits : fits_length (big_number 2 (drop 60 p.part)) n ≡ true
   is : read_of (record { stat = stat_of p.part; mode = mode_with (word 6 p.part); id = take 20 (drop 40 p.part); flags = big_number 2 (drop 60 p.part) }) m n ≡ read
 
-parts_of : (version : ℕ) (previous bytes : List ℕ) (read : Read) → entry_at version previous bytes ≡ Some read → AreParts version previous bytes read
+parts_of : (version : ℕ) (previous bytes : List ℕ) (read : EntryAndRest) → entry_at version previous bytes ≡ Some read → AreParts version previous bytes read
 parts_of version previous bytes read h =
-    let front_of = bound (front 62 bytes) (λ (p : Parted). fixed_of p.part >>= (λ (x : Fixed). entry_by version previous x p.rest)) read h in
+    let front_of = bound (front 62 bytes) (λ (p : PartAndRest). fixed_of p.part >>= (λ (x : Fixed). entry_by version previous x p.rest)) read h in
     let p = front_of.0 in
     let head = p.part in
     let f = big_number 2 (drop 60 head) in
@@ -215,9 +215,9 @@ parts_of version previous bytes read h =
     let fixed_with : Fixed = record { stat = stat_of head; mode = mode_with (word 6 head); id = take 20 (drop 40 head); flags = f } in
     let fixed_same : fixed_with ≡ fixed.0 = ap (λ (x : Mode). record { stat = stat_of head; mode = x; id = take 20 (drop 40 head); flags = f }) (sym mode_same) ∙ mode.2 in
     let by : entry_by version previous fixed_with p.rest ≡ Some read = ap (λ (x : Fixed). entry_by version previous x p.rest) fixed_same ∙ fixed.2 in
-    let more = bound (more_at version (is_extended f) p.rest) (λ (m : More). named_by version previous f m >>= (λ (n : Named). Some (read_of fixed_with m n))) read by in
+    let more = bound (more_at version (is_extended f) p.rest) (λ (m : ExtendedFlagsAndRest). named_by version previous f m >>= (λ (n : PathAndRest). Some (read_of fixed_with m n))) read by in
     let m = more.0 in
-    let named = bound (named_by version previous f m) (λ (n : Named). Some (read_of fixed_with m n)) read more.2 in
+    let named = bound (named_by version previous f m) (λ (n : PathAndRest). Some (read_of fixed_with m n)) read more.2 in
     let path = bound (path_at version previous (62 + m.size) m.rest) (if_fitting f) named.0 named.1 in
     let n = path.0 in
     let fits = chosen (fits_length f n) (Some n) named.0 path.2 in
@@ -233,7 +233,7 @@ parts_of version previous bytes read h =
       is = ap (read_of fixed_with m) (some_is fits.1) ∙ some_is named.2;
     }
 
-pub from_entry : (version : ℕ) (previous bytes : List ℕ) (read : Read) → AreBytes bytes → list_any is_nul previous ≡ false
+pub from_entry : (version : ℕ) (previous bytes : List ℕ) (read : EntryAndRest) → AreBytes bytes → list_any is_nul previous ≡ false
     → entry_at version previous bytes ≡ Some read → IsEntryOf version previous bytes read
 unfolding written_by
 from_entry version previous bytes read ok plain h =

@@ -5,7 +5,7 @@ use Rattle.std.specs.Cmp.Lexicographic.{bytes_decides}
 use Rattle.std.specs.List.{list_any}
 use Rattle.byteorder.specs.Endian.{big_number, big_bytes}
 use Rattle.git_index.specs.Extensions.{Extension, extension_at, extensions_after, is_optional, named_extension}
-use Rattle.git_index.specs.Written.{AreHeld, Held, extensions_text, is_mark}
+use Rattle.git_index.specs.Written.{AreHeld, WrittenExtension, extensions_text, is_mark}
 use Rattle.git_index.specs.declared.error.IndexFileError.{IndexFileError}
 use Rattle.git_index.specs.declared.error.IndexFileError.TheVariants as errors
 use Rattle.git_index.proofs.Numbers.{AreBytes, bytes_behind, number_at, number_small}
@@ -37,7 +37,7 @@ from_name name size e h = go (is_optional name) refl h where
   go false is h = marked (bytes_eq name (codes "sdir")) refl is h
 
 pub record AreExtensionsOf (n : ℕ) (sparse : Bool) (bytes : List ℕ) (out : Bool) : Type 0 where
-  pub es : List Held
+  pub es : List WrittenExtension
   pub fits : n ≤ length bytes
   pub whole : drop n bytes ≡ extensions_text es
   pub held : AreHeld es

@@ -8,11 +8,11 @@ use Rattle.byteorder.specs.Endian.{big_bytes}
 use Rattle.sha1.specs.Sha1.{sha1}
 use Rattle.gitbase_core.specs.declared.entry.IndexEntry.{IndexEntry}
 use Rattle.git_index.specs.Parts.{is_nul, word}
-use Rattle.git_index.specs.Entries.{Entries, Listed, Read, entries_after, entry_at, last_path, none_listed, path_or, with_entry}
+use Rattle.git_index.specs.Entries.{Entries, Listed, EntryAndRest, entries_after, entry_at, last_path, none_listed, path_or, with_entry}
 use Rattle.git_index.specs.Extensions.{extensions_after}
 use Rattle.git_index.specs.Gives.{GivesIndex}
-use Rattle.git_index.specs.IndexFile.{Index, index_behind, index_beside, index_of, index_of_bytes, index_with, is_directory, is_sum, is_version, marked_index, unless_unmarked}
-use Rattle.git_index.specs.Written.{AreHeld, AreWritable, Held, IsFileOf, Written, body_text, detail_of, entries_text, entry_of, entry_text, extensions_text, index_written, is_mark, stands_for_directory}
+use Rattle.git_index.specs.IndexFile.{Index, index_with_extensions, read_verified_body, index_of, index_of_bytes, index_with, is_directory, is_sum, is_version, marked_index, unless_unmarked}
+use Rattle.git_index.specs.Written.{AreHeld, AreWritable, WrittenExtension, IsFileOf, Written, body_text, detail_of, entries_text, entry_of, entry_text, extensions_text, index_written, is_mark, stands_for_directory}
 use Rattle.git_index.specs.declared.stat.Detail.{Detail}
 use Rattle.git_index.specs.declared.error.IndexFileError.{IndexFileError}
 use Rattle.git_index.specs.declared.error.IndexFileError.TheVariants as errors
@@ -39,7 +39,7 @@ from_entries version listed previous zero bytes out ok plain last h =
 from_entries version listed previous (suc n) bytes out ok plain last h =
     let found = entry_at version (last_path listed.entries) bytes in
     let fault = errors.Entry (length listed.entries) in
-    let step = went (ok_or found fault) (λ (read : Read). entries_after version (with_entry listed read.entry read.detail) n read.rest) out h in
+    let step = went (ok_or found fault) (λ (read : EntryAndRest). entries_after version (with_entry listed read.entry read.detail) n read.rest) out h in
     let read = step.0 in
     let is : entry_at version previous bytes ≡ Some read = ap (λ p. entry_at version p bytes) (sym last) ∙ given found fault read step.1 in
     let one = from_entry version previous bytes read ok plain is in
@@ -110,7 +110,7 @@ directories (w ∷ ws) = ap (λ b. stands_for_directory w || b) (directories ws)
 pub record IsBodyOf (body sum : List ℕ) (index : Index) : Type 0 where
   pub version : ℕ
   pub ws : List Written
-  pub es : List Held
+  pub es : List WrittenExtension
   pub is : is_version version ≡ true
   pub few : length ws < 256 ^ 4
   pub entries : AreWritable version [] ws
@@ -120,7 +120,7 @@ pub record IsBodyOf (body sum : List ℕ) (index : Index) : Type 0 where
   pub whole : body ≡ body_text version ws es
   pub says : index ≡ index_written ws es
 
-from_body : (body sum : List ℕ) (index : Index) → 12 ≤ length body → AreBytes body → index_beside body sum ≡ Ok index → IsBodyOf body sum index
+from_body : (body sum : List ℕ) (index : Index) → 12 ≤ length body → AreBytes body → read_verified_body body sum ≡ Ok index → IsBodyOf body sum index
 from_body body sum index long ok h =
     let version = word 1 body in
     let count = word 2 body in
@@ -130,7 +130,7 @@ from_body body sum index long ok h =
     let signed = unless (not (bytes_eq (take 4 body) (codes "DIRC"))) errors.Signature (if not (is_version version) then Err (errors.Version version) else sums) index h in
     let versioned = unless (not (is_version version)) (errors.Version version) sums index signed.1 in
     let summed = unless (not (is_sum body sum)) errors.Sum read_on index versioned.1 in
-    let read = went (entries_after version none_listed count rest) index_behind index summed.1 in
+    let read = went (entries_after version none_listed count rest) index_with_extensions index summed.1 in
     let entries = from_entries version none_listed [] count rest read.0 (bytes_behind 12 body ok) refl refl read.1 in
     let marks = went (extensions_after 0 false read.0.rest) (marked_index read.0.listed) index read.2 in
     let mark = from_mark read.0.listed marks.0 index marks.2 in
@@ -164,7 +164,7 @@ unfolding index_of_bytes
 read_is_written bytes index ok h =
     let body = take (length bytes - 20) bytes in
     let sum = drop (length bytes - 20) bytes in
-    let long = unless (nat_lt (length bytes) 32) errors.Short (index_beside body sum) index h in
+    let long = unless (nat_lt (length bytes) 32) errors.Short (read_verified_body body sum) index h in
     let fits : 32 ≤ length bytes = ltb-false (length bytes) 32 long.0 in
     let body_size : length body ≡ length bytes - 20 = length-take-le (length bytes - 20) bytes (omega (arith, fits)) in
     let sum_size : length sum ≡ 20 = omega (arith, fits, length-drop (length bytes - 20) bytes) in

@@ -3,23 +3,23 @@ use Rattle.std.proofs.Common.{◌≡◌, refl, sym, ap, ◌∙◌, subst, arith,
 use Rattle.std.specs.List.{list_any, list_all, position_or_len}
 use Rattle.gitbase_core.specs.declared.entry.Mode.{Mode}
 use Rattle.gitbase_core.specs.Entry.{file_mode, executable_mode, symlink_mode, commit_mode, dir_mode}
-use Rattle.git_index.specs.Parts.{front, is_nul, parted_at, text, Parted}
+use Rattle.git_index.specs.Parts.{front, is_nul, parted_at, text, PartAndRest}
 use Rattle.git_index.specs.Head.{mode_of, mode_with}
 use Rattle.git_index.proofs.Steps.{and_first, and_second, chosen, mapped, some_is}
 
-pub record IsFront (n : ℕ) (bytes : List ℕ) (p : Parted) : Type 0 where
+pub record IsFront (n : ℕ) (bytes : List ℕ) (p : PartAndRest) : Type 0 where
   pub size : length p.part ≡ n
   pub whole : bytes ≡ p.part ++ p.rest
   pub part : p.part ≡ take n bytes
   pub rest : p.rest ≡ drop n bytes
 
-pub from_front : (n : ℕ) (bytes : List ℕ) (p : Parted) → front n bytes ≡ Some p → IsFront n bytes p
+pub from_front : (n : ℕ) (bytes : List ℕ) (p : PartAndRest) → front n bytes ≡ Some p → IsFront n bytes p
 from_front n bytes p h =
     let found = chosen (nat_le n (length bytes)) (Some (record { part = take n bytes; rest = drop n bytes })) p h in
     let fits : n ≤ length bytes = leb-true n (length bytes) found.0 in
-    let same : (◌≡◌ {A = Parted} (record { part = take n bytes; rest = drop n bytes }) p) = some_is found.1 in
-    let part : p.part ≡ take n bytes = sym (ap (λ (q : Parted). q.part) same) in
-    let rest : p.rest ≡ drop n bytes = sym (ap (λ (q : Parted). q.rest) same) in
+    let same : (◌≡◌ {A = PartAndRest} (record { part = take n bytes; rest = drop n bytes }) p) = some_is found.1 in
+    let part : p.part ≡ take n bytes = sym (ap (λ (q : PartAndRest). q.part) same) in
+    let rest : p.rest ≡ drop n bytes = sym (ap (λ (q : PartAndRest). q.rest) same) in
     record {
       size = ap length part ∙ length-take-le n bytes fits;
       whole = sym (take-append-drop n bytes) ∙ ap (λ x. x ++ drop n bytes) (sym part) ∙ ap (λ x. p.part ++ x) (sym rest);
@@ -29,7 +29,7 @@ from_front n bytes p h =
 
 -- ---- a text that a NUL ends
 
-pub record IsText (bytes : List ℕ) (p : Parted) : Type 0 where
+pub record IsText (bytes : List ℕ) (p : PartAndRest) : Type 0 where
   pub whole : bytes ≡ p.part ++ 0 ∷ p.rest
   pub plain : list_any is_nul p.part ≡ false
 
@@ -53,16 +53,16 @@ splits (b ∷ bytes) at is h = go (is_nul b) refl (λ h. splits bytes (position_
         plain = ap (λ t. t || list_any is_nul (take (position_or_len is_nul bytes) bytes)) e ∙ rest.plain;
       })
 
-pub from_text : (bytes : List ℕ) (p : Parted) → text bytes ≡ Some p → IsText bytes p
+pub from_text : (bytes : List ℕ) (p : PartAndRest) → text bytes ≡ Some p → IsText bytes p
 from_text bytes p h =
     let found = mapped (position is_nul bytes) (parted_at bytes) p h in
     let at = position_or_len is_nul bytes in
     let within = chosen (nat_lt at (length bytes)) (Some at) found.0 found.1 in
     let place : at ≡ found.0 = some_is within.1 in
     let split = splits bytes found.0 place (subst (λ (k : ℕ). k < length bytes) place (ltb-true at (length bytes) within.0)) in
-    let part : p.part ≡ take found.0 bytes = sym (ap (λ (q : Parted). q.part) found.2) in
+    let part : p.part ≡ take found.0 bytes = sym (ap (λ (q : PartAndRest). q.part) found.2) in
     let one : found.0 + 1 ≡ suc found.0 = omega arith in
-    let rest : p.rest ≡ drop (suc found.0) bytes = sym (ap (λ (q : Parted). q.rest) found.2) ∙ ap (λ k. drop k bytes) one in
+    let rest : p.rest ≡ drop (suc found.0) bytes = sym (ap (λ (q : PartAndRest). q.rest) found.2) ∙ ap (λ k. drop k bytes) one in
     record {
       whole = split.whole ∙ ap (λ x. x ++ 0 ∷ drop (suc found.0) bytes) (sym part) ∙ ap (λ x. p.part ++ 0 ∷ x) (sym rest);
       plain = ap (list_any is_nul) part ∙ split.plain;

@@ -6,13 +6,13 @@ use Rattle.byteorder.specs.Endian.{big_number, big_bytes}
 use Rattle.byteorder.specs.Numbers.{big_number-reads_back, length-bytes_high_first}
 use Rattle.gitbase_core.specs.declared.entry.Mode.{Mode}
 use Rattle.gitbase_core.specs.Steps.{◌>>=◌}
-use Rattle.git_index.specs.Parts.{Parted, is_nul, text, word}
+use Rattle.git_index.specs.Parts.{PartAndRest, is_nul, text, word}
 use Rattle.git_index.specs.Varint.{Number, number_text}
 use Rattle.git_index.specs.Head.{Fixed, fixed_of, flags_of, mode_of, mode_with, stage_of, stat_of}
-use Rattle.git_index.specs.More.{More, more_at, more_of, second_flags}
-use Rattle.git_index.specs.Name.{Named, cut_path, if_fitting, kept_path, padded, padding, path_at, whole_path}
-use Rattle.git_index.specs.Entries.{Read, entry_at, entry_by, named_by, read_of}
-use Rattle.git_index.specs.Written.{IsWritable, Keeps, Written, AreWords, detail_of, entry_of, entry_text, first_flags, head_text, more_size, more_text, name_text, second_flags as second_flags_of, words_of, words_text}
+use Rattle.git_index.specs.More.{ExtendedFlagsAndRest, more_at, more_of, second_flags}
+use Rattle.git_index.specs.Name.{PathAndRest, cut_path, if_fitting, kept_path, padded, padding, path_at, whole_path}
+use Rattle.git_index.specs.Entries.{EntryAndRest, entry_at, entry_by, named_by, read_of}
+use Rattle.git_index.specs.Written.{IsWritable, SharesPreviousPrefix, Written, AreWords, detail_of, entry_of, entry_text, first_flags, head_text, more_size, more_text, name_text, second_flags as second_flags_of, words_of, words_text}
 use Rattle.git_index.specs.declared.stat.Stat.{Stat}
 use Rattle.git_index.proofs.Bits.{AreBits, bits, second_bits}
 use Rattle.git_index.proofs.Seams.{all_nuls, drop_exact, front_exact, no_nul_behind, take_exact, text_exact}
@@ -81,7 +81,7 @@ two_bytes w rest =
     let two = big_bytes 2 n in
     let told = second_bits w.skipped w.intent_to_add in
     let value : big_number 2 two ≡ n = ap (big_number 2) (sym (append-nil two)) ∙ big_number-reads_back 2 n [] told.small in
-    ap (λ (p : Option Parted). p >>= (λ (p : Parted). more_of (big_number 2 p.part) p.rest)) (front_exact 2 two rest (length-bytes_high_first 2 n))
+    ap (λ (p : Option PartAndRest). p >>= (λ (p : PartAndRest). more_of (big_number 2 p.part) p.rest)) (front_exact 2 two rest (length-bytes_high_first 2 n))
     ∙ ap (λ (n : ℕ). more_of n rest) value
     ∙ ap (λ b. if b then Some (record { size = 2; is_skipped = n / 16384 % 2 == 1; intent_to_add = n / 8192 % 2 == 1; rest = rest }) else None) told.is
     ∙ ap (λ (b : Bool). Some (record { size = 2; is_skipped = b; intent_to_add = n / 8192 % 2 == 1; rest = rest })) told.skips
@@ -105,18 +105,18 @@ more_exact version previous w rest ok = more_if version w rest w.extended ok.ext
 padded_exact : (path : List ℕ) (before : ℕ) (rest : List ℕ) → padded path before (replicate (padding before) 0 ++ rest) ≡ Some (record { path = path; rest = rest })
 padded_exact path before rest =
     let fill = replicate (padding before) 0 in
-    ap (λ (p : Option Parted). p >>= (λ (p : Parted). (if list_all is_nul p.part then Some (record { path = path; rest = p.rest }) else None)))
+    ap (λ (p : Option PartAndRest). p >>= (λ (p : PartAndRest). (if list_all is_nul p.part then Some (record { path = path; rest = p.rest }) else None)))
     (front_exact (padding before) fill rest (length-replicate (padding before) 0))
     ∙ ap (λ b. if b then Some (record { path = path; rest = rest }) else None) (all_nuls (padding before))
 
 whole_exact : (path : List ℕ) (before : ℕ) (rest : List ℕ) → list_any is_nul path ≡ false
     → whole_path before (path ++ 0 ∷ (replicate (padding (before + length path)) 0 ++ rest)) ≡ Some (record { path = path; rest = rest })
 whole_exact path before rest h =
-    ap (λ (p : Option Parted). p >>= (λ (name : Parted). padded name.part (before + length name.part) name.rest))
+    ap (λ (p : Option PartAndRest). p >>= (λ (name : PartAndRest). padded name.part (before + length name.part) name.rest))
     (text_exact path (replicate (padding (before + length path)) 0 ++ rest) h)
     ∙ padded_exact path (before + length path) rest
 
-cut_exact : (previous : List ℕ) (w : Written) (rest : List ℕ) → Keeps previous w → list_any is_nul w.path ≡ false
+cut_exact : (previous : List ℕ) (w : Written) (rest : List ℕ) → SharesPreviousPrefix previous w → list_any is_nul w.path ≡ false
     → cut_path previous ((number_text w.cut ++ (drop (length previous - w.cut) w.path ++ 0 ∷ [])) ++ rest) ≡ Some (record { path = w.path; rest = rest })
 cut_exact previous w rest keeps h =
     let kept = length previous - w.cut in
@@ -125,11 +125,11 @@ cut_exact previous w rest keeps h =
     append_assoc (number_text w.cut) (tail ++ 0 ∷ []) rest ∙ ap (λ x. number_text w.cut ++ x) (append_assoc tail (0 ∷ []) rest) in
     ap (cut_path previous) bytes
     ∙ ap (λ (n : Option Number). n >>= (λ (n : Number). kept_path previous n.value n.rest)) (number_exact w.cut (tail ++ 0 ∷ rest) keeps.small)
-    ∙ ap (λ b. if b then option_map (λ (name : Parted). record { path = take kept previous ++ name.part; rest = name.rest }) (text (tail ++ 0 ∷ rest)) else None) (le-leb _ _ keeps.within)
-    ∙ ap (option_map (λ (name : Parted). record { path = take kept previous ++ name.part; rest = name.rest })) (text_exact tail rest (no_nul_behind kept w.path h))
+    ∙ ap (λ b. if b then option_map (λ (name : PartAndRest). record { path = take kept previous ++ name.part; rest = name.rest }) (text (tail ++ 0 ∷ rest)) else None) (le-leb _ _ keeps.within)
+    ∙ ap (option_map (λ (name : PartAndRest). record { path = take kept previous ++ name.part; rest = name.rest })) (text_exact tail rest (no_nul_behind kept w.path h))
     ∙ ap (λ (p : List ℕ). Some (record { path = p; rest = rest })) keeps.same
 
-path_by : (previous : List ℕ) (w : Written) (before : ℕ) (rest : List ℕ) (b : Bool) → (b ≡ true → Keeps previous w) → list_any is_nul w.path ≡ false
+path_by : (previous : List ℕ) (w : Written) (before : ℕ) (rest : List ℕ) (b : Bool) → (b ≡ true → SharesPreviousPrefix previous w) → list_any is_nul w.path ≡ false
     → (if b then cut_path previous ((if b then number_text w.cut ++ (drop (length previous - w.cut) w.path ++ 0 ∷ []) else w.path ++ 0 ∷ replicate (padding (before + length w.path)) 0) ++ rest)
     else whole_path before ((if b then number_text w.cut ++ (drop (length previous - w.cut) w.path ++ 0 ∷ []) else w.path ++ 0 ∷ replicate (padding (before + length w.path)) 0) ++ rest))
     ≡ Some (record { path = w.path; rest = rest })
@@ -147,10 +147,10 @@ named_exact : (version : ℕ) (previous : List ℕ) (w : Written) (rest : List �
     → named_by version previous (first_flags w) (record { size = more_size w; is_skipped = w.skipped; intent_to_add = w.intent_to_add; rest = name_text version previous w ++ rest })
     ≡ Some (record { path = w.path; rest = rest })
 named_exact version previous w rest ok =
-    ap (λ (n : Option Named). n >>= if_fitting (first_flags w)) (path_exact version previous w rest ok)
+    ap (λ (n : Option PathAndRest). n >>= if_fitting (first_flags w)) (path_exact version previous w rest ok)
     ∙ ap (λ b. if b then Some (record { path = w.path; rest = rest }) else None) (eq-eqb _ _ (sym (flags_bits w ok.stage).length))
 
-made : Bool → ℕ → Written → List ℕ → Read
+made : Bool → ℕ → Written → List ℕ → EntryAndRest
 made assumed stage w rest = record {
   entry = record { path = w.path; stage = stage; mode = mode_with w.mode; flags = flags_of assumed w.skipped; id = w.id };
   detail = detail_of w;
@@ -169,13 +169,13 @@ entry_exact version previous w rest ok =
     let bytes : entry_text version previous w ++ rest ≡ head ++ (more ++ (name ++ rest)) =
     append_assoc head (more ++ name) rest ∙ ap (λ x. head ++ x) (append_assoc more name rest) in
     ap (entry_at version previous) bytes
-    ∙ ap (λ (p : Option Parted). p >>= (λ (p : Parted). fixed_of p.part >>= (λ (x : Fixed). entry_by version previous x p.rest)))
+    ∙ ap (λ (p : Option PartAndRest). p >>= (λ (p : PartAndRest). fixed_of p.part >>= (λ (x : Fixed). entry_by version previous x p.rest)))
     (front_exact 62 head (more ++ (name ++ rest)) (head_length w ok.id))
     ∙ ap (λ (x : Option Fixed). x >>= (λ (x : Fixed). entry_by version previous x (more ++ (name ++ rest)))) (fixed_exact version previous w ok)
-    ∙ ap (λ (b : Bool). more_at version b (more ++ (name ++ rest)) >>= (λ (m : More). named_by version previous f m >>= (λ (n : Named). Some (read_of (record { stat = w.stat; mode = mode_with w.mode; id = w.id; flags = f }) m n)))) told.extended
-    ∙ ap (λ (m : Option More). m >>= (λ (m : More). named_by version previous f m >>= (λ (n : Named). Some (read_of (record { stat = w.stat; mode = mode_with w.mode; id = w.id; flags = f }) m n))))
+    ∙ ap (λ (b : Bool). more_at version b (more ++ (name ++ rest)) >>= (λ (m : ExtendedFlagsAndRest). named_by version previous f m >>= (λ (n : PathAndRest). Some (read_of (record { stat = w.stat; mode = mode_with w.mode; id = w.id; flags = f }) m n)))) told.extended
+    ∙ ap (λ (m : Option ExtendedFlagsAndRest). m >>= (λ (m : ExtendedFlagsAndRest). named_by version previous f m >>= (λ (n : PathAndRest). Some (read_of (record { stat = w.stat; mode = mode_with w.mode; id = w.id; flags = f }) m n))))
     (more_exact version previous w (name ++ rest) ok)
-    ∙ ap (λ (n : Option Named). n >>= (λ (n : Named). Some (read_of (record { stat = w.stat; mode = mode_with w.mode; id = w.id; flags = f }) (record { size = more_size w; is_skipped = w.skipped; intent_to_add = w.intent_to_add; rest = name ++ rest }) n)))
+    ∙ ap (λ (n : Option PathAndRest). n >>= (λ (n : PathAndRest). Some (read_of (record { stat = w.stat; mode = mode_with w.mode; id = w.id; flags = f }) (record { size = more_size w; is_skipped = w.skipped; intent_to_add = w.intent_to_add; rest = name ++ rest }) n)))
     (named_exact version previous w rest ok)
     ∙ ap (λ (a : Bool). Some (made a (stage_of f) w rest)) told.assumed
     ∙ ap (λ (s : ℕ). Some (made w.assumed s w rest)) told.stage

@@ -12,10 +12,10 @@ use Rattle.sha1.specs.Sha1.{sha1}
 use Rattle.gitbase_core.specs.declared.entry.IndexEntry.{IndexEntry}
 use Rattle.gitbase_core.specs.Steps.{and_then}
 use Rattle.git_index.specs.Parts.{is_nul, word}
-use Rattle.git_index.specs.Entries.{Listed, Read, entries_after, entry_at, last_path, none_listed, path_or, with_entry}
+use Rattle.git_index.specs.Entries.{Listed, EntryAndRest, entries_after, entry_at, last_path, none_listed, path_or, with_entry}
 use Rattle.git_index.specs.Extensions.{extension_at, extensions_after, is_optional, named_extension}
-use Rattle.git_index.specs.IndexFile.{Index, index_behind, index_beside, index_of, index_of_bytes, is_directory, is_sum, is_version, marked_index, unless_unmarked}
-use Rattle.git_index.specs.Written.{Written, AreWritable, Held, IsHeld, AreHeld, IsIndexText, body_text, entries_text, entry_of, entry_text, extensions_text, held_text, detail_of, index_written, is_mark, stands_for_directory}
+use Rattle.git_index.specs.IndexFile.{Index, index_with_extensions, read_verified_body, index_of, index_of_bytes, is_directory, is_sum, is_version, marked_index, unless_unmarked}
+use Rattle.git_index.specs.Written.{Written, AreWritable, WrittenExtension, IsWritableExtension, AreHeld, IsIndexText, body_text, entries_text, entry_of, entry_text, extensions_text, held_text, detail_of, index_written, is_mark, stands_for_directory}
 use Rattle.git_index.specs.Gives.{GivesIndex}
 use Rattle.git_index.specs.declared.stat.Detail.{Detail}
 use Rattle.git_index.specs.declared.error.IndexFileError.{IndexFileError}
@@ -55,7 +55,7 @@ last_of done e =
 abbrev pub listed_with : Listed → List Written → Listed
 listed_with listed ws = record { entries = listed.entries ++ map entry_of ws; details = listed.details ++ map detail_of ws }
 
-abbrev read_with : Written → List ℕ → Read
+abbrev read_with : Written → List ℕ → EntryAndRest
 read_with w rest = record { entry = entry_of w; detail = detail_of w; rest = rest }
 
 pub listed_again : (listed : Listed) (w : Written) (ws : List Written) → listed_with (with_entry listed (entry_of w) (detail_of w)) ws ≡ listed_with listed (w ∷ ws)
@@ -92,7 +92,7 @@ named_exact name size (inl known) =
 named_exact name size (inr same) =
     ap (λ n. named_extension n size) same ∙ ap (λ n. Ok (record { size = size; is_sparse = not (is_optional n) })) (sym same)
 
-held_at : (e : Held) (rest : List ℕ) → IsHeld e → extension_at (held_text e ++ rest) ≡ Ok (record { size = length e.content; is_sparse = is_mark e })
+held_at : (e : WrittenExtension) (rest : List ℕ) → IsWritableExtension e → extension_at (held_text e ++ rest) ≡ Ok (record { size = length e.content; is_sparse = is_mark e })
 held_at e rest ok =
     let size = big_bytes 4 (length e.content) in
     let left = held_text e ++ rest in
@@ -106,7 +106,7 @@ held_at e rest ok =
     ∙ ap (named_extension e.name) number
     ∙ named_exact e.name (length e.content) ok.known
 
-pub extensions_exact : (sparse : Bool) (es : List Held) → AreHeld es → extensions_after 0 sparse (extensions_text es) ≡ Ok (sparse || list_any is_mark es)
+pub extensions_exact : (sparse : Bool) (es : List WrittenExtension) → AreHeld es → extensions_after 0 sparse (extensions_text es) ≡ Ok (sparse || list_any is_mark es)
 extensions_exact sparse [] ok = ap (λ b. Ok b) (go sparse) where
   go : (b : Bool) → b ≡ (b || false)
   go true = refl
@@ -163,9 +163,9 @@ marked_exact listed true none = go (position is_directory listed.entries) where
   go (Some at) = refl
 marked_exact listed false none = ap (unless_unmarked false (record { entries = listed.entries; details = listed.details; is_sparse = false })) (none refl)
 
-body_exact : (version : ℕ) (ws : List Written) (es : List Held) (sum : List ℕ) → is_version version ≡ true → length ws < 256 ^ 4 → AreWritable version [] ws → AreHeld es
+body_exact : (version : ℕ) (ws : List Written) (es : List WrittenExtension) (sum : List ℕ) → is_version version ≡ true → length ws < 256 ^ 4 → AreWritable version [] ws → AreHeld es
     → (list_any is_mark es ≡ false → list_any stands_for_directory ws ≡ false) → is_sum (body_text version ws es) sum ≡ true
-    → index_beside (body_text version ws es) sum ≡ Ok (index_written ws es)
+    → read_verified_body (body_text version ws es) sum ≡ Ok (index_written ws es)
 body_exact version ws es sum is few entries extensions marked summed =
     let v = big_bytes 4 version in
     let n = big_bytes 4 (length ws) in
@@ -187,12 +187,12 @@ body_exact version ws es sum is few entries extensions marked summed =
     ∙ ap (λ b. if not b then Err errors.Sum else index_of version (word 2 body) (drop 12 body)) summed
     ∙ ap (λ c. index_of version c (drop 12 body)) count_at
     ∙ ap (index_of version (length ws)) twelve
-    ∙ ap (and_then index_behind) (entries_exact version none_listed [] ws (extensions_text es) refl entries)
+    ∙ ap (and_then index_with_extensions) (entries_exact version none_listed [] ws (extensions_text es) refl entries)
     ∙ ap (and_then (marked_index listed)) (extensions_exact false es extensions)
     ∙ marked_exact listed (list_any is_mark es) (λ none. directory_of ws (marked none))
 
 -- Whatever is written in some bytes is what is read in them: so what they say is one.
-pub reads_written : (bytes : List ℕ) (version : ℕ) (ws : List Written) (es : List Held) → IsIndexText bytes version ws es
+pub reads_written : (bytes : List ℕ) (version : ℕ) (ws : List Written) (es : List WrittenExtension) → IsIndexText bytes version ws es
     → index_of_bytes bytes ≡ Ok (index_written ws es)
 unfolding index_of_bytes
 reads_written bytes version ws es text =
@@ -213,9 +213,9 @@ reads_written bytes version ws es text =
     let front : take (length whole - 20) whole ≡ body = take_exact (length whole - 20) body text.sum (sym cut) in
     let back : drop (length whole - 20) whole ≡ text.sum = drop_exact (length whole - 20) body text.sum (sym cut) in
     ap index_of_bytes text.whole
-    ∙ ap (λ b. if b then Err errors.Short else index_beside (take (length whole - 20) whole) (drop (length whole - 20) whole)) (le-ltb _ _ long)
-    ∙ ap (λ x. index_beside x (drop (length whole - 20) whole)) front
-    ∙ ap (index_beside body) back
+    ∙ ap (λ b. if b then Err errors.Short else read_verified_body (take (length whole - 20) whole) (drop (length whole - 20) whole)) (le-ltb _ _ long)
+    ∙ ap (λ x. read_verified_body x (drop (length whole - 20) whole)) front
+    ∙ ap (read_verified_body body) back
     ∙ body_exact version ws es text.sum text.is_version text.few text.entries text.extensions text.marked (sum_exact body text.sum text.sums)
 
 -- an answer that is what the bytes say is what is written in them

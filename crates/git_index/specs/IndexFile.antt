@@ -42,15 +42,15 @@ index_with listed sparse = record { entries = listed.entries; details = listed.d
 abbrev pub marked_index : Listed → Bool → Result Index IndexFileError
 marked_index listed sparse = unless_unmarked sparse (index_with listed sparse) (position is_directory listed.entries)
 
-abbrev pub index_behind : Entries → Result Index IndexFileError
-index_behind read = and_then (marked_index read.listed) (extensions_after 0 false read.rest)
+abbrev pub index_with_extensions : Entries → Result Index IndexFileError
+index_with_extensions read = and_then (marked_index read.listed) (extensions_after 0 false read.rest)
 
 abbrev pub index_of : ℕ → ℕ → List ℕ → Result Index IndexFileError
-index_of version count bytes = and_then index_behind (entries_after version none_listed count bytes)
+index_of version count bytes = and_then index_with_extensions (entries_after version none_listed count bytes)
 
 -- a body of twelve bytes at least, and what stands behind it as its sum
-abbrev pub index_beside : List ℕ → List ℕ → Result Index IndexFileError
-index_beside body sum =
+abbrev pub read_verified_body : List ℕ → List ℕ → Result Index IndexFileError
+read_verified_body body sum =
     if not (bytes_eq (take 4 body) (codes "DIRC")) then Err Signature
     else if not (is_version (word 1 body)) then Err (Version (word 1 body))
     else if not (is_sum body sum) then Err Sum
@@ -60,4 +60,4 @@ index_beside body sum =
 unfoldable pub index_of_bytes : List ℕ → Result Index IndexFileError
 index_of_bytes bytes =
     if nat_lt (length bytes) 32 then Err Short
-    else index_beside (take (length bytes - 20) bytes) (drop (length bytes - 20) bytes)
+    else read_verified_body (take (length bytes - 20) bytes) (drop (length bytes - 20) bytes)

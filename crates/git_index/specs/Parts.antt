@@ -3,22 +3,22 @@ use Rattle.std.specs.Prelude.{ℕ, ◌+◌, ◌*◌, nat_le, ◌==◌, Bool, Lis
 use Rattle.byteorder.specs.Endian.{big_number}
 
 -- some bytes, and what is behind them
-pub record Parted : Type 0 where
+pub record PartAndRest : Type 0 where
   pub part : List ℕ
   pub rest : List ℕ
 
 -- the first n bytes; none where there are fewer
-abbrev pub front : ℕ → List ℕ → Option Parted
+abbrev pub front : ℕ → List ℕ → Option PartAndRest
 front n bytes = if nat_le n (length bytes) then Some (record { part = take n bytes; rest = drop n bytes }) else None
 
 abbrev pub is_nul : ℕ → Bool
 is_nul b = b == 0
 
-abbrev pub parted_at : List ℕ → ℕ → Parted
+abbrev pub parted_at : List ℕ → ℕ → PartAndRest
 parted_at bytes place = record { part = take place bytes; rest = drop (place + 1) bytes }
 
 -- the bytes before the first NUL, and what is behind that; none where there is no NUL
-abbrev pub text : List ℕ → Option Parted
+abbrev pub text : List ℕ → Option PartAndRest
 text bytes = option_map (parted_at bytes) (position is_nul bytes)
 
 -- the number of four bytes at a place, where such numbers follow one another and the first has place 0

@@ -49,14 +49,14 @@ unfoldable pub words_text : List ℕ → List ℕ
 words_text [] = []
 words_text (n ∷ ns) = big_bytes 4 n ++ words_text ns
 
-abbrev pub bit : Bool → ℕ → ℕ
-bit b worth = if b then worth else 0
+abbrev pub worth_if_set : Bool → ℕ → ℕ
+worth_if_set b worth = if b then worth else 0
 
 abbrev pub first_flags : Written → ℕ
-first_flags w = bit w.assumed 32768 + bit w.extended 16384 + w.stage * 4096 + min (length w.path) 4095
+first_flags w = worth_if_set w.assumed 32768 + worth_if_set w.extended 16384 + w.stage * 4096 + min (length w.path) 4095
 
 abbrev pub second_flags : Written → ℕ
-second_flags w = bit w.skipped 16384 + bit w.intent_to_add 8192
+second_flags w = worth_if_set w.skipped 16384 + worth_if_set w.intent_to_add 8192
 
 abbrev pub head_text : Written → List ℕ
 head_text w = words_text (words_of w) ++ (w.id ++ big_bytes 2 (first_flags w))
@@ -87,7 +87,7 @@ AreWords [] = Unit {0}
 AreWords (n ∷ ns) = (n < 256 ^ 4) × AreWords ns
 
 -- the path is that before without its last bytes, and more
-pub record Keeps (previous : List ℕ) (w : Written) : Type 0 where
+pub record SharesPreviousPrefix (previous : List ℕ) (w : Written) : Type 0 where
   pub small : w.cut < 2 ^ 32
   pub within : w.cut ≤ length previous
   pub same : take (length previous - w.cut) previous ++ drop (length previous - w.cut) w.path ≡ w.path
@@ -101,7 +101,7 @@ pub record IsWritable (version : ℕ) (previous : List ℕ) (w : Written) : Type
   pub extended : w.extended ≡ true → (version == 2) ≡ false
   pub plain : w.extended ≡ false → (w.skipped ≡ false) × (w.intent_to_add ≡ false)
   pub path : list_any is_nul w.path ≡ false
-  pub cut : (version == 4) ≡ true → Keeps previous w
+  pub cut : (version == 4) ≡ true → SharesPreviousPrefix previous w
 
 abbrev pub AreWritable : ℕ → List ℕ → List Written → Type 0
 AreWritable version previous [] = Unit {0}
@@ -110,28 +110,28 @@ AreWritable version previous (w ∷ ws) = IsWritable version previous w × AreWr
 -- ---- extensions
 
 -- an extension: its name of four bytes, and what it holds
-pub record Held : Type 0 where
+pub record WrittenExtension : Type 0 where
   pub name : List ℕ
   pub content : List ℕ
 
-abbrev pub held_text : Held → List ℕ
+abbrev pub held_text : WrittenExtension → List ℕ
 held_text e = e.name ++ (big_bytes 4 (length e.content) ++ e.content)
 
-abbrev pub extensions_text : List Held → List ℕ
+abbrev pub extensions_text : List WrittenExtension → List ℕ
 extensions_text [] = []
 extensions_text (e ∷ es) = held_text e ++ extensions_text es
 
 -- one that may be passed over, or the mark of a sparse index
-pub record IsHeld (e : Held) : Type 0 where
+pub record IsWritableExtension (e : WrittenExtension) : Type 0 where
   pub name : length e.name ≡ 4
   pub size : length e.content < 256 ^ 4
   pub known : (is_optional e.name ≡ true) ⊎ (e.name ≡ codes "sdir")
 
-abbrev pub AreHeld : List Held → Type 0
+abbrev pub AreHeld : List WrittenExtension → Type 0
 AreHeld [] = Unit {0}
-AreHeld (e ∷ es) = IsHeld e × AreHeld es
+AreHeld (e ∷ es) = IsWritableExtension e × AreHeld es
 
-abbrev pub is_mark : Held → Bool
+abbrev pub is_mark : WrittenExtension → Bool
 is_mark e = not (is_optional e.name)
 
 -- ---- the file
@@ -139,12 +139,12 @@ is_mark e = not (is_optional e.name)
 abbrev pub stands_for_directory : Written → Bool
 stands_for_directory w = w.mode == dir_mode
 
-abbrev pub body_text : ℕ → List Written → List Held → List ℕ
+abbrev pub body_text : ℕ → List Written → List WrittenExtension → List ℕ
 body_text version ws es = codes "DIRC" ++ (big_bytes 4 version ++ (big_bytes 4 (length ws) ++ (entries_text version [] ws ++ extensions_text es)))
 
 -- Some bytes are the index file, in this version, of these entries and extensions: the entries follow one another, one that stands for a
 -- directory is there only where an extension says so, and behind all is the SHA-1 of what is before it, or twenty NULs.
-pub record IsIndexText (bytes : List ℕ) (version : ℕ) (ws : List Written) (es : List Held) : Type 0 where
+pub record IsIndexText (bytes : List ℕ) (version : ℕ) (ws : List Written) (es : List WrittenExtension) : Type 0 where
   pub is_version : is_version version ≡ true
   pub few : length ws < 256 ^ 4
   pub entries : AreWritable version [] ws
@@ -156,13 +156,13 @@ pub record IsIndexText (bytes : List ℕ) (version : ℕ) (ws : List Written) (e
   pub whole : bytes ≡ body_text version ws es ++ sum
 
 -- what the file says then
-abbrev pub index_written : List Written → List Held → Index
+abbrev pub index_written : List Written → List WrittenExtension → Index
 index_written ws es = record { entries = map entry_of ws; details = map detail_of ws; is_sparse = list_any is_mark es }
 
 -- some bytes are the file of these entries
 pub record IsFileOf (bytes : List ℕ) (index : Index) : Type 0 where
   pub version : ℕ
   pub ws : List Written
-  pub es : List Held
+  pub es : List WrittenExtension
   pub text : IsIndexText bytes version ws es
   pub says : index ≡ index_written ws es

@@ -4,7 +4,7 @@ ghost use Rattle.git_index.specs.Entries as texts;
 ghost use Rattle.git_index.specs.Gives.{GivesEntries};
 ghost use Rattle.git_index.specs.Seen.{listed_seen, read_seen};
 
-use crate::entry::{Read, entry_at};
+use crate::entry::{EntryAndRest, entry_at};
 use crate::error::IndexFileError;
 use crate::stat::Detail;
 use gitbase_core::{IndexEntry, OutOfMemory};

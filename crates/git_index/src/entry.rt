@@ -4,8 +4,8 @@ ghost use Rattle.git_index.specs.Entries as entries;
 ghost use Rattle.git_index.specs.Seen.{fixed_seen, more_seen, named_seen, read_seen};
 
 use crate::head::{Fixed, HEAD_LENGTH, fixed_of, flags_of, is_assumed, is_extended, stage_of};
-use crate::more::{More, more_at};
-use crate::name::{Named, fits_length, path_at};
+use crate::more::{ExtendedFlagsAndRest, more_at};
+use crate::name::{PathAndRest, fits_length, path_at};
 use crate::parts::front;
 use crate::stat::Detail;
 use gitbase_core::{IndexEntry, OutOfMemory};
@@ -13,7 +13,7 @@ use std::alloc::Global;
 
 /// An entry, what the file says of it besides, and what is behind it.
 #[derive(Drop)]
-pub struct Read<'a> {
+pub struct EntryAndRest<'a> {
     pub entry: IndexEntry,
     pub detail: Detail,
     pub rest: &'a [u8],
@@ -26,7 +26,7 @@ pub fn entry_at<'a>(
     version: u32,
     previous: &[u8],
     bytes: &'a [u8],
-) -> Result<Option<Read<'a>>, OutOfMemory>
+) -> Result<Option<EntryAndRest<'a>>, OutOfMemory>
     ensures { IfOk result
         (λ read. option_map read_seen read ≡ entries.entry_at version previous.now bytes.now) }
 {
@@ -46,7 +46,7 @@ fn entry_by<'a>(
     previous: &[u8],
     fixed: Fixed,
     bytes: &'a [u8],
-) -> Result<Option<Read<'a>>, OutOfMemory>
+) -> Result<Option<EntryAndRest<'a>>, OutOfMemory>
     ensures { IfOk result (λ read. option_map read_seen read
         ≡ entries.entry_by version previous.now (fixed_seen fixed) bytes.now) }
 {
@@ -56,7 +56,7 @@ fn entry_by<'a>(
     let Some(named) = named_by(alloc, version, previous, fixed.flags, more)? else {
         return Ok(None);
     };
-    Ok(Some(Read {
+    Ok(Some(EntryAndRest {
         entry: IndexEntry {
             path: named.path,
             stage: stage_of(fixed.flags),
@@ -78,8 +78,8 @@ fn named_by<'a>(
     version: u32,
     previous: &[u8],
     flags: u16,
-    more: More<'a>,
-) -> Result<Option<Named<'a>>, OutOfMemory>
+    more: ExtendedFlagsAndRest<'a>,
+) -> Result<Option<PathAndRest<'a>>, OutOfMemory>
     requires { more.size ≤ 2 }
     ensures { IfOk result (λ named. option_map named_seen named
         ≡ entries.named_by version previous.now flags (more_seen more.entry)) }

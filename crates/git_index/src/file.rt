@@ -6,7 +6,7 @@ ghost use Rattle.git_index.specs.Fault.{IsFaultAt};
 ghost use Rattle.git_index.specs.IndexFile as files;
 ghost use Rattle.git_index.specs.Gives.{GivesIndex};
 ghost use Rattle.git_index.specs.Seen.{entries_seen, listed_seen};
-ghost use Rattle.git_index.specs.Written.{Held, IsFileOf, IsIndexText, Written, index_written};
+ghost use Rattle.git_index.specs.Written.{WrittenExtension, IsFileOf, IsIndexText, Written, index_written};
 
 use crate::entries::{Entries, Listed, entries_in};
 use crate::error::IndexFileError;
@@ -106,7 +106,7 @@ pub fn read_index(alloc: Global, bytes: &[u8]) -> Result<IndexFile, IndexFileErr
 
     // Whatever entries and extensions the bytes are the file of, in whatever version, these are what it
     // answers.
-    ensures written { (version : ℕ) (ws : List Written) (es : List Held)
+    ensures written { (version : ℕ) (ws : List Written) (es : List WrittenExtension)
         → IsIndexText bytes.now version ws es → MatchResult result
         (λ file. file ≡ index_written ws es) (λ error. error ≡ IndexFileError.OutOfMemory) }
 
@@ -137,13 +137,13 @@ fn index_of_file(alloc: Global, bytes: &[u8]) -> Result<IndexFile, IndexFileErro
         return Err(IndexFileError::Short);
     }
     let (body, sum) = bytes.split_at(bytes.len() - SUM_LENGTH);
-    index_beside(alloc, body, sum)
+    read_verified_body(alloc, body, sum)
 }
 
 /// The index in a body, with what stands behind it as its sum.
-fn index_beside(alloc: Global, body: &[u8], sum: &[u8]) -> Result<IndexFile, IndexFileError>
+fn read_verified_body(alloc: Global, body: &[u8], sum: &[u8]) -> Result<IndexFile, IndexFileError>
     requires { 12 ≤ length body.now }
-    ensures { GivesIndex result (files.index_beside body.now sum.now) }
+    ensures { GivesIndex result (files.read_verified_body body.now sum.now) }
 {
     if !is_signed(body) {
         return Err(IndexFileError::Signature);
@@ -200,12 +200,12 @@ fn index_of(
     ensures { GivesIndex result (files.index_of version count bytes.now) }
 {
     let read = entries_in(alloc, version, count, bytes)?;
-    index_behind(read)
+    index_with_extensions(read)
 }
 
 /// The index of these entries, and of the extensions behind them.
-fn index_behind(read: Entries<'_>) -> Result<IndexFile, IndexFileError>
-    ensures { GivesIndex result (files.index_behind (entries_seen read.entry)) }
+fn index_with_extensions(read: Entries<'_>) -> Result<IndexFile, IndexFileError>
+    ensures { GivesIndex result (files.index_with_extensions (entries_seen read.entry)) }
 {
     let is_sparse = is_sparse_by(read.rest)?;
     marked_index(read.listed, is_sparse)

@@ -7,7 +7,7 @@ use crate::parts::{front, short_behind};
 
 /// What the second pair of flags says, how many bytes it takes, and what is behind it.
 #[derive(Clone, Copy)]
-pub struct More<'a> {
+pub struct ExtendedFlagsAndRest<'a> {
     pub size: usize,
     pub is_skipped: bool,
     pub intent_to_add: bool,
@@ -16,12 +16,12 @@ pub struct More<'a> {
 
 /// The second pair of flags, where the first says that it is there; none where it is outside the
 /// grammar.
-pub fn more_at(version: u32, extended: bool, bytes: &[u8]) -> Option<More<'_>>
+pub fn more_at(version: u32, extended: bool, bytes: &[u8]) -> Option<ExtendedFlagsAndRest<'_>>
     ensures value { option_map more_seen result ≡ mores.more_at version extended bytes.now }
     ensures small { IfSome result (λ more. more.size ≤ 2) }
 {
     if !extended {
-        return Some(More {
+        return Some(ExtendedFlagsAndRest {
             size: 0,
             is_skipped: false,
             intent_to_add: false,
@@ -35,7 +35,7 @@ pub fn more_at(version: u32, extended: bool, bytes: &[u8]) -> Option<More<'_>>
 }
 
 /// The second pair of flags at the front.
-fn second_flags(bytes: &[u8]) -> Option<More<'_>>
+fn second_flags(bytes: &[u8]) -> Option<ExtendedFlagsAndRest<'_>>
     ensures value { option_map more_seen result ≡ mores.second_flags bytes.now }
     ensures small { IfSome result (λ more. more.size ≤ 2) }
 {
@@ -46,14 +46,14 @@ fn second_flags(bytes: &[u8]) -> Option<More<'_>>
 }
 
 /// What these bits say.
-fn more_of(bits: u16, rest: &[u8]) -> Option<More<'_>>
+fn more_of(bits: u16, rest: &[u8]) -> Option<ExtendedFlagsAndRest<'_>>
     ensures value { option_map more_seen result ≡ mores.more_of bits rest.now }
     ensures small { IfSome result (λ more. more.size ≤ 2) }
 {
-    if !is_more(bits) {
+    if !has_only_known_bits(bits) {
         return None;
     }
-    Some(More {
+    Some(ExtendedFlagsAndRest {
         size: 2,
         is_skipped: bits / 0x4000 % 2 == 1,
         intent_to_add: bits / 0x2000 % 2 == 1,
@@ -62,8 +62,8 @@ fn more_of(bits: u16, rest: &[u8]) -> Option<More<'_>>
 }
 
 /// Whether no bit is set that means nothing.
-fn is_more(bits: u16) -> bool
-    ensures { result ≡ mores.is_more bits }
+fn has_only_known_bits(bits: u16) -> bool
+    ensures { result ≡ mores.has_only_known_bits bits }
 {
     bits / 0x8000 == 0 && bits % 0x2000 == 0
 }

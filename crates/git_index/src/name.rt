@@ -11,7 +11,7 @@ use std::alloc::Global;
 
 /// A path, and what is behind it.
 #[derive(Drop)]
-pub struct Named<'a> {
+pub struct PathAndRest<'a> {
     pub path: PathText,
     pub rest: &'a [u8],
 }
@@ -24,7 +24,7 @@ pub fn path_at<'a>(
     previous: &[u8],
     before: usize,
     bytes: &'a [u8],
-) -> Result<Option<Named<'a>>, OutOfMemory>
+) -> Result<Option<PathAndRest<'a>>, OutOfMemory>
     requires { before < 100 }
     ensures { IfOk result (λ named. option_map named_seen named
         ≡ names.path_at version previous.now before bytes.now) }
@@ -37,7 +37,11 @@ pub fn path_at<'a>(
 }
 
 /// The path in versions 2 and 3.
-fn whole_path(alloc: Global, before: usize, bytes: &[u8]) -> Result<Option<Named<'_>>, OutOfMemory>
+fn whole_path(
+    alloc: Global,
+    before: usize,
+    bytes: &[u8],
+) -> Result<Option<PathAndRest<'_>>, OutOfMemory>
     requires { before < 100 }
     ensures { IfOk result
         (λ named. option_map named_seen named ≡ names.whole_path before bytes.now) }
@@ -54,7 +58,7 @@ fn padded<'a>(
     path: &[u8],
     before: usize,
     bytes: &'a [u8],
-) -> Result<Option<Named<'a>>, OutOfMemory>
+) -> Result<Option<PathAndRest<'a>>, OutOfMemory>
     ensures { IfOk result
         (λ named. option_map named_seen named ≡ names.padded path.now before bytes.now) }
 {
@@ -64,7 +68,7 @@ fn padded<'a>(
     if !are_nuls(fill.part) {
         return Ok(None);
     }
-    Ok(Some(Named {
+    Ok(Some(PathAndRest {
         path: PathText::from_bytes(alloc, path)?,
         rest: fill.rest,
     }))
@@ -82,7 +86,7 @@ fn cut_path<'a>(
     alloc: Global,
     previous: &[u8],
     bytes: &'a [u8],
-) -> Result<Option<Named<'a>>, OutOfMemory>
+) -> Result<Option<PathAndRest<'a>>, OutOfMemory>
     ensures { IfOk result
         (λ named. option_map named_seen named ≡ names.cut_path previous.now bytes.now) }
 {
@@ -98,7 +102,7 @@ fn kept_path<'a>(
     previous: &[u8],
     cut: u64,
     bytes: &'a [u8],
-) -> Result<Option<Named<'a>>, OutOfMemory>
+) -> Result<Option<PathAndRest<'a>>, OutOfMemory>
     ensures { IfOk result
         (λ named. option_map named_seen named ≡ names.kept_path previous.now cut bytes.now) }
 {
@@ -109,7 +113,7 @@ fn kept_path<'a>(
         return Ok(None);
     };
     let (kept, _) = previous.split_at(previous.len() - cut as usize);
-    Ok(Some(Named {
+    Ok(Some(PathAndRest {
         path: joined(alloc, kept, name.part)?,
         rest: name.rest,
     }))
@@ -126,7 +130,7 @@ fn joined(alloc: Global, front: &[u8], back: &[u8]) -> Result<PathText, OutOfMem
 }
 
 /// Whether the flags tell the length of a path.
-pub fn fits_length(flags: u16, named: &Named<'_>) -> bool
+pub fn fits_length(flags: u16, named: &PathAndRest<'_>) -> bool
     ensures { result ≡ names.fits_length flags (named_seen named.now) }
 {
     named.path.as_bytes().len().min(4095) == length_of(flags)

@@ -9,13 +9,13 @@ use byteorder::{BigEndian, ByteOrder};
 
 /// Some bytes, and what is behind them.
 #[derive(Clone, Copy)]
-pub struct Parted<'a> {
+pub struct PartAndRest<'a> {
     pub part: &'a [u8],
     pub rest: &'a [u8],
 }
 
 /// The first `size` bytes; none where there are fewer.
-pub fn front(bytes: &[u8], size: usize) -> Option<Parted<'_>>
+pub fn front(bytes: &[u8], size: usize) -> Option<PartAndRest<'_>>
     ensures value { option_map parted_seen result ≡ front size bytes.now }
     ensures whole { IfSome result (λ parted. length parted.part.now ≡ size) }
 {
@@ -23,7 +23,7 @@ pub fn front(bytes: &[u8], size: usize) -> Option<Parted<'_>>
         return None;
     }
     let (part, rest) = bytes.split_at(size);
-    Some(Parted { part, rest })
+    Some(PartAndRest { part, rest })
 }
 
 /// The place of the first NUL.
@@ -35,7 +35,7 @@ fn first_nul(bytes: &[u8]) -> Option<usize>
 }
 
 /// The bytes before the first NUL, and what is behind that; none where there is no NUL.
-pub fn text(bytes: &[u8]) -> Option<Parted<'_>>
+pub fn text(bytes: &[u8]) -> Option<PartAndRest<'_>>
     ensures { option_map parted_seen result ≡ text bytes.now }
 {
     let Some(place) = first_nul(bytes) else {
@@ -43,7 +43,7 @@ pub fn text(bytes: &[u8]) -> Option<Parted<'_>>
     };
     let (part, _) = bytes.split_at(place);
     let (_, rest) = bytes.split_at(place + 1);
-    Some(Parted { part, rest })
+    Some(PartAndRest { part, rest })
 }
 
 /// Whether all bytes are NUL.

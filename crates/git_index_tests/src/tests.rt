@@ -4,6 +4,7 @@ use bstr::ByteSlice;
 use git_index::{Detail, IndexFile, IndexFileError, Stat, Time, read_index};
 use gitbase_core::{Flags, IndexEntry, IndexError, State};
 use std::alloc::Global;
+use test_cases::split_at_byte;
 
 /// What git saw of the first file of each index.
 const STAT: Stat = Stat {
@@ -20,11 +21,6 @@ const TIME: Time = Time {
     seconds: 1_795_935_605,
     nanoseconds: 704_299_445,
 };
-
-/// What stands before the first blank, and behind it.
-fn parted(row: &[u8]) -> (&[u8], &[u8]) {
-    row.split_once_str(b" ").unwrap_or((row, b""))
-}
 
 /// The file of these digits.
 fn file_of(alloc: Global, digits: &[u8]) -> Option<IndexFile> {
@@ -66,8 +62,8 @@ fn have_paths(file: &IndexFile, paths: &[u8]) -> bool {
 
 /// Whether a row is read as it says.
 fn is_read(alloc: Global, row: &[u8]) -> bool {
-    let (letters, rest) = parted(row);
-    let (paths, digits) = parted(rest);
+    let (letters, rest) = split_at_byte(row, b' ');
+    let (paths, digits) = split_at_byte(rest, b' ');
     match file_of(alloc, digits) {
         Some(file) => {
             are_lettered(&file, letters)
@@ -81,7 +77,7 @@ fn is_read(alloc: Global, row: &[u8]) -> bool {
 
 /// Whether a row is refused as it says.
 fn is_refused(alloc: Global, row: &[u8]) -> bool {
-    let (said, digits) = parted(row);
+    let (said, digits) = split_at_byte(row, b' ');
     match refusal_of(alloc, digits) {
         Some(error) => match format!(in alloc; "{error}") {
             Ok(text) => text.as_bytes() == said,

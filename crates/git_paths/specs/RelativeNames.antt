@@ -10,21 +10,21 @@ abbrev pub beneath_name : List ℕ → List ℕ → Option (List ℕ)
 beneath_name name path = if bytes_eq name path then Some [] else relative_to name path
 
 -- one `../` for each of some directories
-abbrev pub climbs : List (List ℕ) → List ℕ
-climbs names = flat_map (λ (name : List ℕ). codes "../") names
+abbrev pub dotdot_per_name : List (List ℕ) → List ℕ
+dotdot_per_name names = flat_map (λ (name : List ℕ). codes "../") names
 
 -- A path as it reads from the directory that some names lead down to: each name that leads to it is left out, and for each that is left
 -- where one does not, it climbs.
 unfoldable pub from_names : List (List ℕ) → List ℕ → List ℕ
 from_names [] path = path
 from_names (name ∷ names) path =
-    unwrap_or (option_map (λ (rest : List ℕ). from_names names rest) (beneath_name name path)) (climbs (name ∷ names) ++ path)
+    unwrap_or (option_map (λ (rest : List ℕ). from_names names rest) (beneath_name name path)) (dotdot_per_name (name ∷ names) ++ path)
 
 -- the directory itself is `./`
-abbrev pub or_here : List ℕ → List ℕ
-or_here [] = codes "./"
-or_here (b ∷ path) = b ∷ path
+abbrev pub path_or_dot_slash : List ℕ → List ℕ
+path_or_dot_slash [] = codes "./"
+path_or_dot_slash (b ∷ path) = b ∷ path
 
 -- a path from the top as it reads from the directory `prefix`
 abbrev pub relative_from : List ℕ → List ℕ → List ℕ
-relative_from path prefix = or_here (from_names (components prefix) path)
+relative_from path prefix = path_or_dot_slash (from_names (components prefix) path)

@@ -18,7 +18,7 @@ fn beneath_name<'a>(name: &[u8], path: &'a [u8]) -> Option<&'a [u8]>
 
 /// Adds a `../` for each name of a path.
 fn add_climbs(text: &mut Vec<u8>, names: &[u8]) -> Result<(), OutOfMemory>
-    ensures { OnOk result (text.new.items ≡ text.old.items ++ words.climbs (components names.now)) }
+    ensures { OnOk result (text.new.items ≡ text.old.items ++ words.dotdot_per_name (components names.now)) }
 {
     let mut left = names;
     while let Some((_, after)) = split_component(left) {
@@ -29,8 +29,8 @@ fn add_climbs(text: &mut Vec<u8>, names: &[u8]) -> Result<(), OutOfMemory>
 }
 
 /// A path behind as many `../` as there are names.
-fn climbed(alloc: Global, names: &[u8], path: &[u8]) -> Result<Bytes, OutOfMemory>
-    ensures { IfOk result (λ text. text ≡ words.climbs (components names.now) ++ path.now) }
+fn prepend_parent_steps(alloc: Global, names: &[u8], path: &[u8]) -> Result<Bytes, OutOfMemory>
+    ensures { IfOk result (λ text. text ≡ words.dotdot_per_name (components names.now) ++ path.now) }
 {
     let mut text = Vec::new(alloc);
     add_climbs(&mut text, names)?;
@@ -39,8 +39,8 @@ fn climbed(alloc: Global, names: &[u8], path: &[u8]) -> Result<Bytes, OutOfMemor
 }
 
 /// A path, or what says the directory itself.
-fn or_here(alloc: Global, path: &[u8]) -> Result<Bytes, OutOfMemory>
-    ensures { IfOk result (λ text. text ≡ words.or_here path.now) }
+fn path_or_dot_slash(alloc: Global, path: &[u8]) -> Result<Bytes, OutOfMemory>
+    ensures { IfOk result (λ text. text ≡ words.path_or_dot_slash path.now) }
 {
     if path.is_empty() {
         return Bytes::from_slice(alloc, b"./");
@@ -64,10 +64,10 @@ pub fn relative_from(alloc: Global, path: &[u8], prefix: &[u8]) -> Result<Bytes,
     let mut left = prefix;
     while let Some((name, after)) = split_component(left) {
         let Some(beneath) = beneath_name(name, rest) else {
-            return climbed(alloc, left, rest);
+            return prepend_parent_steps(alloc, left, rest);
         };
         rest = beneath;
         left = after;
     }
-    or_here(alloc, rest)
+    path_or_dot_slash(alloc, rest)
 }

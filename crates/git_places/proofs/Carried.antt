@@ -5,9 +5,9 @@ use Rattle.worktree_fs.specs.declared.worktree.Worktree.{Ghosts as WorktreeOf}
 use Rattle.worktree_fs.specs.Causes.{Increased}
 use Rattle.worktree_fs.specs.Kept.{Asks}
 use Rattle.worktree_fs.specs.KeptOwners.{AsksOwners}
-use Rattle.worktree_fs.specs.Owners.{Owned}
+use Rattle.worktree_fs.specs.Owners.{OwnershipByPath}
 use Rattle.worktree_fs.specs.Tree.{Names}
-use Rattle.git_places.specs.Answers.{GivesBy, UnlessBy, refused_as}
+use Rattle.git_places.specs.Answers.{IsFoundOrFailed, HoldsUnlessFault, refused_as}
 use Rattle.git_places.specs.Finds.{FindsBy, FindsWithBy}
 use Rattle.git_places.proofs.Passes.{passes}
 
@@ -22,11 +22,11 @@ no_err a e is = absurd cc
 same_err : {A B E : Type 0} (a b : E) → ◌≡◌ {A = Result A E} (Err a) (Err b) → ◌≡◌ {A = Result B E} (Err a) (Err b)
 same_err a b e = ap Err (err_is a b e)
 
-unless_any : {A E P : Type 0} (fault : E) (answer : Result A E) → P → UnlessBy fault answer P
+unless_any : {A E P : Type 0} (fault : E) (answer : Result A E) → P → HoldsUnlessFault fault answer P
 unless_any fault (Ok given) holds = holds
 unless_any fault (Err e) holds = inr holds
 
-unless_weaker : {A E P Q : Type 0} (fault : E) (answer : Result A E) → (P → Q) → UnlessBy fault answer P → UnlessBy fault answer Q
+unless_weaker : {A E P Q : Type 0} (fault : E) (answer : Result A E) → (P → Q) → HoldsUnlessFault fault answer P → HoldsUnlessFault fault answer Q
 unless_weaker fault (Ok given) to holds = to holds
 unless_weaker fault (Err e) to holds = elim holds [ inl is ↦ inl is | inr known ↦ inr (to known) ]
 
@@ -56,7 +56,7 @@ owners_then o o0 o1 o2 first next =
 -- ---- refusals that stand for others
 
 gives_as : {A E F : Type 0} (of : E → F) (fault memory e : E) (found : Result A E)
-    → GivesBy {A = A} fault memory (Err e) found → GivesBy {A = A} (of fault) (of memory) (Err (of e)) (refused_as of found)
+    → IsFoundOrFailed {A = A} fault memory (Err e) found → IsFoundOrFailed {A = A} (of fault) (of memory) (Err (of e)) (refused_as of found)
 gives_as of fault memory e found h = elim h [ inl is ↦ inl (ap (refused_as of) is) | inr (inl is) ↦ inr (inl (ap of is)) | inr (inr is) ↦ inr (inr (ap of is)) ]
 
 unless_as : {E F P : Type 0} (of : E → F) (fault e : E) → (e ≡ fault) ⊎ P → (of e ≡ of fault) ⊎ P
@@ -64,7 +64,7 @@ unless_as of fault e h = elim h [ inl is ↦ inl (ap of is) | inr holds ↦ inr 
 
 -- where no other refusal stands for a fault
 pub as_refused : {W O A E F : Type 0} (w : WorktreeOf W) (o : OwnersOf O) (w0 w1 : W) (o0 o1 : O) (of : E → F) (fault memory : E)
-    → ((e : E) → of e ≡ of fault → e ≡ fault) → (found : Names → Owned → Result A E) (answer : Result A E)
+    → ((e : E) → of e ≡ of fault → e ≡ fault) → (found : Names → OwnershipByPath → Result A E) (answer : Result A E)
     → FindsWithBy w o w0 w1 o0 o1 fault memory found answer
     → FindsWithBy w o w0 w1 o0 o1 (of fault) (of memory) (λ t owned. refused_as of (found t owned)) (refused_as of answer)
 as_refused w o w0 w1 o0 o1 of fault memory only found (Ok given) h =
@@ -102,8 +102,8 @@ with_owners w o w0 w1 o0 fault memory found answer h =
     }
 
 -- a refusal of the first is one of the whole
-pub stops : {W O A B E : Type 0} (w : WorktreeOf W) (o : OwnersOf O) (w0 w1 : W) (o0 o1 : O) (fault memory e : E) (found : Names → Owned → Result A E) (whole : Names → Owned → Result B E)
-    → ((t : Names) (owned : Owned) → found t owned ≡ Err e → whole t owned ≡ Err e)
+pub stops : {W O A B E : Type 0} (w : WorktreeOf W) (o : OwnersOf O) (w0 w1 : W) (o0 o1 : O) (fault memory e : E) (found : Names → OwnershipByPath → Result A E) (whole : Names → OwnershipByPath → Result B E)
+    → ((t : Names) (owned : OwnershipByPath) → found t owned ≡ Err e → whole t owned ≡ Err e)
     → FindsWithBy {A = A} w o w0 w1 o0 o1 fault memory found (Err e) → FindsWithBy {A = B} w o w0 w1 o0 o1 fault memory whole (Err e)
 stops w o w0 w1 o0 o1 fault memory e found whole to h =
     record {
@@ -117,14 +117,14 @@ stops w o w0 w1 o0 o1 fault memory e found whole to h =
 
 -- where the first gives something, the whole is what the next finds
 pub goes_on : {W O A B E : Type 0} (w : WorktreeOf W) (o : OwnersOf O) (w0 w1 w2 : W) (o0 o1 o2 : O) (fault memory : E) (given : A)
-    (found : Names → Owned → Result A E) (next whole : Names → Owned → Result B E) (answer : Result B E)
-    → ((t : Names) (owned : Owned) → found t owned ≡ Ok given → whole t owned ≡ next t owned)
+    (found : Names → OwnershipByPath → Result A E) (next whole : Names → OwnershipByPath → Result B E) (answer : Result B E)
+    → ((t : Names) (owned : OwnershipByPath) → found t owned ≡ Ok given → whole t owned ≡ next t owned)
     → FindsWithBy w o w0 w1 o0 o1 fault memory found (Ok given) → FindsWithBy w o w1 w2 o1 o2 fault memory next answer
     → FindsWithBy w o w0 w2 o0 o2 fault memory whole answer
 goes_on {B = B} {E = E} w o w0 w1 w2 o0 o1 o2 fault memory given found next whole answer same first then =
     record {
       gives = λ t owned told by.
-          subst (λ (r : Result B E). GivesBy fault memory answer r) (sym (same t owned (first.gives t owned told by)))
+          subst (λ (r : Result B E). IsFoundOrFailed fault memory answer r) (sym (same t owned (first.gives t owned told by)))
           (then.gives t owned (first.keeps.tree ∙ told) (first.owners.told ∙ by));
       cause = λ is. elim (then.cause is) [
         | inl rose ↦ inl (subst (λ (n : ℕ). Increased n (w.faults w2)) first.unfaulted rose)

@@ -3,9 +3,9 @@ use Rattle.std.proofs.Common.{◌≡◌, ℕ, List, [], ◌∷◌, ◌++◌, Opt
 use Rattle.gitbase_core.specs.Path.{path_of}
 use Rattle.worktree_fs.specs.Tree.{Names}
 use Rattle.git_places.specs.GitDirectory.{git_at}
-use Rattle.worktree_fs.specs.Owners.{Owned}
+use Rattle.worktree_fs.specs.Owners.{OwnershipByPath}
 use Rattle.git_places.specs.Limits.{Limits, absolute, stop_at}
-use Rattle.git_places.specs.Upward.{Top, top, below, here_or, or_stop, top_from, top_in, ArePassed, IsNearest}
+use Rattle.git_places.specs.Upward.{Top, top, components_last_first, here_or, or_stop, top_from, top_in, ArePassed, IsNearest}
 use Rattle.git_places.proofs.UpwardLemmas.{Stop}
 use Rattle.git_places.specs.declared.error.PlacesError.{PlacesError}
 use Rattle.git_places.specs.declared.error.PlacesError.TheVariants as errors
@@ -58,9 +58,9 @@ nearest_of stop t [] found e = go (split _ _ _ found e)
     go : Split (absolute []) (Err errors.NoRepository) (git_at t (absolute [])) found → NearestOf stop t [] found
     go (here git at is) = at_hand stop t [] git found at is
     go (further at above) = absurd (cc above)
-nearest_of stop t (name ∷ below) found e = go (λ up. nearest_of stop t below found up) (split _ _ _ found e)
+nearest_of stop t (name ∷ components_last_first) found e = go (λ up. nearest_of stop t components_last_first found up) (split _ _ _ found e)
   where
-    further_on : NearestOf stop t below found → git_at t (absolute (path_of (name ∷ below))) ≡ Ok None → stop (path_of below) ≡ None → NearestOf stop t (name ∷ below) found
+    further_on : NearestOf stop t components_last_first found → git_at t (absolute (path_of (name ∷ components_last_first))) ≡ Ok None → stop (path_of components_last_first) ≡ None → NearestOf stop t (name ∷ components_last_first) found
     further_on up at clear =
         record {
           passed = name ∷ up.passed;
@@ -75,18 +75,18 @@ nearest_of stop t (name ∷ below) found e = go (λ up. nearest_of stop t below 
           );
         }
 
-    by_stop : (s : Option PlacesError) → stop (path_of below) ≡ s → (top_from stop t below ≡ Ok found → NearestOf stop t below found)
-        → git_at t (absolute (path_of (name ∷ below))) ≡ Ok None → or_stop s (top_from stop t below) ≡ Ok found → NearestOf stop t (name ∷ below) found
+    by_stop : (s : Option PlacesError) → stop (path_of components_last_first) ≡ s → (top_from stop t components_last_first ≡ Ok found → NearestOf stop t components_last_first found)
+        → git_at t (absolute (path_of (name ∷ components_last_first))) ≡ Ok None → or_stop s (top_from stop t components_last_first) ≡ Ok found → NearestOf stop t (name ∷ components_last_first) found
     by_stop (Some e) is hyp at above = absurd (cc above)
     by_stop None is hyp at above = further_on (hyp above) at is
 
-    go : (top_from stop t below ≡ Ok found → NearestOf stop t below found)
-        → Split (absolute (path_of (name ∷ below))) (or_stop (stop (path_of below)) (top_from stop t below)) (git_at t (absolute (path_of (name ∷ below)))) found
-        → NearestOf stop t (name ∷ below) found
-    go hyp (here git at is) = at_hand stop t (name ∷ below) git found at is
-    go hyp (further at above) = by_stop (stop (path_of below)) refl hyp at above
+    go : (top_from stop t components_last_first ≡ Ok found → NearestOf stop t components_last_first found)
+        → Split (absolute (path_of (name ∷ components_last_first))) (or_stop (stop (path_of components_last_first)) (top_from stop t components_last_first)) (git_at t (absolute (path_of (name ∷ components_last_first)))) found
+        → NearestOf stop t (name ∷ components_last_first) found
+    go hyp (here git at is) = at_hand stop t (name ∷ components_last_first) git found at is
+    go hyp (further at above) = by_stop (stop (path_of components_last_first)) refl hyp at above
 
-pub nearest : (limits : Limits) (t : Names) (owned : Owned) (current : List ℕ) (found : Top) → top_in limits t owned current ≡ Ok found → IsNearest (stop_at owned limits) t current found
+pub nearest : (limits : Limits) (t : Names) (owned : OwnershipByPath) (current : List ℕ) (found : Top) → top_in limits t owned current ≡ Ok found → IsNearest (stop_at owned limits) t current found
 nearest limits t owned current found e =
-    let of = nearest_of (stop_at owned limits) t (below current) found e in
+    let of = nearest_of (stop_at owned limits) t (components_last_first current) found e in
     record { passed = of.passed; rest = of.rest; way = of.way; here = of.is_here; git = of.git; without = of.without }

@@ -9,11 +9,11 @@ use Rattle.gitbase_core.proofs.ClosedPaths.{parent-path_of}
 use Rattle.worktree_fs.specs.Tree.{Names}
 use Rattle.worktree_fs.proofs.Paths.Spelled.{AreNames-reverse, components-spelled}
 use Rattle.git_places.specs.Limits.{absolute, unless_stop}
-use Rattle.git_places.specs.Upward.{Top, top, added, below, here_or, or_stop, top_from, top_by}
+use Rattle.git_places.specs.Upward.{Top, top, join_components, components_last_first, here_or, or_stop, top_from, top_by}
 use Rattle.git_places.specs.declared.error.PlacesError.{PlacesError}
 use Rattle.git_places.specs.declared.error.PlacesError.TheVariants as errors
 
-added-path_of : (done names : List (List ℕ)) → added (path_of done) names ≡ path_of (reverse names ++ done)
+added-path_of : (done names : List (List ℕ)) → join_components (path_of done) names ≡ path_of (reverse names ++ done)
 added-path_of done [] = refl
 added-path_of done (name ∷ names) =
     added-path_of (name ∷ done) names
@@ -21,17 +21,17 @@ added-path_of done (name ∷ names) =
 
 -- a path is that of its components
 abbrev pub IsSpelled : List ℕ → Type 0
-IsSpelled path = path ≡ path_of (below path)
+IsSpelled path = path ≡ path_of (components_last_first path)
 
-below-path_of : (rest : List (List ℕ)) → AreNames rest → below (path_of rest) ≡ rest
+below-path_of : (rest : List (List ℕ)) → AreNames rest → components_last_first (path_of rest) ≡ rest
 below-path_of rest are =
     ap reverse (ap (λ l. components (path_of l)) (sym (reverse-reverse rest)) ∙ components-spelled (reverse rest) (AreNames-reverse rest are))
     ∙ reverse-reverse rest
 
-AreNames-below : (path : List ℕ) → AreNames (below path)
+AreNames-below : (path : List ℕ) → AreNames (components_last_first path)
 AreNames-below path = AreNames-reverse (components path) (AreNames-components path)
 
-added-is : (path : List ℕ) → added [] (components path) ≡ path_of (below path)
+added-is : (path : List ℕ) → join_components [] (components path) ≡ path_of (components_last_first path)
 added-is path = added-path_of [] (components path) ∙ ap path_of (append-nil (reverse (components path)))
 
 -- why a search stops at a directory, if it does
@@ -42,10 +42,10 @@ pub record Starts (path made : List ℕ) : Type 0 where
   pub spelled : IsSpelled made
   pub same : (stop : Stop) (t : Names) → top_by stop t made ≡ top_by stop t path
 
-pub starts : (path made : List ℕ) → made ≡ added [] (components path) → Starts path made
+pub starts : (path made : List ℕ) → made ≡ join_components [] (components path) → Starts path made
 starts path made is =
-    let named : made ≡ path_of (below path) = is ∙ added-is path in
-    let same : below made ≡ below path = ap below named ∙ below-path_of (below path) (AreNames-below path) in
+    let named : made ≡ path_of (components_last_first path) = is ∙ added-is path in
+    let same : components_last_first made ≡ components_last_first path = ap components_last_first named ∙ below-path_of (components_last_first path) (AreNames-below path) in
     record { spelled = named ∙ ap path_of (sym same); same = λ stop t. ap (top_from stop t) same }
 
 pub some-is : {A : Type 0} (x y : A) → Some x ≡ Some y → x ≡ y
@@ -58,14 +58,14 @@ pub record Rises (path up : List ℕ) : Type 0 where
 
 pub rises : (path up : List ℕ) → IsSpelled path → parent path ≡ Some up → Rises path up
 unfolding top_from
-rises path up is above = go (below path) refl (AreNames-below path)
+rises path up is above = go (components_last_first path) refl (AreNames-below path)
   where
-    go : (b : List (List ℕ)) → below path ≡ b → AreNames b → Rises path up
+    go : (b : List (List ℕ)) → components_last_first path ≡ b → AreNames b → Rises path up
     go [] e are = absurd (cc (sym above ∙ ap parent (is ∙ ap path_of e)))
     go (name ∷ rest) e are =
         let path_is : path ≡ path_of (name ∷ rest) = is ∙ ap path_of e in
         let up_is : up ≡ path_of rest = some-is _ _ (sym above ∙ ap parent path_is ∙ parent-path_of name rest are.0 are.1) in
-        let up_below : below up ≡ rest = ap below up_is ∙ below-path_of rest are.1 in
+        let up_below : components_last_first up ≡ rest = ap components_last_first up_is ∙ below-path_of rest are.1 in
         record {
           spelled = up_is ∙ ap path_of (sym up_below);
           finds = λ stop t. ap (top_from stop t) e
@@ -87,9 +87,9 @@ record AtHand (stop : Stop) (path : List ℕ) (t : Names) : Type 0 where
 
 at_hand : (stop : Stop) (path : List ℕ) (t : Names) → IsSpelled path → AtHand stop path t
 unfolding top_from
-at_hand stop path t is = go (below path) refl
+at_hand stop path t is = go (components_last_first path) refl
   where
-    go : (b : List (List ℕ)) → below path ≡ b → AtHand stop path t
+    go : (b : List (List ℕ)) → components_last_first path ≡ b → AtHand stop path t
     go [] e =
         record {
           up = Err errors.NoRepository;

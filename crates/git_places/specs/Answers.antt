@@ -6,19 +6,19 @@ use Rattle.git_places.specs.declared.error.PlacesError.{PlacesError}
 use Rattle.git_places.specs.declared.error.PlacesError.TheVariants as errors
 
 -- an answer is what is to be found, a refusal of it too; the worktree may fail instead, and memory may be wanted
-abbrev pub GivesBy : {A E : Type 0} → E → E → Result A E → Result A E → Type 0
-GivesBy fault memory (Ok answer) found = found ≡ Ok answer
-GivesBy fault memory (Err e) found = (found ≡ Err e) ⊎ ((e ≡ fault) ⊎ (e ≡ memory))
+abbrev pub IsFoundOrFailed : {A E : Type 0} → E → E → Result A E → Result A E → Type 0
+IsFoundOrFailed fault memory (Ok answer) found = found ≡ Ok answer
+IsFoundOrFailed fault memory (Err e) found = (found ≡ Err e) ⊎ ((e ≡ fault) ⊎ (e ≡ memory))
 
 -- the same of a call that asks no worktree, which never answers that it failed
-abbrev pub DecidesBy : {A E : Type 0} → E → E → Result A E → Result A E → Type 0
-DecidesBy fault memory (Ok answer) found = found ≡ Ok answer
-DecidesBy fault memory (Err e) found = ((found ≡ Err e) ⊎ (e ≡ memory)) × (e ≡ fault → ⊥)
+abbrev pub IsFoundOrOutOfMemory : {A E : Type 0} → E → E → Result A E → Result A E → Type 0
+IsFoundOrOutOfMemory fault memory (Ok answer) found = found ≡ Ok answer
+IsFoundOrOutOfMemory fault memory (Err e) found = ((found ≡ Err e) ⊎ (e ≡ memory)) × (e ≡ fault → ⊥)
 
 -- what holds unless the worktree failed
-abbrev pub UnlessBy : {A E : Type 0} → E → Result A E → Type 0 → Type 0
-UnlessBy fault (Ok answer) Holds = Holds
-UnlessBy fault (Err e) Holds = (e ≡ fault) ⊎ Holds
+abbrev pub HoldsUnlessFault : {A E : Type 0} → E → Result A E → Type 0 → Type 0
+HoldsUnlessFault fault (Ok answer) Holds = Holds
+HoldsUnlessFault fault (Err e) Holds = (e ≡ fault) ⊎ Holds
 
 -- an answer, in the place of a refusal the one that stands for it
 abbrev pub refused_as : {A E F : Type 0} → (E → F) → Result A E → Result A F
@@ -28,7 +28,7 @@ refused_as of (Err e) = Err (of e)
 -- ---- the refusals of this crate
 
 abbrev pub Decides : {A : Type 0} → Result A PlacesError → Result A PlacesError → Type 0
-Decides result found = DecidesBy errors.Fault errors.OutOfMemory result found
+Decides result found = IsFoundOrOutOfMemory errors.Fault errors.OutOfMemory result found
 
 -- the refusal that a refused look at the worktree is
 abbrev pub of_read : ReadError → PlacesError

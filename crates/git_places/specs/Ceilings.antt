@@ -6,32 +6,32 @@ use Rattle.worktree_fs.specs.Changes.{real_path}
 use Rattle.worktree_fs.specs.Tree.{Names, is_empty}
 
 -- an absolute path without its first slash
-abbrev pub relative : List ℕ → List ℕ
-relative path = drop 1 path
+abbrev pub without_leading_slash : List ℕ → List ℕ
+without_leading_slash path = drop 1 path
 
 -- the path of an entry that stands as it is: one slash at its end is not part of it, and a lone one is the path of no directory
-abbrev pub without_end : List ℕ → List ℕ
-without_end path =
+abbrev pub without_trailing_slash : List ℕ → List ℕ
+without_trailing_slash path =
     if bytes_eq path (codes "/") then path
     else if ends_with nat_eq path (codes "/") then take (length path - 1) path else path
 
 -- the ceiling of an absolute entry: it stands as it is, or its links are followed, and then something has to be there
 abbrev pub ceiling_at : Names → Bool → List ℕ → Option (List ℕ)
-ceiling_at t true entry = Some (without_end (relative entry))
-ceiling_at t false entry = option_map relative (real_path t entry (codes "/"))
+ceiling_at t true entry = Some (without_trailing_slash (without_leading_slash entry))
+ceiling_at t false entry = option_map without_leading_slash (real_path t entry (codes "/"))
 
 -- the ceiling of an entry, if it has one: a relative one is none
 abbrev pub ceiling_of : Names → Bool → List ℕ → Option (List ℕ)
 ceiling_of t as_it_is entry = if is_absolute entry then ceiling_at t as_it_is entry else None
 
-abbrev pub with : List (List ℕ) → Option (List ℕ) → List (List ℕ)
-with ceilings None = ceilings
-with ceilings (Some ceiling) = ceilings ++ ceiling ∷ []
+abbrev pub append_ceiling_if_any : List (List ℕ) → Option (List ℕ) → List (List ℕ)
+append_ceiling_if_any ceilings None = ceilings
+append_ceiling_if_any ceilings (Some ceiling) = ceilings ++ ceiling ∷ []
 
 -- the ceilings of entries behind those that are made: behind an empty entry each stands as it is
 abbrev pub ceilings_from : Names → List (List ℕ) → Bool → List (List ℕ) → List (List ℕ)
 ceilings_from t made as_it_is [] = made
-ceilings_from t made as_it_is (entry ∷ entries) = ceilings_from t (with made (ceiling_of t as_it_is entry)) (as_it_is || is_empty entry) entries
+ceilings_from t made as_it_is (entry ∷ entries) = ceilings_from t (append_ceiling_if_any made (ceiling_of t as_it_is entry)) (as_it_is || is_empty entry) entries
 
 -- the entries stand between colons
 abbrev pub ceilings_of : Names → List ℕ → List (List ℕ)

@@ -5,7 +5,7 @@ use Rattle.worktree_fs.specs.Changes.{from_directory}
 use Rattle.worktree_fs.specs.Tree.{Names, Look, look}
 use Rattle.worktree_fs.specs.Repository.{file_at, gitdir_path, is_directory_at}
 use Rattle.gitbase_core.specs.Steps.{and_then}
-use Rattle.git_places.specs.Whole.{is_whole}
+use Rattle.git_places.specs.Whole.{is_agreed_git_directory}
 use Rattle.git_places.specs.declared.error.PlacesError.{PlacesError}
 use Rattle.git_places.specs.declared.error.PlacesError.TheVariants as errors
 
@@ -15,7 +15,7 @@ dot_git directory = joined directory (codes ".git")
 
 -- the path that a file `.git` has to be that of a git directory, and else it is refused
 abbrev pub named_git : Names → List ℕ → Result (Option (List ℕ)) PlacesError
-named_git t git = and_then (λ is. if is then Ok (Some git) else Err (errors.GitFileTarget git)) (is_whole t git)
+named_git t git = and_then (λ is. if is then Ok (Some git) else Err (errors.GitFileTarget git)) (is_agreed_git_directory t git)
 
 -- the git directory that a file names; the file is refused where it names none
 abbrev pub git_of_text : Names → List ℕ → Option (List ℕ) → Result (Option (List ℕ)) PlacesError
@@ -29,7 +29,7 @@ git_of_file t path (Some bytes) = git_of_text t path (gitdir_path bytes)
 
 -- a directory, where it is a git directory
 abbrev pub git_directory : Names → List ℕ → Result (Option (List ℕ)) PlacesError
-git_directory t path = and_then (λ is. if is then Ok (Some path) else Ok None) (is_whole t path)
+git_directory t path = and_then (λ is. if is then Ok (Some path) else Ok None) (is_agreed_git_directory t path)
 
 -- the git directory by what stands at `.git`: the directory there, where it is a git directory, or the one that the file names
 abbrev pub git_of_look : Names → List ℕ → Look → Result (Option (List ℕ)) PlacesError
@@ -38,7 +38,7 @@ git_of_look t path at =
 
 -- a directory without one that is itself a git directory is a bare repository, and refused
 abbrev pub unless_bare : Names → List ℕ → Result (Option (List ℕ)) PlacesError → Result (Option (List ℕ)) PlacesError
-unless_bare t directory (Ok None) = and_then (λ is. if is then Err (errors.Bare directory) else Ok None) (is_whole t directory)
+unless_bare t directory (Ok None) = and_then (λ is. if is then Err (errors.Bare directory) else Ok None) (is_agreed_git_directory t directory)
 unless_bare t directory (Ok (Some git)) = Ok (Some git)
 unless_bare t directory (Err e) = Err e
 

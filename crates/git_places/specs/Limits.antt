@@ -2,7 +2,7 @@
 use Rattle.std.specs.Prelude.{ℕ, Bool, true, false, codes, bytes_eq, ◌==◌, List, [], ◌∷◌, Option, Some, None, option_map, Result, Ok, Err, if◌then◌else◌}
 use Rattle.std.specs.List.{list_any}
 use Rattle.gitbase_core.specs.Path.{joined}
-use Rattle.worktree_fs.specs.Owners.{Owned}
+use Rattle.worktree_fs.specs.Owners.{OwnershipByPath}
 use Rattle.worktree_fs.specs.declared.owners.ownership.Ownership.{Ownership}
 use Rattle.worktree_fs.specs.Tree.{Names}
 use Rattle.git_places.specs.Ceilings.{ceilings_of}
@@ -31,7 +31,7 @@ abbrev pub is_ceiling : List (List ℕ) → List ℕ → Bool
 is_ceiling ceilings path = list_any (λ ceiling. bytes_eq ceiling path) ceilings
 
 -- the file system of the directory that a path leads to, if one is there
-abbrev pub device_of : Owned → List ℕ → Option ℕ
+abbrev pub device_of : OwnershipByPath → List ℕ → Option ℕ
 device_of owned path = option_map (λ (found : Ownership). found.device) (owned path true)
 
 -- whether a directory lies on the file system that is not left: what is not there lies on none
@@ -39,12 +39,12 @@ abbrev pub is_on : ℕ → Option ℕ → Bool
 is_on device None = false
 is_on device (Some found) = found == device
 
-abbrev pub unless_border : Owned → List ℕ → Option ℕ → Option PlacesError
+abbrev pub unless_border : OwnershipByPath → List ℕ → Option ℕ → Option PlacesError
 unless_border owned path None = None
 unless_border owned path (Some device) = if is_on device (device_of owned path) then None else Some (errors.Border path)
 
 -- why the search does not go up into a directory, whose path has no slash in front; none where it does
-abbrev pub stop_at : Owned → Limits → List ℕ → Option PlacesError
+abbrev pub stop_at : OwnershipByPath → Limits → List ℕ → Option PlacesError
 stop_at owned limits path =
     if is_ceiling limits.ceilings path then Some errors.NoRepository else unless_border owned (absolute path) limits.device
 
@@ -64,14 +64,14 @@ abbrev pub device_found : List ℕ → Option ℕ → Result (Option ℕ) Places
 device_found path None = Err (errors.NoDirectory path)
 device_found path (Some device) = Ok (Some device)
 
-abbrev pub device_by : Owned → List ℕ → Bool → Result (Option ℕ) PlacesError
+abbrev pub device_by : OwnershipByPath → List ℕ → Bool → Result (Option ℕ) PlacesError
 device_by owned path true = Ok None
 device_by owned path false = device_found path (device_of owned path)
 
 -- it is not left, unless `GIT_DISCOVERY_ACROSS_FILESYSTEM` says so
-abbrev pub device_in : Owned → Surroundings → Result (Option ℕ) PlacesError
+abbrev pub device_in : OwnershipByPath → Surroundings → Result (Option ℕ) PlacesError
 device_in owned around =
     and_then (device_by owned around.directory) (truth_in (codes "GIT_DISCOVERY_ACROSS_FILESYSTEM") around.across)
 
-abbrev pub limits_of : Names → Owned → Surroundings → Result Limits PlacesError
+abbrev pub limits_of : Names → OwnershipByPath → Surroundings → Result Limits PlacesError
 limits_of t owned around = and_then (λ device. Ok (limits (ceilings_by t around.ceilings) device)) (device_in owned around)

@@ -2,7 +2,7 @@
 use Rattle.std.specs.Prelude.{ℕ, Bool, true, false, codes, bytes_eq, is_some, unwrap_or, List, [], ◌∷◌, Option, Some, None, Result, Ok, Err, if◌then◌else◌}
 use Rattle.git_config_lite.specs.declared.metadata.Metadata.{Metadata}
 use Rattle.git_config_lite.specs.declared.metadata.Source.TheVariants as sources
-use Rattle.git_config_lite.specs.Grammar.{said}
+use Rattle.git_config_lite.specs.Grammar.{parse_text_sections}
 use Rattle.git_config_lite.specs.Lookups.{string}
 use Rattle.git_config_lite.specs.Sections.{Section, Configuration}
 use Rattle.git_config_lite.specs.Writers.{appended}
@@ -33,7 +33,7 @@ config_said path (Err line) = Err (errors.Config path line)
 -- what a file says; one that is not there says nothing
 abbrev pub config_of : List ℕ → Option (List ℕ) → Result Configuration PlacesError
 config_of path None = Ok (configuration path [])
-config_of path (Some bytes) = config_said path (said (local_at path) bytes)
+config_of path (Some bytes) = config_said path (parse_text_sections (local_at path) bytes)
 
 abbrev pub config_at : Names → List ℕ → Result Configuration PlacesError
 config_at t path = config_of path (file_at (look t path true))
@@ -53,9 +53,9 @@ is_shared t git = is_some (file_at (look t (from_directory (codes "commondir") g
 
 -- of what `core.bare` and `core.worktree` are asked: of both configurations, where each work tree has one of its own; of the shared one,
 -- where the git directory shares nothing; and else of none
-abbrev pub asked_of : Names → List ℕ → Configuration → Bool → Result Configuration PlacesError
-asked_of t git config true = and_then (λ more. Ok (appended config more)) (config_at t (own_config git))
-asked_of t git config false = Ok (if is_shared t git then configuration git [] else config)
+abbrev pub config_deciding_work_tree : Names → List ℕ → Configuration → Bool → Result Configuration PlacesError
+config_deciding_work_tree t git config true = and_then (λ more. Ok (appended config more)) (config_at t (own_config git))
+config_deciding_work_tree t git config false = Ok (if is_shared t git then configuration git [] else config)
 
 -- the work tree at a path that the configuration names: a directory
 abbrev pub work_tree_at : List ℕ → Option (List ℕ) → Result (List ℕ) PlacesError
@@ -84,7 +84,7 @@ configured_work_tree t top asked = and_then (unless_bare_by t top asked.sections
 
 -- by whether each work tree has a configuration of its own
 abbrev pub work_tree_of : Names → Top → Configuration → Bool → Result (List ℕ) PlacesError
-work_tree_of t top config own = and_then (configured_work_tree t top) (asked_of t top.git config own)
+work_tree_of t top config own = and_then (configured_work_tree t top) (config_deciding_work_tree t top.git config own)
 
 -- whether each work tree has a configuration of its own, by the version of the format: where none is said, the configuration has no say
 abbrev pub has_own_config : List Section → Option Version → Result Bool PlacesError

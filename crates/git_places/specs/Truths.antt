@@ -7,8 +7,8 @@ use Rattle.git_places.specs.declared.error.PlacesError.{PlacesError}
 use Rattle.git_places.specs.declared.error.PlacesError.TheVariants as errors
 
 -- a text as the value of a key by itself
-abbrev pub one_key : List ℕ → List Section
-one_key text =
+abbrev pub section_for_lone_value : List ℕ → List Section
+section_for_lone_value text =
     record {
       name = codes "a";
       subsection = None;

@@ -3,7 +3,7 @@ use Rattle.std.specs.Prelude.{ℕ, Bool, true, false, ◌&&◌, codes, List, Opt
 use Rattle.gitbase_core.specs.Steps.{and_then}
 use Rattle.worktree_fs.specs.Answers.{kind_of}
 use Rattle.worktree_fs.specs.Changes.{from_directory}
-use Rattle.worktree_fs.specs.Repository.{file_at, is_directory_at, is_git_below, is_git_directory, trimmed}
+use Rattle.worktree_fs.specs.Repository.{file_at, is_directory_at, is_git_directory_by_commondir, is_git_directory, trimmed}
 use Rattle.worktree_fs.specs.Tree.{Names, is_empty, look}
 use Rattle.worktree_fs.specs.declared.answers.NodeKind.{NodeKind}
 use Rattle.git_places.specs.Head.{head_at}
@@ -48,21 +48,21 @@ has_parts t common =
     is_directory_at (look t (from_directory (codes "objects") common) true) && is_directory_at (look t (from_directory (codes "refs") common) true)
 
 -- where git takes the directory, the walk has to take it too, or it is refused
-abbrev pub if_taken : Names → List ℕ → List ℕ → Result Bool PlacesError
-if_taken t git common = if is_git_directory t git common then Ok true else odd_head git
+abbrev pub require_walk_accepts : Names → List ℕ → List ℕ → Result Bool PlacesError
+require_walk_accepts t git common = if is_git_directory t git common then Ok true else odd_head git
 
 -- by what git says of `HEAD`, over the common directory
 abbrev pub by_parts : Names → List ℕ → Head → List ℕ → Result Bool PlacesError
-by_parts t git heads.Good common = if has_parts t common then if_taken t git common else Ok false
+by_parts t git heads.Good common = if has_parts t common then require_walk_accepts t git common else Ok false
 by_parts t git heads.Bad common = Ok false
 by_parts t git heads.Unknown common = if has_parts t common then odd_head git else Ok false
 
 -- by what git says of `HEAD`: what git passes over the walk has to pass over too, or it is refused
-abbrev pub whole_by : Names → List ℕ → Head → Result Bool PlacesError
-whole_by t git heads.Bad = if is_git_below t git then odd_head git else Ok false
-whole_by t git heads.Good = and_then (by_parts t git heads.Good) (common_at t git)
-whole_by t git heads.Unknown = and_then (by_parts t git heads.Unknown) (common_at t git)
+abbrev pub is_git_directory_by_head : Names → List ℕ → Head → Result Bool PlacesError
+is_git_directory_by_head t git heads.Bad = if is_git_directory_by_commondir t git then odd_head git else Ok false
+is_git_directory_by_head t git heads.Good = and_then (by_parts t git heads.Good) (common_at t git)
+is_git_directory_by_head t git heads.Unknown = and_then (by_parts t git heads.Unknown) (common_at t git)
 
 -- whether a directory is a git directory: where git and the walk would not agree, or where that is not known, it is refused by its `HEAD`
-abbrev pub is_whole : Names → List ℕ → Result Bool PlacesError
-is_whole t git = whole_by t git (head_at (look t (head_file git) false))
+abbrev pub is_agreed_git_directory : Names → List ℕ → Result Bool PlacesError
+is_agreed_git_directory t git = is_git_directory_by_head t git (head_at (look t (head_file git) false))

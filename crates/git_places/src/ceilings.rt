@@ -44,7 +44,7 @@ impl Ceilings {
     }
 
     fn push(&mut self, ceiling: Option<Bytes>) -> Result<(), OutOfMemory>
-        ensures { OnOk result (self.new ≡ words.with self.old ceiling) }
+        ensures { OnOk result (self.new ≡ words.append_ceiling_if_any self.old ceiling) }
     {
         if let Some(ceiling) = ceiling {
             self.items.push(ceiling)?;
@@ -54,8 +54,8 @@ impl Ceilings {
 }
 
 /// A path without its first slash.
-fn relative(path: &[u8]) -> &[u8]
-    ensures { result.now ≡ words.relative path.now }
+fn without_leading_slash(path: &[u8]) -> &[u8]
+    ensures { result.now ≡ words.without_leading_slash path.now }
 {
     match path {
         [_, rest @ ..] => rest,
@@ -64,8 +64,8 @@ fn relative(path: &[u8]) -> &[u8]
 }
 
 /// A path without a slash at its end; a lone one stays.
-fn without_end(path: &[u8]) -> &[u8]
-    ensures { result.now ≡ words.without_end path.now }
+fn without_trailing_slash(path: &[u8]) -> &[u8]
+    ensures { result.now ≡ words.without_trailing_slash path.now }
 {
     if path == b"/".as_slice() {
         return path;
@@ -86,7 +86,7 @@ fn real_ceiling<W: Worktree>(
         (λ t. Ok (words.ceiling_at t false entry.now)) result }
 {
     match worktree.real_path(alloc, entry, b"/")? {
-        Some(real) => Ok(Some(Bytes::from_slice(alloc, relative(real.as_bytes()))?)),
+        Some(real) => Ok(Some(Bytes::from_slice(alloc, without_leading_slash(real.as_bytes()))?)),
         None => Ok(None),
     }
 }
@@ -102,7 +102,10 @@ fn ceiling_at<W: Worktree>(
         (λ t. Ok (words.ceiling_at t as_it_is entry.now)) result }
 {
     if as_it_is {
-        return Ok(Some(Bytes::from_slice(alloc, without_end(relative(entry)))?));
+        return Ok(Some(Bytes::from_slice(
+            alloc,
+            without_trailing_slash(without_leading_slash(entry)),
+        )?));
     }
     real_ceiling(alloc, worktree, entry)
 }

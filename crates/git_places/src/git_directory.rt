@@ -1,16 +1,16 @@
 //! What stands at `.git` in a directory.
 ghost use Rattle.std.specs.Prelude.{◌≡◌, ◌∷◌, [], true, Some, None, Ok, IfOk, option_map, if◌then◌else◌};
 ghost use Rattle.worktree_fs.specs.Changes.{from_directory};
-ghost use Rattle.worktree_fs.specs.Repository.{file_at, is_directory_at, is_git_below};
+ghost use Rattle.worktree_fs.specs.Repository.{file_at, is_directory_at, is_git_directory_by_commondir};
 ghost use Rattle.worktree_fs.specs.Tree.{look};
 ghost use Rattle.git_places.specs.Finds.{Finds};
 ghost use Rattle.git_places.specs.GitDirectory as words;
 
 use crate::error::PlacesError;
-use crate::whole::{is_directory, is_whole};
+use crate::whole::{is_agreed_git_directory, is_directory};
 use gitbase_core::{Bytes, OutOfMemory, PathText};
 use std::alloc::Global;
-use worktree_fs::{ReadError, Worktree, beside, gitdir_path, read_file};
+use worktree_fs::{ReadError, Worktree, gitdir_path, read_file, resolve_from_file_parent};
 
 /// The path of `.git` in a directory.
 pub fn dot_git(alloc: Global, directory: &[u8]) -> Result<PathText, OutOfMemory>
@@ -48,7 +48,7 @@ fn git_directory<W: Worktree>(
     ensures { Finds W.Worktree worktree.old worktree.new
         (λ t. words.git_directory t path.now) result }
 {
-    if !is_whole(alloc, worktree, path)? {
+    if !is_agreed_git_directory(alloc, worktree, path)? {
         return Ok(None);
     }
     Ok(Some(PathText::from_bytes(alloc, path)?))
@@ -62,7 +62,7 @@ fn named_git<W: Worktree>(
 ) -> Result<Option<PathText>, PlacesError>
     ensures { Finds W.Worktree worktree.old worktree.new (λ t. words.named_git t git.now) result }
 {
-    if !is_whole(alloc, worktree, git)? {
+    if !is_agreed_git_directory(alloc, worktree, git)? {
         return Err(git_target(alloc, git)?);
     }
     Ok(Some(PathText::from_bytes(alloc, git)?))
@@ -80,7 +80,7 @@ fn git_of_text<W: Worktree>(
 {
     match gitdir_path(text) {
         Some(path) => {
-            let git = beside(alloc, path, file)?;
+            let git = resolve_from_file_parent(alloc, path, file)?;
             named_git(alloc, worktree, git.as_bytes())
         }
         None => Err(git_file(alloc, file)?),
@@ -127,7 +127,7 @@ fn refuse_bare<W: Worktree>(
     ensures { Finds W.Worktree worktree.old worktree.new
         (λ t. words.unless_bare t directory.now (Ok None)) result }
 {
-    if is_whole(alloc, worktree, directory)? {
+    if is_agreed_git_directory(alloc, worktree, directory)? {
         return Err(PlacesError::Bare {
             path: PathText::from_bytes(alloc, directory)?,
         });

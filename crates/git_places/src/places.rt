@@ -138,14 +138,14 @@ fn with_own<W: Worktree>(
     config: File,
 ) -> Result<File, PlacesError>
     ensures { Finds W.Worktree worktree.old worktree.new
-        (λ t. words.asked_of t git.now config true) result }
+        (λ t. words.config_deciding_work_tree t git.now config true) result }
 {
     let more = own_config(alloc, worktree, git)?;
     both(alloc, config, more)
 }
 
 /// Of what `core.bare` and `core.worktree` are asked.
-fn asked_of<W: Worktree>(
+fn config_deciding_work_tree<W: Worktree>(
     alloc: Global,
     worktree: &mut W,
     git: &[u8],
@@ -153,7 +153,7 @@ fn asked_of<W: Worktree>(
     own: bool,
 ) -> Result<File, PlacesError>
     ensures { Finds W.Worktree worktree.old worktree.new
-        (λ t. words.asked_of t git.now config own) result }
+        (λ t. words.config_deciding_work_tree t git.now config own) result }
 {
     if own {
         return with_own(alloc, worktree, git, config);
@@ -264,7 +264,7 @@ fn work_tree_of<W: Worktree>(
     ensures { Finds W.Worktree worktree.old worktree.new
         (λ t. words.work_tree_of t top.now config own) result }
 {
-    let asked = asked_of(alloc, worktree, top.git.as_bytes(), config, own)?;
+    let asked = config_deciding_work_tree(alloc, worktree, top.git.as_bytes(), config, own)?;
     configured_work_tree(alloc, worktree, top, &asked)
 }
 

@@ -11,7 +11,7 @@ use std::alloc::Global;
 
 /// A configuration with one key `a.k`.
 fn with_value(alloc: Global, text: &[u8]) -> Result<File, OutOfMemory>
-    ensures { IfOk result (λ file. file.sections ≡ words.one_key text.now) }
+    ensures { IfOk result (λ file. file.sections ≡ words.section_for_lone_value text.now) }
 {
     let meta = Metadata {
         source: Source::Env,

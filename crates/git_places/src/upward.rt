@@ -2,7 +2,7 @@
 ghost use Rattle.std.specs.Prelude.{◌≡◌, [], Some, IfOk};
 ghost use Rattle.gitbase_core.specs.Path.{components};
 ghost use Rattle.worktree_fs.specs.Tree.{Names};
-ghost use Rattle.worktree_fs.specs.Owners.{Owned};
+ghost use Rattle.worktree_fs.specs.Owners.{OwnershipByPath};
 ghost use Rattle.git_places.specs.Finds.{FindsWith};
 ghost use Rattle.git_places.specs.Limits as bounds;
 ghost use Rattle.git_places.specs.Upward as words;
@@ -36,7 +36,7 @@ impl Model for Top {
 
 /// A path by its components alone, without a slash in front.
 fn relative(alloc: Global, path: &[u8]) -> Result<PathText, OutOfMemory>
-    ensures { IfOk result (λ made. made ≡ words.added [] (components path.now)) }
+    ensures { IfOk result (λ made. made ≡ words.join_components [] (components path.now)) }
 {
     let path = PathText::from_bytes(alloc, path)?;
     let mut made = PathText::new(alloc);
@@ -100,7 +100,7 @@ pub fn find_top<W: Worktree, O: Owners>(
 ) -> Result<Top, PlacesError>
     ensures finds { FindsWith W.Worktree O.Owners worktree.old worktree.new owners.old owners.new
         (λ t owned. words.top_in limits.now t owned current.now) result }
-    ensures nearest { (t : Names) (owned : Owned)
+    ensures nearest { (t : Names) (owned : OwnershipByPath)
         → W.told worktree.old ≡ Some t → O.told owners.old ≡ Some owned
         → IfOk result (words.IsNearest (bounds.stop_at owned limits.now) t current.now) }
 {

@@ -11,7 +11,8 @@ use crate::head::{Head, head_at};
 use gitbase_core::{Bytes, OutOfMemory, PathText};
 use std::alloc::Global;
 use worktree_fs::{
-    NodeKind, Worktree, from_directory, is_git_below, is_git_directory, read_file, trimmed,
+    NodeKind, Worktree, from_directory, is_git_directory, is_git_directory_by_commondir, read_file,
+    trimmed,
 };
 
 /// Whether a path leads to a directory.
@@ -132,14 +133,14 @@ fn has_parts<W: Worktree>(
 }
 
 /// A directory that git takes: whether the walk takes it too.
-fn if_taken<W: Worktree>(
+fn require_walk_accepts<W: Worktree>(
     alloc: Global,
     worktree: &mut W,
     git: &[u8],
     common: &[u8],
 ) -> Result<bool, PlacesError>
     ensures { Finds W.Worktree worktree.old worktree.new
-        (λ t. words.if_taken t git.now common.now) result }
+        (λ t. words.require_walk_accepts t git.now common.now) result }
 {
     if is_git_directory(alloc, worktree, git, common)? {
         return Ok(true);
@@ -158,7 +159,7 @@ fn if_good<W: Worktree>(
         (λ t. words.by_parts t git.now Head.Good common.now) result }
 {
     if has_parts(alloc, worktree, common)? {
-        return if_taken(alloc, worktree, git, common);
+        return require_walk_accepts(alloc, worktree, git, common);
     }
     Ok(false)
 }
@@ -198,7 +199,7 @@ fn by_parts<W: Worktree>(
 }
 
 /// By a `HEAD` that git takes, or of which nothing is known.
-fn by_common<W: Worktree>(
+fn decide_with_common_directory<W: Worktree>(
     alloc: Global,
     worktree: &mut W,
     git: &[u8],
@@ -212,11 +213,15 @@ fn by_common<W: Worktree>(
 }
 
 /// By a `HEAD` that git passes over: whether the walk does so too.
-fn if_passed<W: Worktree>(alloc: Global, worktree: &mut W, git: &[u8]) -> Result<bool, PlacesError>
+fn require_walk_rejects<W: Worktree>(
+    alloc: Global,
+    worktree: &mut W,
+    git: &[u8],
+) -> Result<bool, PlacesError>
     ensures { Finds W.Worktree worktree.old worktree.new
-        (λ t. words.whole_by t git.now Head.Bad) result }
+        (λ t. words.is_git_directory_by_head t git.now Head.Bad) result }
 {
-    if is_git_below(alloc, worktree, git)? {
+    if is_git_directory_by_commondir(alloc, worktree, git)? {
         return Err(odd_head(alloc, git)?);
     }
     Ok(false)
@@ -232,18 +237,18 @@ fn if_passed<W: Worktree>(alloc: Global, worktree: &mut W, git: &[u8]) -> Result
 /// - `OutOfMemory` for want of memory.
 ///
 /// See docs/DECISIONS.md#two-tests.
-pub fn is_whole<W: Worktree>(
+pub fn is_agreed_git_directory<W: Worktree>(
     alloc: Global,
     worktree: &mut W,
     git: &[u8],
 ) -> Result<bool, PlacesError>
-    ensures { Finds W.Worktree worktree.old worktree.new (λ t. words.is_whole t git.now) result }
+    ensures { Finds W.Worktree worktree.old worktree.new (λ t. words.is_agreed_git_directory t git.now) result }
 {
     let path = head_file(alloc, git)?;
     let head = head_at(alloc, worktree, path.as_bytes())?;
     match head {
-        Head::Good => by_common(alloc, worktree, git, Head::Good),
-        Head::Bad => if_passed(alloc, worktree, git),
-        Head::Unknown => by_common(alloc, worktree, git, Head::Unknown),
+        Head::Good => decide_with_common_directory(alloc, worktree, git, Head::Good),
+        Head::Bad => require_walk_rejects(alloc, worktree, git),
+        Head::Unknown => decide_with_common_directory(alloc, worktree, git, Head::Unknown),
     }
 }

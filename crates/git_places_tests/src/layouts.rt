@@ -4,7 +4,7 @@ use bstr::ByteSlice;
 use git_places::{Ceilings, Limits, Places, PlacesError, ceilings_of, find_top, places_of};
 use gitbase_core::PathText;
 use std::alloc::Global;
-use test_cases::{parted, tree_of};
+use test_cases::{split_at_byte, tree_of};
 use worktree_fs::{MemoryOwners, MemoryWorktree, Worktree};
 
 /// The same of trees at whose top a repository lies, which were asked of git by hand.
@@ -35,8 +35,8 @@ fn has_own(has: bool, want: &[u8]) -> bool {
 }
 
 fn are_places(alloc: Global, tree: &mut MemoryWorktree, found: &Places, want: &[u8]) -> bool {
-    let (own, rest) = parted(want, b' ');
-    let (root, rest) = parted(rest, b' ');
+    let (own, rest) = split_at_byte(want, b' ');
+    let (root, rest) = split_at_byte(rest, b' ');
     let (git_dir, common) = parted_in_two(rest);
     has_own(found.has_own_config, own)
         && found.root.as_bytes() == root
@@ -88,7 +88,7 @@ fn named_by(error: &PlacesError) -> &[u8] {
 
 /// Whether a refusal is the one that is wanted; git writes keys in small letters.
 fn is_refused(error: &PlacesError, want: &[u8]) -> bool {
-    let (word, named) = parted(want, b' ');
+    let (word, named) = split_at_byte(want, b' ');
     word_of(error) == word && named_by(error).eq_ignore_ascii_case(named)
 }
 
@@ -138,8 +138,8 @@ fn limits_in(alloc: Global, tree: &mut MemoryWorktree, text: &[u8]) -> Option<Li
 
 /// Whether the answer of a tree is the one that is wanted.
 fn is_answered(alloc: Global, want: &[u8], asked: &[u8]) -> bool {
-    let (current, rest) = parted(asked, b'^');
-    let (text, steps) = parted(rest, b'^');
+    let (current, rest) = split_at_byte(asked, b'^');
+    let (text, steps) = split_at_byte(rest, b'^');
     let Some(tree) = tree_of(alloc, steps, b'~') else {
         return false;
     };
@@ -160,7 +160,7 @@ fn wanted(answer: &[u8]) -> &[u8] {
 
 fn first_lie(alloc: Global, rows: &'static [u8]) -> Option<&'static [u8]> {
     for row in rows.split(|byte| *byte == b'\n') {
-        let (answer, asked) = parted(row, b'^');
+        let (answer, asked) = split_at_byte(row, b'^');
         if !row.is_empty() && !is_answered(alloc, wanted(answer), asked) {
             return Some(row);
         }

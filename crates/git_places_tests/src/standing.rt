@@ -2,7 +2,7 @@
 use crate::layouts::{places_in, word_of};
 use git_places::{Ceilings, Limits, PlacesError};
 use std::alloc::Global;
-use test_cases::{parted, tree_of};
+use test_cases::{split_at_byte, tree_of};
 
 /// Rows: the word of the refusal and the file in which its cause stands, and the tree, in whose
 /// directory `/w/t` is asked. A file of the common directory is spelled as `commondir` leads to it.
@@ -37,8 +37,8 @@ fn file_of(error: &PlacesError) -> &[u8] {
 
 /// Whether a row holds.
 fn holds(alloc: Global, row: &[u8]) -> bool {
-    let (want, steps) = parted(row, b'^');
-    let (word, file) = parted(want, b' ');
+    let (want, steps) = split_at_byte(row, b'^');
+    let (word, file) = split_at_byte(want, b' ');
     let Some(tree) = tree_of(alloc, steps, b'~') else {
         return false;
     };

@@ -2,7 +2,7 @@
 use git_places::PlacesError;
 use gitbase_core::{Bytes, PathText};
 use std::alloc::Global;
-use test_cases::parted;
+use test_cases::split_at_byte;
 
 /// Rows, parted by bars: an error and its text, parted by a backquote.
 const ROWS: &[u8] = b"\
@@ -36,7 +36,7 @@ fn is_version_shown(alloc: Global, want: &[u8]) -> bool {
 
 /// Whether a row holds.
 fn holds(alloc: Global, row: &[u8]) -> bool {
-    let (error, text) = parted(row, b'`');
+    let (error, text) = split_at_byte(row, b'`');
     match error {
         b"none" => is_shown(alloc, PlacesError::NoRepository, text),
         b"bare" => is_bare_shown(alloc, text),

@@ -11,7 +11,7 @@ use Rattle.std.proofs.Math.Seq.{take-append_seam}
 use Rattle.gitbase_core.specs.Path.{components, directory_prefix, is_slash, is_top, joined, lies_beneath, rest_beneath}
 use Rattle.gitbase_core.proofs.DirectoryPrefix.{front-and-rest, joined-front}
 use Rattle.worktree_fs.specs.Answers.{kind_of}
-use Rattle.worktree_fs.specs.Tree.{Names, Node, Place, Jump, Spot, reached, missing, nowhere, endless, look_at, file, link, directory, other, child, is_text, is_dot, is_dot_dot, enter, parent_place, start, onward, walking, along, behind, resolve, spot}
+use Rattle.worktree_fs.specs.Tree.{Names, Node, Place, Jump, Spot, reached, missing, nowhere, endless, look_at, file, link, directory, other, child, is_text, is_dot, is_dot_dot, enter, parent_place, start, resolve_from_node, walking, along, behind, resolve, spot}
 use Rattle.worktree_fs.proofs.Paths.Texts.{pieces-join}
 use Rattle.git_setup.specs.Present.{is_present}
 
@@ -31,8 +31,8 @@ Jumps jump = (place : Place) (target : List ℕ) (names more : List (List ℕ)) 
 
 through : (jump : Jump) → Jumps jump → (place : Place) (component : List ℕ) (rest more : List (List ℕ)) (o : Option Node)
     → ((p : Place) → Fails (along jump false p rest) → Fails (along jump false p (rest ++ more)))
-    → Fails (onward (walking (λ p. along jump false p rest) jump false) place rest component o)
-    → Fails (onward (walking (λ p. along jump false p (rest ++ more)) jump false) place (rest ++ more) component o)
+    → Fails (resolve_from_node (walking (λ p. along jump false p rest) jump false) place rest component o)
+    → Fails (resolve_from_node (walking (λ p. along jump false p (rest ++ more)) jump false) place (rest ++ more) component o)
 through jump jumps place component rest more None goes fails = refl
 through jump jumps place component rest more (Some (directory names)) goes fails = goes (enter place component names) fails
 through jump jumps place component [] more (Some (link target)) goes fails = absurd (cc fails)
@@ -47,8 +47,8 @@ along_more jump jumps [] more place fails = absurd (cc fails)
 along_more jump jumps (component ∷ names) more place fails = go (along_more jump jumps names more) (is_dot component) (is_dot_dot component) fails
   where
     go : ((p : Place) → Fails (along jump false p names) → Fails (along jump false p (names ++ more))) → (dot up : Bool)
-        → Fails (if dot then along jump false place names else if up then along jump false (parent_place place) names else onward (walking (λ p. along jump false p names) jump false) place names component (child place.here component))
-        → Fails (if dot then along jump false place (names ++ more) else if up then along jump false (parent_place place) (names ++ more) else onward (walking (λ p. along jump false p (names ++ more)) jump false) place (names ++ more) component (child place.here component))
+        → Fails (if dot then along jump false place names else if up then along jump false (parent_place place) names else resolve_from_node (walking (λ p. along jump false p names) jump false) place names component (child place.here component))
+        → Fails (if dot then along jump false place (names ++ more) else if up then along jump false (parent_place place) (names ++ more) else resolve_from_node (walking (λ p. along jump false p (names ++ more)) jump false) place (names ++ more) component (child place.here component))
     go goes true up fails = goes place fails
     go goes false true fails = goes (parent_place place) fails
     go goes false false fails = through jump jumps place component names more (child place.here component) goes fails

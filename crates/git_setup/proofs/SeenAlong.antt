@@ -5,7 +5,7 @@ use Rattle.gitbase_core.specs.Path.{is_top, lies_beneath, parent, without_slash}
 use Rattle.gitbase_core.specs.Steps.{and_then}
 use Rattle.gitbase_core.specs.declared.entry.IndexEntry.{IndexEntry}
 use Rattle.worktree_fs.specs.Tree.{Names}
-use Rattle.git_setup.specs.Present.{is_present, is_skipped, stands_for_directory, unskipped, as_directory, as_file, seen, seen_after, is_gone_above, is_there, looked_at, known_of, known_above, is_present_by, as_present, skipped_seen, directory_seen, seen_by, seen_along}
+use Rattle.git_setup.specs.Present.{is_present, is_skipped, stands_for_directory, unskipped, refuse_present_sparse_entry, as_file, seen, seen_after, is_gone_above, is_there, looked_at, known_of, known_above, is_present_by, as_present, skipped_entry_as_seen, directory_as_seen, seen_by, seen_along}
 use Rattle.git_setup.specs.declared.error.GitRefusal.{GitRefusal}
 use Rattle.git_setup.specs.declared.present.Looked.{Looked}
 use Rattle.git_setup.specs.declared.present.Seen.{Seen}
@@ -58,22 +58,22 @@ module _ (t : Names) (root : List ℕ) where
   Agrees (Err error) (Err other) = error ≡ other
 
   agrees : (looks : Bool) (last : Option Looked) (e : IndexEntry) → IsKnown last → Agrees (seen_by t root looks last e) (seen t root looks e)
-  unfolding seen_by skipped_seen directory_seen
+  unfolding seen_by skipped_entry_as_seen directory_as_seen
   agrees looks last e known = go (stands_for_directory e)
     where
-      for_directory : (present : Bool) → Agrees (and_then (λ (now : IndexEntry). Ok (record { entry = now; last = last })) (as_directory e present)) (as_directory e present)
+      for_directory : (present : Bool) → Agrees (and_then (λ (now : IndexEntry). Ok (record { entry = now; last = last })) (refuse_present_sparse_entry e present)) (refuse_present_sparse_entry e present)
       for_directory true = refl
       for_directory false = (refl, known)
 
       for_file : (wanted skipped : Bool)
-          → Agrees (if wanted && skipped then Ok (skipped_seen t root last e) else Ok (record { entry = e; last = last })) (Ok (if wanted && skipped && is_present t root e.path then unskipped e else e))
+          → Agrees (if wanted && skipped then Ok (skipped_entry_as_seen t root last e) else Ok (record { entry = e; last = last })) (Ok (if wanted && skipped && is_present t root e.path then unskipped e else e))
       for_file false skipped = (refl, known)
       for_file true false = (refl, known)
       for_file true true = (ap (as_present e) (by_known (known_above t root last e.path) e.path (is_known last e.path known)), is_known last e.path known)
 
       go : (directory : Bool)
-          → Agrees (if directory then directory_seen t root last e else if looks && is_skipped e then Ok (skipped_seen t root last e) else Ok (record { entry = e; last = last }))
-          (if directory then as_directory e (is_present t root (without_slash e.path)) else Ok (as_file t root looks e))
+          → Agrees (if directory then directory_as_seen t root last e else if looks && is_skipped e then Ok (skipped_entry_as_seen t root last e) else Ok (record { entry = e; last = last }))
+          (if directory then refuse_present_sparse_entry e (is_present t root (without_slash e.path)) else Ok (as_file t root looks e))
       go true = for_directory (is_present t root (without_slash e.path))
       go false = for_file looks (is_skipped e)
 

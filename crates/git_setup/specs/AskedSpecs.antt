@@ -6,7 +6,7 @@ use Rattle.glob_rules.specs.PathSpec.{PathSpec}
 use Rattle.glob_rules.specs.PathSpecText.{spec_of}
 use Rattle.glob_rules.specs.declared.pathspec.Error.{Error}
 use Rattle.glob_rules.specs.declared.pathspec.Error.TheVariants as faults
-use Rattle.git_setup.specs.Placed.{beneath, parted, placed}
+use Rattle.git_setup.specs.Placed.{beneath, parted, resolve_pathspec_from_top}
 use Rattle.gitbase_core.specs.Steps.{and_then}
 use Rattle.git_setup.specs.Steps.{◌>>=◌}
 use Rattle.git_setup.specs.declared.error.GitRefusal.{GitRefusal}
@@ -38,13 +38,13 @@ abbrev pub told_here : List ℕ → List (List ℕ) → List ℕ
 told_here prefix [] = prefix ++ 47 ∷ []
 told_here prefix (text ∷ texts) = codes "."
 
-abbrev pub here : List ℕ → List (List ℕ) → Written
-here prefix texts = record { told = told_here prefix texts; text = codes ":(literal)." }
+abbrev pub current_directory_pathspec : List ℕ → List (List ℕ) → Written
+current_directory_pathspec prefix texts = record { told = told_here prefix texts; text = codes ":(literal)." }
 
 -- the texts, and behind them the directory where it is meant: gitglossary(7), "pathspec", and the commands that look there
 unfoldable pub written_in : Bool → List ℕ → List (List ℕ) → List Written
 written_in prefers prefix texts =
-    if prefers && means_here prefix texts then map as_written texts ++ here prefix texts ∷ [] else map as_written texts
+    if prefers && means_here prefix texts then map as_written texts ++ current_directory_pathspec prefix texts ∷ [] else map as_written texts
 
 -- ---- path specs
 
@@ -57,7 +57,7 @@ as_spec text (Err faults.OutOfMemory) = Err errors.OutOfMemory
 
 -- the path spec of a text from a directory of the work tree
 abbrev pub spec_here : Bool → List ℕ → List ℕ → List ℕ → Result PathSpec GitRefusal
-spec_here folds root prefix text = and_then (λ whole. as_spec text (spec_of folds whole)) (placed root prefix text)
+spec_here folds root prefix text = and_then (λ whole. as_spec text (spec_of folds whole)) (resolve_pathspec_from_top root prefix text)
 
 -- the path specs of some texts behind others, or the first that is refused
 abbrev pub specs_after : Bool → List ℕ → List ℕ → List PathSpec → List Written → Result (List PathSpec) GitRefusal
@@ -89,12 +89,12 @@ abbrev pub asks_from : Bool → List (List ℕ) → Bool
 asks_from prefers [] = prefers
 asks_from prefers (text ∷ texts) = true
 
-abbrev pub none : AskedSpecs
-none = record { all = []; each = [] }
+abbrev pub no_asked_specs : AskedSpecs
+no_asked_specs = record { all = []; each = [] }
 
 -- the path specs of some texts from a directory
 abbrev pub specs_in : Bool → Bool → List ℕ → List ℕ → List (List ℕ) → Result AskedSpecs GitRefusal
 specs_in prefers folds root directory texts =
     if asks_from prefers texts
     then and_then (λ prefix. specs_from folds root prefix (written_in prefers prefix texts)) (ok_or (beneath root directory) (errors.OutsideRoot directory root))
-    else Ok none
+    else Ok no_asked_specs

@@ -11,9 +11,9 @@ use Rattle.std.specs.List.{flat_map}
 use Rattle.bstr.specs.Text.{lines_of}
 
 -- what follows a byte at the front of a text, as often as it stands there
-abbrev pub after : ℕ → List ℕ → List ℕ
-after mark [] = []
-after mark (b ∷ rest) = if b == mark then after mark rest else b ∷ rest
+abbrev pub skip_repeated_byte : ℕ → List ℕ → List ℕ
+skip_repeated_byte mark [] = []
+skip_repeated_byte mark (b ∷ rest) = if b == mark then skip_repeated_byte mark rest else b ∷ rest
 
 -- what follows a slash at the front, if one is there
 abbrev pub past_slash : List ℕ → List ℕ
@@ -28,7 +28,7 @@ is_end (b ∷ rest) = bytes_eq (b ∷ rest) (10 ∷ []) || bytes_eq (b ∷ rest)
 -- a rule without its sign is of stars alone, one at least; a slash may stand behind them, and spaces
 abbrev pub is_of_stars : List ℕ → Bool
 is_of_stars [] = false
-is_of_stars (b ∷ rest) = if b == 42 then is_end (after 32 (past_slash (after 42 (b ∷ rest)))) else false
+is_of_stars (b ∷ rest) = if b == 42 then is_end (skip_repeated_byte 32 (past_slash (skip_repeated_byte 42 (b ∷ rest)))) else false
 
 abbrev pub unsigned : List ℕ → List ℕ
 unsigned rule = if is_of_stars rule then 63 ∷ rule else rule
@@ -39,5 +39,5 @@ line [] = []
 line (b ∷ rest) = if b == 33 then 33 ∷ unsigned rest else unsigned (b ∷ rest)
 
 -- the same rules, line by line
-unfoldable pub rules_below_top : List ℕ → List ℕ
-rules_below_top rules = flat_map line (lines_of rules)
+unfoldable pub exempt_top_from_star_rules : List ℕ → List ℕ
+exempt_top_from_star_rules rules = flat_map line (lines_of rules)

@@ -17,7 +17,7 @@ use Rattle.git_setup.specs.Switches.{switches_in}
 use Rattle.git_setup.specs.declared.checked.Checked.{Checked}
 use Rattle.git_setup.specs.declared.checked.NamedFile.{NamedFile}
 use Rattle.git_setup.specs.declared.checked.OuterFiles.{OuterFiles}
-use Rattle.git_setup.specs.GlobalRules.{ended, marked}
+use Rattle.git_setup.specs.GlobalRules.{ended, double_byte_order_mark}
 use Rattle.git_setup.specs.declared.error.GitRefusal.{GitRefusal}
 use Rattle.git_setup.specs.declared.read_here.Read.{Read}
 
@@ -26,17 +26,17 @@ use Rattle.git_setup.specs.declared.read_here.Read.{Read}
 -- as every search of the rules outside the work tree has them: a line feed ends the last line too, and a carriage return before it is no
 -- part of the rule
 abbrev pub named : List ℕ → RulesFile → NamedFile
-named name file = record { name = name; bytes = marked (ended file.bytes) }
+named name file = record { name = name; bytes = double_byte_order_mark (ended file.bytes) }
 
 -- the file of the user's rules, which is at a path: as `core.excludesFile` is written, where that is the path from the top of the work tree
 -- as it stands, and else by the path
-abbrev pub user_name : List ℕ → List ℕ → Option (List ℕ) → List ℕ
-user_name root path None = path
-user_name root path (Some text) = if bytes_eq (from_directory text root) path then text else path
+abbrev pub user_excludes_file_name : List ℕ → List ℕ → Option (List ℕ) → List ℕ
+user_excludes_file_name root path None = path
+user_excludes_file_name root path (Some text) = if bytes_eq (from_directory text root) path then text else path
 
 abbrev pub user_rules : List ℕ → List Section → Option RulesFile → Option NamedFile
 user_rules root sections None = None
-user_rules root sections (Some file) = Some (named (user_name root file.path (string (codes "core") None (codes "excludesfile") sections)) file)
+user_rules root sections (Some file) = Some (named (user_excludes_file_name root file.path (string (codes "core") None (codes "excludesfile") sections)) file)
 
 -- what all work trees share, by its path without links
 abbrev pub real_common : Names → Layout → List ℕ
@@ -44,12 +44,12 @@ real_common t places = unwrap_or (real_path t places.common (codes "/")) places.
 
 -- the file of the repository's rules: from the top of the work tree, where the repository is in `.git` there, and else by a path without
 -- links
-abbrev pub repository_name : Names → Layout → List ℕ
-repository_name t places = if bytes_eq places.common (dot_git places.root) then codes ".git/info/exclude" else info_exclude (real_common t places)
+abbrev pub info_exclude_file_name : Names → Layout → List ℕ
+info_exclude_file_name t places = if bytes_eq places.common (dot_git places.root) then codes ".git/info/exclude" else info_exclude (real_common t places)
 
 abbrev pub repository_rules : Names → Layout → Option RulesFile → Option NamedFile
 repository_rules t places None = None
-repository_rules t places (Some file) = Some (named (repository_name t places) file)
+repository_rules t places (Some file) = Some (named (info_exclude_file_name t places) file)
 
 abbrev pub outer_of : Names → Layout → List Section → Rules → OuterFiles
 outer_of t places sections rules =

@@ -8,16 +8,16 @@ use Rattle.git_config_lite.specs.Sections.{Section}
 use Rattle.git_places.specs.Places.{Layout, layout_of}
 use Rattle.git_places.specs.Surroundings.{Surroundings}
 use Rattle.glob_rules.specs.PathSpec.{PathSpec}
-use Rattle.worktree_fs.specs.Owners.{Owned}
+use Rattle.worktree_fs.specs.Owners.{OwnershipByPath}
 use Rattle.worktree_fs.specs.Tree.{Names}
 use Rattle.git_setup.specs.AskedSpecs.{specs_in}
 use Rattle.git_setup.specs.Conversions.{converts_here}
 use Rattle.git_setup.specs.Found.{top_found}
-use Rattle.git_setup.specs.Ignoring.{ignores_here}
+use Rattle.git_setup.specs.Ignoring.{may_ignore_submodules}
 use Rattle.git_setup.specs.IndexAt.{index_path}
 use Rattle.git_setup.specs.Indexed.{indexed_here}
 use Rattle.git_setup.specs.Refusals.{as_files, as_ordered, as_places}
-use Rattle.git_setup.specs.Settings.{unwatched}
+use Rattle.git_setup.specs.Settings.{node_settings_unless_fsmonitor}
 use Rattle.git_setup.specs.Steps.{◌>>=◌}
 use Rattle.git_setup.specs.Switches.{switches_in}
 use Rattle.git_setup.specs.declared.compared.Compared.{Compared}
@@ -27,7 +27,7 @@ use Rattle.git_setup.specs.declared.pathspecs.AskedSpecs.{AskedSpecs}
 use Rattle.git_setup.specs.declared.settings.Settings.{Settings}
 
 -- the work tree around the current directory, and where its repository lies
-unfoldable pub places_in : Names → Owned → Surroundings → Result Layout GitRefusal
+unfoldable pub places_in : Names → OwnershipByPath → Surroundings → Result Layout GitRefusal
 places_in t owned around = do
   top ← top_found t owned around
   as_places (layout_of t top)
@@ -36,14 +36,14 @@ places_in t owned around = do
 unfoldable pub settings_in : Names → Layout → Surroundings → List Section → List IndexEntry → Result Settings GitRefusal
 settings_in t places around sections entries = do
   switches ← switches_in sections
-  nodes ← unwatched sections
+  nodes ← node_settings_unless_fsmonitor sections
   converts ← converts_here t places around sections entries
   Ok (record {
     nodes = nodes;
     quote_path = switches.quote_path;
     looks_for_skipped = switches.looks_for_skipped;
     converts = converts;
-    ignores_submodules = ignores_here t places.root sections entries;
+    ignores_submodules = may_ignore_submodules t places.root sections entries;
   })
 
 unfoldable pub settings_by : Names → Layout → Surroundings → List IndexEntry → Result Settings GitRefusal

@@ -33,16 +33,16 @@ abbrev pub holder : IndexEntry → List ℕ
 holder e = unwrap_or (parent e.path) []
 
 -- one is in a directory that leads to an entry
-unfoldable pub leads_past : Names → List ℕ → IndexEntry → Bool
-leads_past t root e = attributes_along t root (components (holder e))
+unfoldable pub has_attributes_above_entry : Names → List ℕ → IndexEntry → Bool
+has_attributes_above_entry t root e = attributes_along t root (components (holder e))
 
 -- the same of an entry behind another one to which none leads: of entries in one directory the first is asked for
-abbrev pub leads_past_next : Names → List ℕ → IndexEntry → IndexEntry → Bool
-leads_past_next t root before e = not (bytes_eq (holder before) (holder e)) && leads_past t root e
+abbrev pub has_attributes_above_next : Names → List ℕ → IndexEntry → IndexEntry → Bool
+has_attributes_above_next t root before e = not (bytes_eq (holder before) (holder e)) && has_attributes_above_entry t root e
 
-abbrev pub leads_past_rest : Names → List ℕ → IndexEntry → List IndexEntry → Bool
-leads_past_rest t root before [] = false
-leads_past_rest t root before (e ∷ entries) = leads_past_next t root before e || leads_past_rest t root e entries
+abbrev pub has_attributes_above_rest : Names → List ℕ → IndexEntry → List IndexEntry → Bool
+has_attributes_above_rest t root before [] = false
+has_attributes_above_rest t root before (e ∷ entries) = has_attributes_above_next t root before e || has_attributes_above_rest t root e entries
 
 -- ---- elsewhere
 
@@ -71,15 +71,15 @@ unfoldable pub in_system : Names → Bool
 in_system t = is_present t (codes "/etc") (codes "gitattributes")
 
 -- these, and that of the user
-abbrev pub attributes_outside : Names → Layout → Surroundings → Bool
-attributes_outside t places around =
+abbrev pub has_attributes_outside : Names → Layout → Surroundings → Bool
+has_attributes_outside t places around =
     in_repository t places.common || (in_system t || has_user_attributes t around)
 
-abbrev pub attributes_anywhere : Names → Layout → Surroundings → List IndexEntry → Bool
-attributes_anywhere t places around entries =
-    list_any is_attributes entries || (attributes_outside t places around || list_any (leads_past t places.root) entries)
+abbrev pub has_attributes_anywhere : Names → Layout → Surroundings → List IndexEntry → Bool
+has_attributes_anywhere t places around entries =
+    list_any is_attributes entries || (has_attributes_outside t places around || list_any (has_attributes_above_entry t places.root) entries)
 
 -- the configuration has line ends converted, or there are attributes anywhere
 abbrev pub converts_here : Names → Layout → Surroundings → List Section → List IndexEntry → Result Bool GitRefusal
 converts_here t places around sections entries =
-    and_then (λ (converts : Bool). if converts then Ok true else Ok (attributes_anywhere t places around entries)) (converts_in sections)
+    and_then (λ (converts : Bool). if converts then Ok true else Ok (has_attributes_anywhere t places around entries)) (converts_in sections)

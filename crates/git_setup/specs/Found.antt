@@ -5,13 +5,13 @@ use Rattle.gitbase_core.specs.declared.entry.IndexEntry.{IndexEntry}
 use Rattle.git_config_files.specs.Files.{Configured}
 use Rattle.git_config_files.specs.Rules.{Rules, rules_in}
 use Rattle.git_config_files.specs.Stack.{Stack, stack_at}
-use Rattle.git_config_files.specs.Safe.{own_top}
+use Rattle.git_config_files.specs.Safe.{require_trusted_top}
 use Rattle.git_places.specs.Limits.{Limits, limits_of}
 use Rattle.git_places.specs.Places.{Layout, layout_of}
 use Rattle.git_places.specs.Surroundings.{Surroundings}
 use Rattle.git_places.specs.Upward.{Top, top_in}
 use Rattle.worktree_fs.specs.Changes.{real_path}
-use Rattle.worktree_fs.specs.Owners.{Owned}
+use Rattle.worktree_fs.specs.Owners.{OwnershipByPath}
 use Rattle.worktree_fs.specs.Tree.{Names}
 use Rattle.worktree_report.specs.ConfigFiles.{ConfigFile}
 use Rattle.worktree_report.specs.declared.setup.Setup.{Setup}
@@ -40,20 +40,20 @@ use Rattle.git_setup.specs.declared.switches.Switches.{Switches}
 -- ---- where
 
 -- the nearest work tree, if it is the user's or safe
-abbrev pub top_by : Names → Owned → Surroundings → Limits → Result Top GitRefusal
+abbrev pub top_by : Names → OwnershipByPath → Surroundings → Limits → Result Top GitRefusal
 top_by t owned around limits = do
   top ← as_places (top_in limits t owned around.directory)
-  as_files (own_top t owned around top)
+  as_files (require_trusted_top t owned around top)
 
 -- that of the current directory; a variable that points git elsewhere is refused, before anything is asked
-abbrev pub top_here : Names → Owned → Surroundings → Result Top GitRefusal
+abbrev pub top_here : Names → OwnershipByPath → Surroundings → Result Top GitRefusal
 top_here t owned around = and_then (top_by t owned around) (as_places (limits_of t owned around))
 
 abbrev pub unless_elsewhere : Option (List ℕ) → Result Top GitRefusal → Result Top GitRefusal
 unless_elsewhere None given = given
 unless_elsewhere (Some name) given = Err (errors.Elsewhere name)
 
-abbrev pub top_found : Names → Owned → Surroundings → Result Top GitRefusal
+abbrev pub top_found : Names → OwnershipByPath → Surroundings → Result Top GitRefusal
 top_found t owned around = unless_elsewhere around.elsewhere (top_here t owned around)
 
 -- ---- what is asked
@@ -168,7 +168,7 @@ found_at t around asked top = do
   Ok (found_with places around asked parts)
 
 -- the setup that is found from the current directory, or the first refusal
-unfoldable pub found_in : Names → Owned → Surroundings → Asked → Result Found GitRefusal
+unfoldable pub found_in : Names → OwnershipByPath → Surroundings → Asked → Result Found GitRefusal
 found_in t owned around asked = do
   top ← top_found t owned around
   found_at t around asked top

@@ -2,7 +2,7 @@
 use Rattle.std.specs.Prelude.{ℕ, List, [], ◌∷◌, ◌++◌, ◌-◌, ◌==◌, length, nat_eq, slice_index, Option, Some, None, if◌then◌else◌}
 use Rattle.std.specs.List.{starts_with}
 use Rattle.git_config_files.specs.Rules.{Rules, RulesFile}
-use Rattle.git_setup.specs.BelowTop.{rules_below_top}
+use Rattle.git_setup.specs.BelowTop.{exempt_top_from_star_rules}
 
 -- some lines, with a line feed behind the last one too
 abbrev pub ended : List ℕ → List ℕ
@@ -14,14 +14,14 @@ rules_text None = []
 rules_text (Some file) = ended file.bytes
 
 -- a byte order mark, as UTF-8 has it
-abbrev pub mark : List ℕ
-mark = 239 ∷ 187 ∷ 191 ∷ []
+abbrev pub byte_order_mark : List ℕ
+byte_order_mark = 239 ∷ 187 ∷ 191 ∷ []
 
 -- Each file is without its byte order mark by now. The search takes one from the front of its rules: where a file had two, the second
 -- belongs to its first rule, as in git, and has another in front of it.
-abbrev pub marked : List ℕ → List ℕ
-marked rules = if starts_with nat_eq rules mark then mark ++ rules else rules
+abbrev pub double_byte_order_mark : List ℕ → List ℕ
+double_byte_order_mark rules = if starts_with nat_eq rules byte_order_mark then byte_order_mark ++ rules else rules
 
 -- those of the user, and behind them those of the repository, as they leave the top alone
 unfoldable pub globals_of : Rules → List ℕ
-globals_of rules = marked (rules_below_top (rules_text rules.user ++ rules_text rules.repository))
+globals_of rules = double_byte_order_mark (exempt_top_from_star_rules (rules_text rules.user ++ rules_text rules.repository))

@@ -2,7 +2,7 @@
 use Rattle.std.specs.Prelude.{ℕ, List, Bool, true, false, not, ◌&&◌, ◌||◌, ◌==◌, codes, bytes_eq, Option, Some, None, Result, Ok, Err}
 use Rattle.std.specs.List.{list_any}
 use Rattle.gitbase_core.specs.declared.entry.IndexEntry.{IndexEntry}
-use Rattle.git_config_lite.specs.Grammar.{said}
+use Rattle.git_config_lite.specs.Grammar.{parse_text_sections}
 use Rattle.git_config_lite.specs.Lookups.{section_value}
 use Rattle.git_config_lite.specs.Sections.{Section}
 use Rattle.git_config_lite.specs.declared.metadata.Metadata.{Metadata}
@@ -32,7 +32,7 @@ said_leave_out (Err line) = true
 
 -- what the bytes of a `.gitmodules` say
 abbrev pub bytes_leave_out : List ℕ → Bool
-bytes_leave_out bytes = said_leave_out (said modules_meta bytes)
+bytes_leave_out bytes = said_leave_out (parse_text_sections modules_meta bytes)
 
 -- where it is no file of the work tree, git asks the index and the last commit
 abbrev pub modules_leave_out : Look → Bool
@@ -47,6 +47,6 @@ abbrev pub is_unmerged_modules : IndexEntry → Bool
 is_unmerged_modules e = not (e.stage == 0) && bytes_eq e.path (codes ".gitmodules")
 
 -- by a `.gitmodules` that is not merged no submodule is known, and none is left out
-abbrev pub ignores_here : Names → List ℕ → List Section → List IndexEntry → Bool
-ignores_here t root sections entries =
+abbrev pub may_ignore_submodules : Names → List ℕ → List Section → List IndexEntry → Bool
+may_ignore_submodules t root sections entries =
     not (list_any is_unmerged_modules entries) && (list_any leaves_out sections || modules_leave_out (look t (modules_path root) false))

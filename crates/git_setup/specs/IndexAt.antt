@@ -17,13 +17,13 @@ abbrev pub entries_of : Index → Result (List IndexEntry) GitRefusal
 entries_of index = Ok index.entries
 
 -- the entries in the bytes of a file
-abbrev pub entries_in : List ℕ → List ℕ → Result (List IndexEntry) GitRefusal
-entries_in path bytes = and_then entries_of (as_read path (index_of_bytes bytes))
+abbrev pub parse_index_entries : List ℕ → List ℕ → Result (List IndexEntry) GitRefusal
+parse_index_entries path bytes = and_then entries_of (as_read path (index_of_bytes bytes))
 
 -- the entries of the file that a path leads to; where nothing is there, there are none. What is there and is no file is refused, and an
 -- endless link
 abbrev pub entries_at : List ℕ → Look → Result (List IndexEntry) GitRefusal
-entries_at path (found (file bytes)) = entries_in path bytes
+entries_at path (found (file bytes)) = parse_index_entries path bytes
 entries_at path (found (link target)) = Err (errors.IndexNode path)
 entries_at path (found (directory names)) = Err (errors.IndexNode path)
 entries_at path (found other) = Err (errors.IndexNode path)

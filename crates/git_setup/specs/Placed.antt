@@ -77,14 +77,14 @@ abbrev pub normal_path : List ℕ → List ℕ
 normal_path path = normal_of path (normalized path)
 
 -- whether the bytes of a directory would mean something else in front of the path: as a pattern, or without regard to case
-abbrev pub is_changed : SpecText → List ℕ → Bool
-is_changed p prefix = (not p.is_literal && list_any is_special prefix) || (p.folds && list_any is_ascii_alphabetic prefix)
+abbrev pub would_prefix_match_differently : SpecText → List ℕ → Bool
+would_prefix_match_differently p prefix = (not p.is_literal && list_any is_special prefix) || (p.folds && list_any is_ascii_alphabetic prefix)
 
 -- a relative path, from a directory of the work tree
 abbrev pub from_prefix : List ℕ → List ℕ → SpecText → Result (List ℕ) GitRefusal
 from_prefix text prefix p =
     if is_empty prefix then Ok p.path
-    else if is_changed p prefix then Err (errors.Prefix text prefix)
+    else if would_prefix_match_differently p prefix then Err (errors.Prefix text prefix)
     else Ok (joined prefix p.path)
 
 -- the path of a spec from the top, by the text of the spec, which names it where it is refused
@@ -98,5 +98,5 @@ abbrev pub placed_by : List ℕ → List ℕ → List ℕ → SpecText → Resul
 placed_by root text prefix p = and_then (λ path. Ok (p.front ++ path)) (from_top root text prefix p)
 
 -- the text of a path spec from the top
-unfoldable pub placed : List ℕ → List ℕ → List ℕ → Result (List ℕ) GitRefusal
-placed root prefix text = placed_by root text prefix (parted text)
+unfoldable pub resolve_pathspec_from_top : List ℕ → List ℕ → List ℕ → Result (List ℕ) GitRefusal
+resolve_pathspec_from_top root prefix text = placed_by root text prefix (parted text)

@@ -31,8 +31,8 @@ abbrev pub unskipped : IndexEntry → IndexEntry
 unskipped e = record e { flags = flags_of (has_flag assume_valid_flag e) false }
 
 -- an entry that stands for a directory: what the directory holds is known only where nothing is in its place
-abbrev pub as_directory : IndexEntry → Bool → Result IndexEntry GitRefusal
-as_directory e present = if present then Err (errors.SparseDirectory e.path) else Ok e
+abbrev pub refuse_present_sparse_entry : IndexEntry → Bool → Result IndexEntry GitRefusal
+refuse_present_sparse_entry e present = if present then Err (errors.SparseDirectory e.path) else Ok e
 
 -- another entry is not skipped where something is in its place, if the work tree is one that git looks through for such
 abbrev pub as_file : Names → List ℕ → Bool → IndexEntry → IndexEntry
@@ -40,7 +40,7 @@ as_file t root looks e = if looks && is_skipped e && is_present t root e.path th
 
 abbrev pub seen : Names → List ℕ → Bool → IndexEntry → Result IndexEntry GitRefusal
 seen t root looks e =
-    if stands_for_directory e then as_directory e (is_present t root (without_slash e.path)) else Ok (as_file t root looks e)
+    if stands_for_directory e then refuse_present_sparse_entry e (is_present t root (without_slash e.path)) else Ok (as_file t root looks e)
 
 -- some entries behind others, each as it is seen in the work tree, or the first that is refused
 abbrev pub seen_after : Names → List ℕ → Bool → List IndexEntry → List IndexEntry → Result (List IndexEntry) GitRefusal
@@ -76,18 +76,18 @@ is_present_by t root last path = if is_gone_above last path then false else is_p
 abbrev pub as_present : IndexEntry → Bool → IndexEntry
 as_present e present = if present then unskipped e else e
 
-unfoldable pub skipped_seen : Names → List ℕ → Option Looked → IndexEntry → Seen
-skipped_seen t root last e =
+unfoldable pub skipped_entry_as_seen : Names → List ℕ → Option Looked → IndexEntry → Seen
+skipped_entry_as_seen t root last e =
     let now = known_above t root last e.path in
     record { entry = as_present e (is_present_by t root now e.path); last = now }
 
-unfoldable pub directory_seen : Names → List ℕ → Option Looked → IndexEntry → Result Seen GitRefusal
-directory_seen t root last e = and_then (λ now. Ok (record { entry = now; last = last })) (as_directory e (is_present t root (without_slash e.path)))
+unfoldable pub directory_as_seen : Names → List ℕ → Option Looked → IndexEntry → Result Seen GitRefusal
+directory_as_seen t root last e = and_then (λ now. Ok (record { entry = now; last = last })) (refuse_present_sparse_entry e (is_present t root (without_slash e.path)))
 
 unfoldable pub seen_by : Names → List ℕ → Bool → Option Looked → IndexEntry → Result Seen GitRefusal
 seen_by t root looks last e =
-    if stands_for_directory e then directory_seen t root last e
-    else if looks && is_skipped e then Ok (skipped_seen t root last e)
+    if stands_for_directory e then directory_as_seen t root last e
+    else if looks && is_skipped e then Ok (skipped_entry_as_seen t root last e)
     else Ok (record { entry = e; last = last })
 
 abbrev pub seen_along : Names → List ℕ → Bool → Option Looked → List IndexEntry → List IndexEntry → Result (List IndexEntry) GitRefusal

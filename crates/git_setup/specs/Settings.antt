@@ -51,8 +51,8 @@ abbrev pub is_watched : List Section → Bool
 is_watched sections = is_watched_by (boolean (codes "core") None (codes "fsmonitor") sections)
 
 -- what such a program tells is not heeded
-abbrev pub unwatched : List Section → Result NodeSettings GitRefusal
-unwatched sections = if is_watched sections then Err (errors.Elsewhere (codes "core.fsmonitor")) else nodes_in sections
+abbrev pub node_settings_unless_fsmonitor : List Section → Result NodeSettings GitRefusal
+node_settings_unless_fsmonitor sections = if is_watched sections then Err (errors.Elsewhere (codes "core.fsmonitor")) else nodes_in sections
 
 -- ---- conversions
 

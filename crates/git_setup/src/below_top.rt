@@ -11,8 +11,8 @@ use gitbase_core::{Bytes, OutOfMemory};
 use std::alloc::Global;
 
 /// What follows a byte at the front of a text, as often as it stands there.
-fn after(mark: u8, text: &[u8]) -> &[u8]
-    ensures { result.now ≡ words.after mark text.now }
+fn skip_repeated_byte(mark: u8, text: &[u8]) -> &[u8]
+    ensures { result.now ≡ words.skip_repeated_byte mark text.now }
 {
     let mut at = 0;
     while at < text.len() && text[at] == mark {
@@ -43,7 +43,7 @@ fn is_of_stars(rule: &[u8]) -> bool
     ensures { result ≡ words.is_of_stars rule.now }
 {
     match rule {
-        [b'*', ..] => is_end(after(b' ', past_slash(after(b'*', rule)))),
+        [b'*', ..] => is_end(skip_repeated_byte(b' ', past_slash(skip_repeated_byte(b'*', rule)))),
         _ => false,
     }
 }
@@ -75,9 +75,9 @@ fn add_line(alloc: Global, rules: &mut Bytes, line: &[u8]) -> Result<(), OutOfMe
 /// The same rules, line by line; those of stars alone, with or without a sign, have a `?` in front.
 ///
 /// Fails only where memory is refused. See docs/DIFFERENCES.md#empty-match.
-#[tactic(auto, unfolding(crate::specs::BelowTop::rules_below_top))]
-pub fn rules_below_top(alloc: Global, rules: &[u8]) -> Result<Bytes, OutOfMemory>
-    ensures { IfOk result (λ made. made ≡ words.rules_below_top rules.now) }
+#[tactic(auto, unfolding(crate::specs::BelowTop::exempt_top_from_star_rules))]
+pub fn exempt_top_from_star_rules(alloc: Global, rules: &[u8]) -> Result<Bytes, OutOfMemory>
+    ensures { IfOk result (λ made. made ≡ words.exempt_top_from_star_rules rules.now) }
 {
     let mut made = Bytes::new(alloc);
     for line in rules.lines_with_terminator() {

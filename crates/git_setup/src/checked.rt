@@ -6,7 +6,7 @@ ghost use Rattle.git_setup.specs.Finds.{Finds};
 
 use crate::error::GitRefusal;
 use crate::found::prefix_in;
-use crate::globals::{ended, marked};
+use crate::globals::{double_byte_order_mark, ended};
 use crate::parts::real_or_same;
 use crate::read_here::{Read, read_here};
 use crate::switches::switches_in;
@@ -63,7 +63,7 @@ fn named(alloc: Global, name: &[u8], file: &RulesFile) -> Result<NamedFile, OutO
 {
     Ok(NamedFile {
         name: Bytes::from_slice(alloc, name)?,
-        bytes: marked(alloc, ended(alloc, file.bytes.as_bytes())?)?,
+        bytes: double_byte_order_mark(alloc, ended(alloc, file.bytes.as_bytes())?)?,
     })
 }
 
@@ -79,13 +79,14 @@ fn written_name(alloc: Global, config: &File) -> Result<Option<Bytes>, OutOfMemo
 }
 
 /// How git names the file of the user's rules, which is at a path.
-fn user_name(
+fn user_excludes_file_name(
     alloc: Global,
     root: &[u8],
     path: &[u8],
     text: &Option<Bytes>,
 ) -> Result<Bytes, OutOfMemory>
-    ensures { IfOk result (λ name. name ≡ words.user_name root.now path.now text.now) }
+    ensures { IfOk result (λ name. name ≡ words.user_excludes_file_name root.now path.now
+        text.now) }
 {
     let Some(text) = text else {
         return Bytes::from_slice(alloc, path);
@@ -111,18 +112,18 @@ fn user_rules(
         return Ok(None);
     };
     let text = written_name(alloc, config)?;
-    let name = user_name(alloc, root, file.path.as_bytes(), &text)?;
+    let name = user_excludes_file_name(alloc, root, file.path.as_bytes(), &text)?;
     Ok(Some(named(alloc, name.as_bytes(), file)?))
 }
 
 /// How git names the file of the repository's rules.
-fn repository_name<W: Worktree>(
+fn info_exclude_file_name<W: Worktree>(
     alloc: Global,
     worktree: &mut W,
     places: &Places,
 ) -> Result<Bytes, GitRefusal>
     ensures { Finds W.Worktree worktree.old worktree.new
-        (λ t. Ok (words.repository_name t places.now)) result }
+        (λ t. Ok (words.info_exclude_file_name t places.now)) result }
 {
     let usual = dot_git(alloc, places.root.as_bytes())?;
     if places.common_dir.as_bytes() == usual.as_bytes() {
@@ -145,7 +146,7 @@ fn repository_rules<W: Worktree>(
     let Some(file) = file else {
         return Ok(None);
     };
-    let name = repository_name(alloc, worktree, places)?;
+    let name = info_exclude_file_name(alloc, worktree, places)?;
     Ok(Some(named(alloc, name.as_bytes(), file)?))
 }
 

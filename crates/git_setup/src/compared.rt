@@ -8,12 +8,12 @@ use crate::conversions::converts_here;
 use crate::details::Details;
 use crate::error::GitRefusal;
 use crate::found::top_found;
-use crate::ignores_here::ignores_here;
+use crate::ignores_here::may_ignore_submodules;
 use crate::index::index_path;
 use crate::indexed::{Indexed, indexed_here};
 use crate::pathspecs::{AskedSpecs, specs_in};
 use crate::present::index_from_entries;
-use crate::settings::{Settings, unwatched};
+use crate::settings::{Settings, node_settings_unless_fsmonitor};
 use crate::switches::switches_in;
 use git_config_files::read_stack;
 use git_config_lite::File;
@@ -81,10 +81,10 @@ fn settings_here<W: Worktree>(
         result }
 {
     let switches = switches_in(alloc, config)?;
-    let nodes = unwatched(alloc, config)?;
+    let nodes = node_settings_unless_fsmonitor(alloc, config)?;
     let converts = converts_here(alloc, worktree, places, around, config, entries)?;
     let root = places.root.as_bytes();
-    let ignores_submodules = ignores_here(alloc, worktree, root, config, entries)?;
+    let ignores_submodules = may_ignore_submodules(alloc, worktree, root, config, entries)?;
     Ok(Settings {
         nodes,
         quote_path: switches.quote_path,

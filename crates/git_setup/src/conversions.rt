@@ -73,22 +73,22 @@ fn holder(entry: &IndexEntry) -> &[u8]
 }
 
 /// Whether a file of attributes is in a directory that leads to an entry.
-#[tactic(auto, unfolding(crate::specs::Conversions::leads_past))]
-fn leads_past<W: Worktree>(
+#[tactic(auto, unfolding(crate::specs::Conversions::has_attributes_above_entry))]
+fn has_attributes_above_entry<W: Worktree>(
     alloc: Global,
     worktree: &mut W,
     root: &[u8],
     entry: &IndexEntry,
 ) -> Result<bool, GitRefusal>
     ensures { Finds W.Worktree worktree.old worktree.new
-        (λ t. Ok (words.leads_past t root.now entry.now)) result }
+        (λ t. Ok (words.has_attributes_above_entry t root.now entry.now)) result }
 {
     attributes_along(alloc, worktree, root, holder(entry))
 }
 
 /// The same where none is in a directory that leads to the entry before it: of entries in one
 /// directory the first is asked for.
-fn leads_past_next<W: Worktree>(
+fn has_attributes_above_next<W: Worktree>(
     alloc: Global,
     worktree: &mut W,
     root: &[u8],
@@ -96,16 +96,16 @@ fn leads_past_next<W: Worktree>(
     entry: &IndexEntry,
 ) -> Result<bool, GitRefusal>
     ensures { Finds W.Worktree worktree.old worktree.new
-        (λ t. Ok (words.leads_past_next t root.now before.now entry.now)) result }
+        (λ t. Ok (words.has_attributes_above_next t root.now before.now entry.now)) result }
 {
     if holder(before) == holder(entry) {
         return Ok(false);
     }
-    leads_past(alloc, worktree, root, entry)
+    has_attributes_above_entry(alloc, worktree, root, entry)
 }
 
 /// The same of entries that stand one after another.
-fn leads_past_rest<W: Worktree>(
+fn has_attributes_above_rest<W: Worktree>(
     alloc: Global,
     worktree: &mut W,
     root: &[u8],
@@ -113,11 +113,11 @@ fn leads_past_rest<W: Worktree>(
     entries: &[IndexEntry],
 ) -> Result<bool, GitRefusal>
     ensures { Finds W.Worktree worktree.old worktree.new
-        (λ t. Ok (words.leads_past_rest t root.now before.now entries.now)) result }
+        (λ t. Ok (words.has_attributes_above_rest t root.now before.now entries.now)) result }
 {
     let mut last = before;
     for entry in entries {
-        if leads_past_next(alloc, worktree, root, last, entry)? {
+        if has_attributes_above_next(alloc, worktree, root, last, entry)? {
             return Ok(true);
         }
         last = entry;
@@ -126,7 +126,7 @@ fn leads_past_rest<W: Worktree>(
 }
 
 /// Whether one is in a directory that leads to an entry, or to one of those that come after it.
-fn leads_past_from<W: Worktree>(
+fn has_attributes_above_entries<W: Worktree>(
     alloc: Global,
     worktree: &mut W,
     root: &[u8],
@@ -134,13 +134,13 @@ fn leads_past_from<W: Worktree>(
     rest: &[IndexEntry],
 ) -> Result<bool, GitRefusal>
     ensures { Finds W.Worktree worktree.old worktree.new
-        (λ t. Ok (words.leads_past t root.now first.now
-        || words.leads_past_rest t root.now first.now rest.now)) result }
+        (λ t. Ok (words.has_attributes_above_entry t root.now first.now
+        || words.has_attributes_above_rest t root.now first.now rest.now)) result }
 {
-    if leads_past(alloc, worktree, root, first)? {
+    if has_attributes_above_entry(alloc, worktree, root, first)? {
         return Ok(true);
     }
-    leads_past_rest(alloc, worktree, root, first, rest)
+    has_attributes_above_rest(alloc, worktree, root, first, rest)
 }
 
 /// Whether one is in a directory that leads to some entry.
@@ -151,10 +151,10 @@ fn attributes_below<W: Worktree>(
     entries: &[IndexEntry],
 ) -> Result<bool, GitRefusal>
     ensures { Finds W.Worktree worktree.old worktree.new
-        (λ t. Ok (list_any (words.leads_past t root.now) entries.now)) result }
+        (λ t. Ok (list_any (words.has_attributes_above_entry t root.now) entries.now)) result }
 {
     match entries.split_first() {
-        Some((first, rest)) => leads_past_from(alloc, worktree, root, first, rest),
+        Some((first, rest)) => has_attributes_above_entries(alloc, worktree, root, first, rest),
         None => Ok(false),
     }
 }
@@ -238,14 +238,14 @@ fn in_system<W: Worktree>(alloc: Global, worktree: &mut W) -> Result<bool, GitRe
 }
 
 /// Whether the repository, the user or the system has a file of attributes outside the work tree.
-fn attributes_outside<W: Worktree>(
+fn has_attributes_outside<W: Worktree>(
     alloc: Global,
     worktree: &mut W,
     places: &Places,
     around: &Surroundings,
 ) -> Result<bool, GitRefusal>
     ensures { Finds W.Worktree worktree.old worktree.new
-        (λ t. Ok (words.attributes_outside t places.now around.now)) result }
+        (λ t. Ok (words.has_attributes_outside t places.now around.now)) result }
 {
     let common = places.common_dir.as_bytes();
     if in_repository(alloc, worktree, common)? {
@@ -258,7 +258,7 @@ fn attributes_outside<W: Worktree>(
 }
 
 /// Whether there is a file of attributes anywhere.
-fn attributes_anywhere<W: Worktree>(
+fn has_attributes_anywhere<W: Worktree>(
     alloc: Global,
     worktree: &mut W,
     places: &Places,
@@ -266,12 +266,12 @@ fn attributes_anywhere<W: Worktree>(
     entries: &[IndexEntry],
 ) -> Result<bool, GitRefusal>
     ensures { Finds W.Worktree worktree.old worktree.new
-        (λ t. Ok (words.attributes_anywhere t places.now around.now entries.now)) result }
+        (λ t. Ok (words.has_attributes_anywhere t places.now around.now entries.now)) result }
 {
     if has_attributes(entries) {
         return Ok(true);
     }
-    if attributes_outside(alloc, worktree, places, around)? {
+    if has_attributes_outside(alloc, worktree, places, around)? {
         return Ok(true);
     }
     attributes_below(alloc, worktree, places.root.as_bytes(), entries)
@@ -296,5 +296,5 @@ pub fn converts_here<W: Worktree>(
     if converts_in(alloc, config)? {
         return Ok(true);
     }
-    attributes_anywhere(alloc, worktree, places, around, entries)
+    has_attributes_anywhere(alloc, worktree, places, around, entries)
 }

@@ -1,6 +1,6 @@
 //! The setup that is found from the current directory.
 ghost use Rattle.std.specs.Prelude.{◌≡◌, IfOk};
-ghost use Rattle.git_config_files.specs.Safe.{own_top};
+ghost use Rattle.git_config_files.specs.Safe.{require_trusted_top};
 ghost use Rattle.git_places.specs.Limits as bounds;
 ghost use Rattle.git_places.specs.Upward.{top_in};
 ghost use Rattle.git_setup.specs.Finds.{Finds, FindsWith};
@@ -14,7 +14,7 @@ use crate::parts::{Parts, is_for_deletion, parts_here};
 use crate::pathspecs::AskedSpecs;
 use crate::placed::beneath;
 use crate::read_here::read_here;
-use git_config_files::{FilesError, own_top};
+use git_config_files::{FilesError, require_trusted_top};
 use git_config_lite::File;
 use git_places::{Limits, Places, PlacesError, Surroundings, Top, find_top, limits_of, places_of};
 use gitbase_core::{Bytes, MemoryStore, OutOfMemory, PathText};
@@ -98,9 +98,9 @@ fn own_here<W: Worktree, O: Owners>(
     top: Top,
 ) -> Result<Top, GitRefusal>
     ensures { FindsWith W.Worktree O.Owners worktree.old worktree.new owners.old owners.new
-        (λ t owned. as_files (own_top t owned around.now top)) result }
+        (λ t owned. as_files (require_trusted_top t owned around.now top)) result }
 {
-    let answer = own_top(alloc, worktree, owners, around, top);
+    let answer = require_trusted_top(alloc, worktree, owners, around, top);
     of_files(answer)
 }
 
@@ -268,7 +268,7 @@ fn found_at<W: Worktree>(
 /// - `Elsewhere`: a variable of the environment points git elsewhere.
 /// - `Places`: there is no work tree, as [`limits_of`] and [`find_top`] say.
 /// - `Foreign`, `Files`: it is another user's, or a configuration that would say so is not read, as
-///   [`own_top`] says.
+///   [`require_trusted_top`] says.
 /// - `Places`: its repository is not read here, as [`places_of`] says.
 /// - `IndexNode`, `IndexFile`: what stands in the place of the index is no file, or is outside the
 ///   grammar of one.

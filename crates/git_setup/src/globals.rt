@@ -2,7 +2,7 @@
 ghost use Rattle.std.specs.Prelude.{◌≡◌, IfOk, OnOk, ◌++◌};
 ghost use Rattle.git_setup.specs.GlobalRules as words;
 
-use crate::below_top::rules_below_top;
+use crate::below_top::exempt_top_from_star_rules;
 use git_config_files::{Rules, RulesFile};
 use gitbase_core::{Bytes, OutOfMemory};
 use std::alloc::Global;
@@ -33,8 +33,8 @@ fn rules_text(alloc: Global, file: &Option<RulesFile>) -> Result<Bytes, OutOfMem
 }
 
 /// Rules with another byte order mark in front, if they begin with one: a search takes one away.
-pub fn marked(alloc: Global, rules: Bytes) -> Result<Bytes, OutOfMemory>
-    ensures { IfOk result (λ made. made ≡ words.marked rules) }
+pub fn double_byte_order_mark(alloc: Global, rules: Bytes) -> Result<Bytes, OutOfMemory>
+    ensures { IfOk result (λ made. made ≡ words.double_byte_order_mark rules) }
 {
     if !rules.as_bytes().starts_with(b"\xef\xbb\xbf") {
         return Ok(rules);
@@ -52,5 +52,8 @@ pub fn globals_of(alloc: Global, rules: &Rules) -> Result<Bytes, OutOfMemory>
     let mut globals = rules_text(alloc, &rules.user)?;
     let repository = rules_text(alloc, &rules.repository)?;
     globals.extend(alloc, repository.as_bytes())?;
-    Ok(marked(alloc, rules_below_top(alloc, globals.as_bytes())?)?)
+    Ok(double_byte_order_mark(
+        alloc,
+        exempt_top_from_star_rules(alloc, globals.as_bytes())?,
+    )?)
 }

@@ -113,7 +113,7 @@ fn modules_leave_out<W: Worktree>(
 /// file of the work tree. While `.gitmodules` is not merged, none is left out.
 ///
 /// See docs/DIFFERENCES.md#diff-ignored-submodule.
-pub fn ignores_here<W: Worktree>(
+pub fn may_ignore_submodules<W: Worktree>(
     alloc: Global,
     worktree: &mut W,
     root: &[u8],
@@ -121,7 +121,7 @@ pub fn ignores_here<W: Worktree>(
     entries: &[IndexEntry],
 ) -> Result<bool, GitRefusal>
     ensures { Finds W.Worktree worktree.old worktree.new
-        (λ t. Ok (words.ignores_here t root.now config.now.sections entries.now)) result }
+        (λ t. Ok (words.may_ignore_submodules t root.now config.now.sections entries.now)) result }
 {
     if some_unmerged(entries) {
         return Ok(false);

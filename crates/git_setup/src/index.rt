@@ -52,8 +52,8 @@ fn entries_of(file: IndexFile) -> Result<Entries, GitRefusal>
 }
 
 /// The entries in the bytes of an index file.
-fn entries_in(alloc: Global, path: &[u8], bytes: &[u8]) -> Result<Entries, GitRefusal>
-    ensures { Decides result (words.entries_in path.now bytes.now) }
+fn parse_index_entries(alloc: Global, path: &[u8], bytes: &[u8]) -> Result<Entries, GitRefusal>
+    ensures { Decides result (words.parse_index_entries path.now bytes.now) }
 {
     let file = index_of(alloc, path, bytes)?;
     entries_of(file)
@@ -79,7 +79,7 @@ fn entries_at<W: Worktree>(
 {
     let mut bytes = Bytes::new(alloc);
     match worktree.read(alloc, path, true, &mut bytes)? {
-        ReadAnswer::Read => entries_in(alloc, path, bytes.as_bytes()),
+        ReadAnswer::Read => parse_index_entries(alloc, path, bytes.as_bytes()),
         ReadAnswer::Absent => Ok(Entries::new(alloc)),
         _ => Err(no_file(alloc, path)?),
     }

@@ -28,7 +28,7 @@ mod switches;
 mod written;
 
 pub use asked::Asked;
-pub use below_top::rules_below_top;
+pub use below_top::exempt_top_from_star_rules;
 pub use checked::{Checked, NamedFile, OuterFiles, checked_at};
 pub use compared::{Compared, compared_at, places_here};
 pub use details::Details;

@@ -6,7 +6,7 @@ ghost use Rattle.git_setup.specs.Finds.{Decides};
 
 use crate::each::{AskedSpec, EachSpec};
 use crate::error::GitRefusal;
-use crate::placed::{beneath, outside, placed};
+use crate::placed::{beneath, outside, resolve_pathspec_from_top};
 use crate::written::{Written, written_in};
 use gitbase_core::{Bytes, OutOfMemory, PathText};
 use glob_rules::pathspec::{Defaults, Error, Search, Spec};
@@ -52,7 +52,7 @@ fn spec_here(
 ) -> Result<Spec, GitRefusal>
     ensures { Decides result (words.spec_here ignore_case root.now prefix.now text.now) }
 {
-    let whole = placed(alloc, root, prefix, text)?;
+    let whole = resolve_pathspec_from_top(alloc, root, prefix, text)?;
     spec_of(alloc, ignore_case, text, whole.as_bytes())
 }
 

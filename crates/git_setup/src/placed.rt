@@ -267,8 +267,8 @@ fn has_letters(bytes: &[u8]) -> bool
 }
 
 /// Whether the bytes of a directory would mean something else in front of the path.
-fn is_changed(parted: &SpecText, prefix: &[u8]) -> bool
-    ensures { result ≡ texts.is_changed parted.now prefix.now }
+fn would_prefix_match_differently(parted: &SpecText, prefix: &[u8]) -> bool
+    ensures { result ≡ texts.would_prefix_match_differently parted.now prefix.now }
 {
     let special = has_special(prefix);
     let letters = has_letters(prefix);
@@ -306,7 +306,7 @@ fn from_prefix(
     if prefix.is_empty() {
         return Ok(Bytes::from_slice(alloc, parted.path.as_bytes())?);
     }
-    if is_changed(parted, prefix) {
+    if would_prefix_match_differently(parted, prefix) {
         return Err(prefix_error(alloc, text, prefix)?);
     }
     Ok(with_prefix(alloc, prefix, parted.path.as_bytes())?)
@@ -390,9 +390,14 @@ fn from_top(
 /// the directory `prefix` in it.
 ///
 /// See docs/DECISIONS.md#prefixed-spec.
-#[tactic(auto, unfolding(crate::specs::Placed::placed))]
-pub fn placed(alloc: Global, root: &[u8], prefix: &[u8], text: &[u8]) -> Result<Bytes, GitRefusal>
-    ensures { Decides result (texts.placed root.now prefix.now text.now) }
+#[tactic(auto, unfolding(crate::specs::Placed::resolve_pathspec_from_top))]
+pub fn resolve_pathspec_from_top(
+    alloc: Global,
+    root: &[u8],
+    prefix: &[u8],
+    text: &[u8],
+) -> Result<Bytes, GitRefusal>
+    ensures { Decides result (texts.resolve_pathspec_from_top root.now prefix.now text.now) }
 {
     let parted = parted(alloc, text)?;
     let path = from_top(alloc, root, text, prefix, &parted)?;

@@ -66,8 +66,8 @@ fn without_slash(path: &[u8]) -> &[u8]
 }
 
 /// An entry that stands for a directory, by whether something is in its place.
-fn as_directory(entry: IndexEntry, present: bool) -> Result<IndexEntry, GitRefusal>
-    ensures { result ≡ words.as_directory entry present }
+fn refuse_present_sparse_entry(entry: IndexEntry, present: bool) -> Result<IndexEntry, GitRefusal>
+    ensures { result ≡ words.refuse_present_sparse_entry entry present }
 {
     if present {
         return Err(GitRefusal::SparseDirectory { path: entry.path });
@@ -186,8 +186,8 @@ fn as_present(entry: IndexEntry, present: bool) -> IndexEntry
 }
 
 /// A skipped entry as it is seen in the work tree.
-#[tactic(auto, unfolding(crate::specs::Present::skipped_seen))]
-fn skipped_seen<W: Worktree>(
+#[tactic(auto, unfolding(crate::specs::Present::skipped_entry_as_seen))]
+fn skipped_entry_as_seen<W: Worktree>(
     alloc: Global,
     worktree: &mut W,
     root: &[u8],
@@ -195,7 +195,7 @@ fn skipped_seen<W: Worktree>(
     entry: IndexEntry,
 ) -> Result<Seen, GitRefusal>
     ensures { Finds W.Worktree worktree.old worktree.new
-        (λ t. Ok (words.skipped_seen t root.now last entry)) result }
+        (λ t. Ok (words.skipped_entry_as_seen t root.now last entry)) result }
 {
     let last = known_above(alloc, worktree, root, last, &entry.path)?;
     let present = is_present_by(alloc, worktree, root, &last, entry.path.as_bytes())?;
@@ -206,8 +206,8 @@ fn skipped_seen<W: Worktree>(
 }
 
 /// An entry that stands for a directory, as it is seen in the work tree.
-#[tactic(auto, unfolding(crate::specs::Present::directory_seen))]
-fn directory_seen<W: Worktree>(
+#[tactic(auto, unfolding(crate::specs::Present::directory_as_seen))]
+fn directory_as_seen<W: Worktree>(
     alloc: Global,
     worktree: &mut W,
     root: &[u8],
@@ -215,16 +215,16 @@ fn directory_seen<W: Worktree>(
     entry: IndexEntry,
 ) -> Result<Seen, GitRefusal>
     ensures { Finds W.Worktree worktree.old worktree.new
-        (λ t. words.directory_seen t root.now last entry) result }
+        (λ t. words.directory_as_seen t root.now last entry) result }
 {
     let present = is_present(alloc, worktree, root, without_slash(entry.path.as_bytes()))?;
-    let entry = as_directory(entry, present)?;
+    let entry = refuse_present_sparse_entry(entry, present)?;
     Ok(Seen { entry, last })
 }
 
 /// An entry as it is seen in the work tree, by what was looked at before.
 #[tactic(auto, unfolding(crate::specs::Present::seen_by))]
-fn entry_seen<W: Worktree>(
+fn entry_as_seen<W: Worktree>(
     alloc: Global,
     worktree: &mut W,
     root: &[u8],
@@ -236,10 +236,10 @@ fn entry_seen<W: Worktree>(
         (λ t. words.seen_by t root.now looks last entry) result }
 {
     if entry.mode.is_sparse() {
-        return directory_seen(alloc, worktree, root, last, entry);
+        return directory_as_seen(alloc, worktree, root, last, entry);
     }
     if looks && is_skipped(&entry) {
-        return skipped_seen(alloc, worktree, root, last, entry);
+        return skipped_entry_as_seen(alloc, worktree, root, last, entry);
     }
     Ok(Seen { entry, last })
 }
@@ -258,7 +258,7 @@ fn seen_along<W: Worktree>(
     let mut done = Entries::new(alloc);
     let mut last = None;
     for entry in entries.into_vec() {
-        let seen = entry_seen(alloc, worktree, root, looks, last, entry)?;
+        let seen = entry_as_seen(alloc, worktree, root, looks, last, entry)?;
         done.push(seen.entry)?;
         last = seen.last;
     }

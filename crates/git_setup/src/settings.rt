@@ -117,8 +117,11 @@ fn is_watched(config: &File) -> bool
 /// changed.
 ///
 /// See docs/DIFFERENCES.md#diff-watched.
-pub fn unwatched(alloc: Global, config: &File) -> Result<NodeSettings, GitRefusal>
-    ensures { Decides result (words.unwatched config.now.sections) }
+pub fn node_settings_unless_fsmonitor(
+    alloc: Global,
+    config: &File,
+) -> Result<NodeSettings, GitRefusal>
+    ensures { Decides result (words.node_settings_unless_fsmonitor config.now.sections) }
 {
     if is_watched(config) {
         return Err(not_heeded(alloc, b"core.fsmonitor")?);

@@ -58,8 +58,13 @@ fn told_here(alloc: Global, prefix: &[u8], texts: &[Bytes]) -> Result<Bytes, Out
 }
 
 /// The directory in which texts are asked for, as one of them.
-fn here(alloc: Global, prefix: &[u8], texts: &[Bytes]) -> Result<Written, OutOfMemory>
-    ensures { IfOk result (λ written. written ≡ words.here prefix.now texts.now) }
+fn current_directory_pathspec(
+    alloc: Global,
+    prefix: &[u8],
+    texts: &[Bytes],
+) -> Result<Written, OutOfMemory>
+    ensures { IfOk result (λ written. written ≡ words.current_directory_pathspec prefix.now
+        texts.now) }
 {
     Ok(Written {
         told: told_here(alloc, prefix, texts)?,
@@ -96,9 +101,9 @@ fn add_here(
     texts: &[Bytes],
 ) -> Result<(), OutOfMemory>
     ensures { OnOk result (written.new.items ≡ written.old.items
-        ++ words.here prefix.now texts.now ∷ []) }
+        ++ words.current_directory_pathspec prefix.now texts.now ∷ []) }
 {
-    written.push(here(alloc, prefix, texts)?)?;
+    written.push(current_directory_pathspec(alloc, prefix, texts)?)?;
     Ok(())
 }
 

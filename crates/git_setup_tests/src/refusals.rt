@@ -8,7 +8,7 @@ use git_places::Surroundings;
 use git_setup::{Asked, Found, GitRefusal, setup_here};
 use gitbase_core::{Bytes, PathText};
 use std::alloc::Global;
-use test_cases::{parted, tree_of};
+use test_cases::{split_at_byte, tree_of};
 use worktree_fs::{MemoryOwners, MemoryWorktree};
 use worktree_report::SetupOptions;
 
@@ -54,13 +54,13 @@ ok^d^/w/r^^x /w/r/.git/index=444952430000000200000001000000000000000000000000000
 
 /// Whether a word stands before this text.
 fn is_text(want: &[u8], word: &[u8], text: &[u8]) -> bool {
-    let (first, rest) = parted(want, b' ');
+    let (first, rest) = split_at_byte(want, b' ');
     first == word && rest == text
 }
 
 /// Whether a word stands before this number, which is 0 or 1.
 fn is_entry(want: &[u8], error: &gitbase_core::IndexError) -> bool {
-    let (first, rest) = parted(want, b' ');
+    let (first, rest) = split_at_byte(want, b' ');
     first == b"entry".as_slice() && rest == place_of(error)
 }
 
@@ -151,8 +151,8 @@ fn steps_of(alloc: Global, steps: &[u8]) -> Option<Vec<u8>> {
 }
 
 fn is_answered(alloc: Global, want: &[u8], letters: &[u8], rest: &[u8]) -> Option<bool> {
-    let (directory, rest) = parted(rest, b'^');
-    let (spec, steps) = parted(rest, b'^');
+    let (directory, rest) = split_at_byte(rest, b'^');
+    let (spec, steps) = split_at_byte(rest, b'^');
     let all = steps_of(alloc, steps)?;
     let mut tree = tree_of(alloc, &all, b'$')?;
     let mut owners = owners_of(alloc).ok()?;
@@ -163,8 +163,8 @@ fn is_answered(alloc: Global, want: &[u8], letters: &[u8], rest: &[u8]) -> Optio
 
 /// Whether a row is met.
 fn is_met(alloc: Global, row: &[u8]) -> bool {
-    let (want, rest) = parted(row, b'^');
-    let (letters, rest) = parted(rest, b'^');
+    let (want, rest) = split_at_byte(row, b'^');
+    let (letters, rest) = split_at_byte(rest, b'^');
     is_answered(alloc, want, letters, rest) == Some(true)
 }
 

@@ -6,7 +6,7 @@ use git_setup::{Asked, Found};
 use gitbase_core::PathText;
 use std::alloc::Global;
 use std::collections::BTreeSet;
-use test_cases::{lines_of, parted};
+use test_cases::{lines_of, split_at_byte};
 use worktree_report::{Configs, Setup, SetupOptions};
 
 fn are_in(paths: &BTreeSet<PathText>, others: &BTreeSet<PathText>) -> bool {
@@ -58,9 +58,9 @@ fn finds(alloc: Global, want: &Setup, directory: &[u8], steps: &[u8]) -> bool {
 
 /// Whether a row is met.
 fn is_met(alloc: Global, row: &[u8]) -> bool {
-    let (text, rest) = parted(row, b'^');
-    let (directory, rest) = parted(rest, b'^');
-    let (_, steps) = parted(rest, b'^');
+    let (text, rest) = split_at_byte(row, b'^');
+    let (directory, rest) = split_at_byte(rest, b'^');
+    let (_, steps) = split_at_byte(rest, b'^');
     let Some(lines) = lines_of(alloc, text, b'$') else {
         return false;
     };

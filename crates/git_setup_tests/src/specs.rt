@@ -5,7 +5,7 @@ use bstr::ByteSlice;
 use git_setup::{Asked, Found};
 use glob_rules::pathspec::{Matcher, Search};
 use std::alloc::Global;
-use test_cases::parted;
+use test_cases::split_at_byte;
 
 /// Whether an entry is meant.
 fn means(specs: &Search, path: &[u8]) -> bool {
@@ -46,8 +46,8 @@ fn answers(alloc: Global, asked: &Asked, directory: &[u8], want: &[u8]) -> bool 
 
 /// Whether a row is met.
 fn is_met(alloc: Global, row: &[u8]) -> bool {
-    let (want, rest) = parted(row, b'^');
-    let (directory, specs) = parted(rest, b'^');
+    let (want, rest) = split_at_byte(row, b'^');
+    let (directory, specs) = split_at_byte(rest, b'^');
     let Some(options) = usual_options(alloc) else {
         return false;
     };

@@ -156,7 +156,7 @@ fn entry_beneath<'a>(
     requires { IsLookupOf entries.now numbers.now }
     ensures { option_copied result ≡ entry_beneath_icase dir.now entries.now }
 {
-    let (start, end) = run(entries, numbers, dir, b"/");
+    let (start, end) = find_prefix_range_icase(entries, numbers, dir, b"/");
     let Some(number) = least(&numbers[start..end]) else {
         return None;
     };
@@ -168,7 +168,7 @@ fn has_beneath(entries: &[IndexEntry], numbers: &[usize], dir: &[u8]) -> bool
     requires { IsLookupOf entries.now numbers.now }
     ensures { result ≡ is_some (entry_beneath_icase dir.now entries.now) }
 {
-    let (start, end) = run(entries, numbers, dir, b"/");
+    let (start, end) = find_prefix_range_icase(entries, numbers, dir, b"/");
     if start < end {
         return true;
     }
@@ -260,19 +260,24 @@ fn lower_bound(entries: &[IndexEntry], numbers: &[usize], path: &[u8]) -> Option
     requires { AscendsBy (folded_path_of entries.now) numbers.now }
     ensures { IsLowerBound (folded_path_of entries.now) (fold_case path.now) numbers.now result }
 {
-    let at = numbers.partition_point(|number| is_below(entries, *number, path));
+    let at = numbers.partition_point(|number| sorts_before_path_icase(entries, *number, path));
     numbers.get(at).copied()
 }
 
 /// Whether the path of the entry of a number, folded, stands below `path`.
-fn is_below(entries: &[IndexEntry], number: usize, path: &[u8]) -> bool
+fn sorts_before_path_icase(entries: &[IndexEntry], number: usize, path: &[u8]) -> bool
     ensures { result ≡ is_lt (path_cmp (folded_path_of entries.now number) (fold_case path.now)) }
 {
     compare(path_of(entries, number), path).is_lt()
 }
 
 /// Where the numbers stand whose entries' paths, folded, begin with `front` and `back` behind it.
-fn run(entries: &[IndexEntry], numbers: &[usize], front: &[u8], back: &[u8]) -> (usize, usize)
+fn find_prefix_range_icase(
+    entries: &[IndexEntry],
+    numbers: &[usize],
+    front: &[u8],
+    back: &[u8],
+) -> (usize, usize)
     requires { AscendsBy (folded_path_of entries.now) numbers.now }
     ensures { IsRun (key_begins (folded_path_of entries.now) (fold_case (front.now ++ back.now)))
         numbers.now result.0 result.1 }

@@ -6,8 +6,3 @@ mod paths;
 mod texts;
 
 use bstr::ByteSlice;
-
-/// What stands before the first backquote of a row, and behind it.
-fn parted(row: &[u8]) -> (&[u8], &[u8]) {
-    row.split_once_str(b"`").unwrap_or((row, b""))
-}

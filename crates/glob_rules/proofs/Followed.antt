@@ -8,7 +8,7 @@ use Rattle.glob_rules.specs.declared.glob.verdict.Outcome.{Outcome}
 use Rattle.glob_rules.specs.declared.glob.verdict.Outcome.TheVariants.{Matched, Differs, Never, Directories}
 use Rattle.glob_rules.specs.Glob.{MatchesFrom, is_allowed}
 use Rattle.glob_rules.specs.Step.{MatchesAfterStars, MatchesAfterDirectories}
-use Rattle.glob_rules.specs.Verdict.{AllAllowed, IsStart, IsBarred, NoStart, LeadsToStars, LeadsToDirectories, OutcomeTells, IsAfterSlash, HasNoSlash}
+use Rattle.glob_rules.specs.Verdict.{AllAllowed, IsStart, IsBarred, NoStart, LeadsToStars, LeadsToDirectories, IsSoundOutcome, IsAfterSlash, HasNoSlash}
 use Rattle.glob_rules.proofs.Reached.{cases_zero, allowed_at, stars_absorb, directories_absorb}
 
 -- the stars before `rest`, at `left`, stand for those before `pattern` at `text`
@@ -112,7 +112,7 @@ module _ (mode : WildMode) (pattern text rest left : List ℕ) (f : Follows mode
 
 -- what is told behind the first stars is told of the whole
 pub stars_then : (mode : WildMode) (pattern text after there : List ℕ) → LeadsToStars mode (λ t. MatchesFrom mode true pattern t) text after there →
-    (o : Outcome) → OutcomeTells mode false (λ t. MatchesAfterStars mode after t) there o → OutcomeTells mode true (λ t. MatchesFrom mode true pattern t) text o
+    (o : Outcome) → IsSoundOutcome mode false (λ t. MatchesAfterStars mode after t) there o → IsSoundOutcome mode true (λ t. MatchesFrom mode true pattern t) text o
 stars_then mode pattern text after there s Matched tells = s.back tells
 stars_then mode pattern text after there s Differs tells = λ h. tells (s.absorbs 0 (omega arith) (All-nil (λ b. IsTrue (is_allowed mode b))) h)
 stars_then mode pattern text after there s Never tells = λ j w start h. let l = s.later j w h in tells j l.0 (not_fresh there j) l.1

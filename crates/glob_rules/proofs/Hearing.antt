@@ -6,7 +6,7 @@ use Rattle.std.proofs.lemmas.List.{length-reverse, reverse-append}
 use Rattle.glob_rules.specs.declared.Case.{Case}
 use Rattle.glob_rules.specs.declared.attributes.word.Assigned.{Assigned}
 use Rattle.glob_rules.specs.Attributes.{AttributeList}
-use Rattle.glob_rules.specs.AttributeValues.{heard, list_says, body_of, follows, stands, macro_count}
+use Rattle.glob_rules.specs.AttributeValues.{path_assignments_reversed, list_says, body_of, follows, has_assigned_name, macro_count}
 use Rattle.glob_rules.specs.Standing.{with_said, standing_after}
 use Rattle.glob_rules.proofs.Bodies.{from_end, flat_map-append}
 use Rattle.glob_rules.proofs.Sayings.{unsaid, unsaid-count, unsaid-more, unsaid-less, saying-nothing, saying-stands, saying-new, saying-append, follows-cases, stands-last}
@@ -20,11 +20,11 @@ not_false true first e f = refl
 not_false false first e f = absurd (cc)
 
 module _ (lists : List AttributeList) (standing now left rest : List Assigned) (a : Assigned) (is_first : Bool)
-    (next : left ≡ a ∷ rest) (first : is_first ≡ not (stands a.name standing)) (said : now ≡ with_said standing a) where
+    (next : left ≡ a ∷ rest) (first : is_first ≡ not (has_assigned_name a.name standing)) (said : now ≡ with_said standing a) where
   -- what is not the first is not heard
   pub heard_again : is_first ≡ false → standing_after lists now rest ≡ standing_after lists standing left
   heard_again old =
-      let there = not_false (stands a.name standing) is_first first old in
+      let there = not_false (has_assigned_name a.name standing) is_first first old in
       let same : now ≡ standing = said ∙ ap (λ (b : Bool). cond b standing (standing ++ a ∷ [])) there in
       ap (λ (s : List Assigned). standing_after lists s rest) same
       ∙ sym (saying-stands (macro_count (reverse lists)) (reverse lists) standing rest a there)
@@ -32,14 +32,14 @@ module _ (lists : List AttributeList) (standing now left rest : List Assigned) (
 
   module _ (body after : List Assigned) (yes : is_first ≡ true) (follow : body ≡ follows (reverse lists) a) (put : after ≡ body ++ rest) where
     grown : now ≡ standing ++ a ∷ []
-    grown = said ∙ ap (λ (b : Bool). cond b standing (standing ++ a ∷ [])) (not_true (stands a.name standing) is_first first yes)
+    grown = said ∙ ap (λ (b : Bool). cond b standing (standing ++ a ∷ [])) (not_true (has_assigned_name a.name standing) is_first first yes)
 
     -- what is the first stands, and what follows is heard next
     pub heard_first : standing_after lists now after ≡ standing_after lists standing left
     heard_first =
         ap (λ (s : List Assigned). standing_after lists s after) grown
         ∙ ap (standing_after lists (standing ++ a ∷ [])) (put ∙ ap (λ (b : List Assigned). b ++ rest) follow)
-        ∙ sym (saying-new (macro_count (reverse lists)) (reverse lists) standing rest a (unsaid-count standing (reverse lists)) (not_true (stands a.name standing) is_first first yes))
+        ∙ sym (saying-new (macro_count (reverse lists)) (reverse lists) standing rest a (unsaid-count standing (reverse lists)) (not_true (has_assigned_name a.name standing) is_first first yes))
         ∙ sym (ap (standing_after lists standing) next)
 
     -- and less is left
@@ -59,7 +59,7 @@ module _ (lists : List AttributeList) (standing now left rest : List Assigned) (
             let all : length after ≡ length (reverse some.0 ++ rest) = ap (λ (l : List Assigned). length l) (put ∙ ap (λ (b : List Assigned). b ++ rest) (follow ∙ some.2)) in
             let sum = length-append (reverse some.0) rest in
             let back = length-reverse some.0 in
-            let less = unsaid-less (λ b. length b) a.name some.0 standing (a ∷ []) (reverse lists) some.1 (not_true (stands a.name standing) is_first first yes) (stands-last standing a) in
+            let less = unsaid-less (λ b. length b) a.name some.0 standing (a ∷ []) (reverse lists) some.1 (not_true (has_assigned_name a.name standing) is_first first yes) (stands-last standing a) in
             omega (arith, one, all, sum, back, less)
 
 -- nothing is left
@@ -86,9 +86,9 @@ heard_none f lists standing (x ∷ all) e = absurd (omega (arith, e))
 
 -- what two searches say, where the second is above the first
 pub heard_both : (low high : List AttributeList) (path : List ℕ) (is_dir : Option Bool) (case : Case) (standing : List Assigned)
-    → standing_after (low ++ high) (standing_after (low ++ high) standing (heard high path is_dir case)) (heard low path is_dir case)
-    ≡ standing_after (low ++ high) standing (heard (low ++ high) path is_dir case)
+    → standing_after (low ++ high) (standing_after (low ++ high) standing (path_assignments_reversed high path is_dir case)) (path_assignments_reversed low path is_dir case)
+    ≡ standing_after (low ++ high) standing (path_assignments_reversed (low ++ high) path is_dir case)
 heard_both low high path is_dir case standing =
-    sym (heard_parts (low ++ high) standing (heard high path is_dir case) (heard low path is_dir case))
+    sym (heard_parts (low ++ high) standing (path_assignments_reversed high path is_dir case) (path_assignments_reversed low path is_dir case))
     ∙ ap (standing_after (low ++ high) standing) (sym (ap (λ said. reverse said) (flat_map-append (list_says path is_dir case) low high)
     ∙ reverse-append (flat_map (list_says path is_dir case) low) (flat_map (list_says path is_dir case) high)))

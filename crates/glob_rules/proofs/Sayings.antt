@@ -10,11 +10,11 @@ use Rattle.std.proofs.lemmas.Map.Lookups.{exact_bytes}
 use Rattle.std.proofs.lemmas.List.Folds.{list_any-append}
 use Rattle.glob_rules.specs.declared.attributes.word.Assigned.{Assigned}
 use Rattle.glob_rules.specs.Attributes.{AttributeList, Definition}
-use Rattle.glob_rules.specs.AttributeValues.{body_or, body_in, body_of, is_set, follows, stands, each_said, after_saying, macro_count}
+use Rattle.glob_rules.specs.AttributeValues.{body_or, body_in, body_of, is_set, follows, has_assigned_name, each_said, after_saying, macro_count}
 
 -- what a macro counts where its name does not stand
 abbrev pub weight : (List Assigned → ℕ) → List Assigned → Definition → ℕ
-weight w standing macro = cond (stands macro.0 standing) 0 (w macro.1)
+weight w standing macro = cond (has_assigned_name macro.0 standing) 0 (w macro.1)
 
 abbrev pub weights : (List Assigned → ℕ) → List Assigned → List Definition → ℕ
 weights w standing [] = 0
@@ -29,7 +29,7 @@ each_said-append : (into : List Assigned → List Assigned → List Assigned) (l
     → each_said into lists standing (front ++ back) ≡ each_said into lists (each_said into lists standing front) back
 each_said-append into lists standing [] back = refl
 each_said-append into lists standing (a ∷ front) back =
-    each_said-append into lists (cond (stands a.name standing) standing (into (standing ++ a ∷ []) (follows lists a))) front back
+    each_said-append into lists (cond (has_assigned_name a.name standing) standing (into (standing ++ a ∷ []) (follows lists a))) front back
 
 -- what is said in two parts
 pub saying-append : (depth : ℕ) (lists : List AttributeList) (standing front back : List Assigned)
@@ -59,29 +59,29 @@ or_true : (b : Bool) → (b || true) ≡ true
 or_true true = refl
 or_true false = refl
 
-stands-more : (name : List ℕ) (standing more : List Assigned) → stands name standing ≡ true → stands name (standing ++ more) ≡ true
+stands-more : (name : List ℕ) (standing more : List Assigned) → has_assigned_name name standing ≡ true → has_assigned_name name (standing ++ more) ≡ true
 stands-more name standing more e =
     list_any-append (λ (a : Assigned). bytes_eq name a.name) standing more
-    ∙ ap (λ (b : Bool). b || stands name more) e
+    ∙ ap (λ (b : Bool). b || has_assigned_name name more) e
 
-pub stands-last : (standing : List Assigned) (a : Assigned) → stands a.name (standing ++ a ∷ []) ≡ true
+pub stands-last : (standing : List Assigned) (a : Assigned) → has_assigned_name a.name (standing ++ a ∷ []) ≡ true
 stands-last standing a =
     list_any-append (λ (b : Assigned). bytes_eq a.name b.name) standing (a ∷ [])
-    ∙ ap (λ (b : Bool). stands a.name standing || (b || false)) (nat_list_eq_equiv.refl a.name)
-    ∙ or_true (stands a.name standing)
+    ∙ ap (λ (b : Bool). has_assigned_name a.name standing || (b || false)) (nat_list_eq_equiv.refl a.name)
+    ∙ or_true (has_assigned_name a.name standing)
 
 module _ (w : List Assigned → ℕ) where
-  weight-stands : (standing : List Assigned) (macro : Definition) → stands macro.0 standing ≡ true → weight w standing macro ≡ 0
+  weight-stands : (standing : List Assigned) (macro : Definition) → has_assigned_name macro.0 standing ≡ true → weight w standing macro ≡ 0
   weight-stands standing macro e = ap (λ b. cond {A = ℕ} b 0 (w macro.1)) e
 
-  weight-open : (standing : List Assigned) (macro : Definition) → stands macro.0 standing ≡ false → weight w standing macro ≡ w macro.1
+  weight-open : (standing : List Assigned) (macro : Definition) → has_assigned_name macro.0 standing ≡ false → weight w standing macro ≡ w macro.1
   weight-open standing macro e = ap (λ b. cond {A = ℕ} b 0 (w macro.1)) e
 
   -- a macro counts no more where more stands
   weight-more : (standing more : List Assigned) (macro : Definition) → weight w (standing ++ more) macro ≤ weight w standing macro
-  weight-more standing more macro = go (stands macro.0 standing) refl (stands macro.0 (standing ++ more)) refl
+  weight-more standing more macro = go (has_assigned_name macro.0 standing) refl (has_assigned_name macro.0 (standing ++ more)) refl
     where
-      go : (b : Bool) → stands macro.0 standing ≡ b → (d : Bool) → stands macro.0 (standing ++ more) ≡ d → weight w (standing ++ more) macro ≤ weight w standing macro
+      go : (b : Bool) → has_assigned_name macro.0 standing ≡ b → (d : Bool) → has_assigned_name macro.0 (standing ++ more) ≡ d → weight w (standing ++ more) macro ≤ weight w standing macro
       go true e d f = let none = weight-stands (standing ++ more) macro (stands-more macro.0 standing more e) in omega (arith, none)
       go false e true f = let none = weight-stands (standing ++ more) macro f in omega (arith, none)
       go false e false f =
@@ -105,7 +105,7 @@ module _ (w : List Assigned → ℕ) where
 
   -- a macro counts nothing any more once its name stands
   weights-less : (name : List ℕ) (body standing more : List Assigned) (macros : List Definition)
-      → body_in name macros ≡ Some body → stands name standing ≡ false → stands name (standing ++ more) ≡ true
+      → body_in name macros ≡ Some body → has_assigned_name name standing ≡ false → has_assigned_name name (standing ++ more) ≡ true
       → weights w (standing ++ more) macros + w body ≤ weights w standing macros
   weights-less name body standing more [] found before after = absurd (cc)
   weights-less name body standing more (macro ∷ macros) found before after = go (is_at (slice_cmp nat_cmp name) macro.0) refl (λ other. weights-less name body standing more macros other before after)
@@ -115,8 +115,8 @@ module _ (w : List Assigned → ℕ) where
           let same : name ≡ macro.0 = same_name name macro.0 e in
           let one : Some macro.1 ≡ Some body = sym (ap (λ (b : Bool). cond b (Some macro.1) (body_in name macros)) e) ∙ found in
           let is : w macro.1 ≡ w body = ap w (some_injective one) in
-          let none = weight-stands (standing ++ more) macro (sym (ap (λ (n : List ℕ). stands n (standing ++ more)) same) ∙ after) in
-          let open_ = weight-open standing macro (sym (ap (λ (n : List ℕ). stands n standing) same) ∙ before) in
+          let none = weight-stands (standing ++ more) macro (sym (ap (λ (n : List ℕ). has_assigned_name n (standing ++ more)) same) ∙ after) in
+          let open_ = weight-open standing macro (sym (ap (λ (n : List ℕ). has_assigned_name n standing) same) ∙ before) in
           let rest = weights-more standing more macros in
           omega (arith, is, none, open_, rest)
       go false e others =
@@ -126,7 +126,7 @@ module _ (w : List Assigned → ℕ) where
           omega (arith, first, rest)
 
   pub unsaid-less : (name : List ℕ) (body standing more : List Assigned) (lists : List AttributeList)
-      → body_of name lists ≡ Some body → stands name standing ≡ false → stands name (standing ++ more) ≡ true
+      → body_of name lists ≡ Some body → has_assigned_name name standing ≡ false → has_assigned_name name (standing ++ more) ≡ true
       → unsaid w (standing ++ more) lists + w body ≤ unsaid w standing lists
   unsaid-less name body standing more [] found before after = absurd (cc)
   unsaid-less name body standing more (list ∷ lists) found before after = go (body_in name list.macros) refl (λ other. unsaid-less name body standing more lists other before after)
@@ -148,8 +148,8 @@ module _ (w : List Assigned → ℕ) where
       → (standing said : List Assigned) → unsaid w (each_said into lists standing said) lists ≤ unsaid w standing lists
   each_said-shrinks into lists shrinks standing [] = omega arith
   each_said-shrinks into lists shrinks standing (a ∷ said) =
-      let next = cond (stands a.name standing) standing (into (standing ++ a ∷ []) (follows lists a)) in
-      let first : unsaid w next lists ≤ unsaid w standing lists = go (stands a.name standing) in
+      let next = cond (has_assigned_name a.name standing) standing (into (standing ++ a ∷ []) (follows lists a)) in
+      let first : unsaid w next lists ≤ unsaid w standing lists = go (has_assigned_name a.name standing) in
       let rest = each_said-shrinks into lists shrinks next said in
       omega (arith, first, rest)
     where
@@ -182,13 +182,13 @@ follows-cases lists a = go (is_set a.state) refl (body_of a.name lists) refl
 -- two ways to say what follows, that are the same where no more than so many macros are left
 each_said-same : (into other : List Assigned → List Assigned → List Assigned) (lists : List AttributeList) (left : ℕ)
     → ((standing said : List Assigned) → unsaid as_one (into standing said) lists ≤ unsaid as_one standing lists)
-    → ((standing : List Assigned) (a : Assigned) → unsaid as_one standing lists ≤ left → stands a.name standing ≡ false
+    → ((standing : List Assigned) (a : Assigned) → unsaid as_one standing lists ≤ left → has_assigned_name a.name standing ≡ false
     → into (standing ++ a ∷ []) (follows lists a) ≡ other (standing ++ a ∷ []) (follows lists a))
     → (standing said : List Assigned) → unsaid as_one standing lists ≤ left → each_said into lists standing said ≡ each_said other lists standing said
 each_said-same into other lists left shrinks same standing [] fits = refl
 each_said-same into other lists left shrinks same standing (a ∷ said) fits =
-    each_said-same into other lists left shrinks same (next into (stands a.name standing)) said (fewer (stands a.name standing))
-    ∙ ap (λ (s : List Assigned). each_said other lists s said) (both (stands a.name standing) refl)
+    each_said-same into other lists left shrinks same (next into (has_assigned_name a.name standing)) said (fewer (has_assigned_name a.name standing))
+    ∙ ap (λ (s : List Assigned). each_said other lists s said) (both (has_assigned_name a.name standing) refl)
   where
     next : (List Assigned → List Assigned → List Assigned) → Bool → List Assigned
     next way b = cond b standing (way (standing ++ a ∷ []) (follows lists a))
@@ -200,12 +200,12 @@ each_said-same into other lists left shrinks same standing (a ∷ said) fits =
         let more = unsaid-more as_one standing (a ∷ []) lists in
         omega (arith, inside, more, fits)
 
-    both : (b : Bool) → stands a.name standing ≡ b → cond b standing (into (standing ++ a ∷ []) (follows lists a)) ≡ cond b standing (other (standing ++ a ∷ []) (follows lists a))
+    both : (b : Bool) → has_assigned_name a.name standing ≡ b → cond b standing (into (standing ++ a ∷ []) (follows lists a)) ≡ cond b standing (other (standing ++ a ∷ []) (follows lists a))
     both true e = refl
     both false e = same standing a fits e
 
 -- where a macro follows, one fewer is left
-one_fewer : (lists : List AttributeList) (standing : List Assigned) (a : Assigned) (body : List Assigned) → body_of a.name lists ≡ Some body → stands a.name standing ≡ false
+one_fewer : (lists : List AttributeList) (standing : List Assigned) (a : Assigned) (body : List Assigned) → body_of a.name lists ≡ Some body → has_assigned_name a.name standing ≡ false
     → unsaid as_one (standing ++ a ∷ []) lists + 1 ≤ unsaid as_one standing lists
 one_fewer lists standing a body found before = unsaid-less as_one a.name body standing (a ∷ []) lists found before (stands-last standing a)
 
@@ -214,7 +214,7 @@ pub deep_enough : (depth : ℕ) (lists : List AttributeList) (standing said : Li
 unfolding after_saying
 deep_enough zero lists standing said fits = each_said-same (after_saying zero lists) (λ s b. s) lists zero (saying-shrinks as_one zero lists) same standing said fits
   where
-    same : (s : List Assigned) (a : Assigned) → unsaid as_one s lists ≤ zero → stands a.name s ≡ false → after_saying zero lists (s ++ a ∷ []) (follows lists a) ≡ s ++ a ∷ []
+    same : (s : List Assigned) (a : Assigned) → unsaid as_one s lists ≤ zero → has_assigned_name a.name s ≡ false → after_saying zero lists (s ++ a ∷ []) (follows lists a) ≡ s ++ a ∷ []
     same s a few open_ = elim (follows-cases lists a) [
       | inl none ↦ ap (after_saying zero lists (s ++ a ∷ [])) none
       | inr some ↦ let fewer = one_fewer lists s a some.0 some.1 open_ in absurd (omega (arith, fewer, few))
@@ -223,7 +223,7 @@ deep_enough (suc depth) lists standing said fits =
     each_said-same (after_saying (suc depth) lists) (after_saying depth lists) lists (suc depth) (saying-shrinks as_one (suc depth) lists) (same (λ s said few. deep_enough depth lists s said few)) standing said fits
   where
     same : ((s said : List Assigned) → unsaid as_one s lists ≤ depth → after_saying (suc depth) lists s said ≡ after_saying depth lists s said)
-        → (s : List Assigned) (a : Assigned) → unsaid as_one s lists ≤ suc depth → stands a.name s ≡ false
+        → (s : List Assigned) (a : Assigned) → unsaid as_one s lists ≤ suc depth → has_assigned_name a.name s ≡ false
         → after_saying (suc depth) lists (s ++ a ∷ []) (follows lists a) ≡ after_saying depth lists (s ++ a ∷ []) (follows lists a)
     same less s a few open_ = elim (follows-cases lists a) [
       | inl none ↦ ap (after_saying (suc depth) lists (s ++ a ∷ [])) none ∙ sym (ap (after_saying depth lists (s ++ a ∷ [])) none ∙ saying-nothing depth lists (s ++ a ∷ []))
@@ -231,14 +231,14 @@ deep_enough (suc depth) lists standing said fits =
     ]
 
 -- what is said of a name that stands is not heard
-pub saying-stands : (depth : ℕ) (lists : List AttributeList) (standing said : List Assigned) (a : Assigned) → stands a.name standing ≡ true → after_saying depth lists standing (a ∷ said) ≡ after_saying depth lists standing said
+pub saying-stands : (depth : ℕ) (lists : List AttributeList) (standing said : List Assigned) (a : Assigned) → has_assigned_name a.name standing ≡ true → after_saying depth lists standing (a ∷ said) ≡ after_saying depth lists standing said
 unfolding after_saying
 saying-stands zero lists standing said a e = ap (λ (b : Bool). each_said (λ s body. s) lists (cond b standing (standing ++ a ∷ [])) said) e
 saying-stands (suc depth) lists standing said a e =
     ap (λ (b : Bool). each_said (after_saying depth lists) lists (cond b standing (after_saying depth lists (standing ++ a ∷ []) (follows lists a))) said) e
 
 -- what is said of another name stands, and what follows may as well be put before what is said next
-pub saying-new : (depth : ℕ) (lists : List AttributeList) (standing said : List Assigned) (a : Assigned) → unsaid as_one standing lists ≤ depth → stands a.name standing ≡ false
+pub saying-new : (depth : ℕ) (lists : List AttributeList) (standing said : List Assigned) (a : Assigned) → unsaid as_one standing lists ≤ depth → has_assigned_name a.name standing ≡ false
     → after_saying depth lists standing (a ∷ said) ≡ after_saying depth lists (standing ++ a ∷ []) (follows lists a ++ said)
 unfolding after_saying
 saying-new zero lists standing said a fits e =
@@ -263,7 +263,7 @@ saying-new (suc depth) lists standing said a fits e =
 weights-count : (standing : List Assigned) (macros : List Definition) → weights as_one standing macros ≤ length macros
 weights-count standing [] = omega arith
 weights-count standing (macro ∷ macros) =
-    let first : weight as_one standing macro ≤ 1 = go (stands macro.0 standing) in
+    let first : weight as_one standing macro ≤ 1 = go (has_assigned_name macro.0 standing) in
     let rest = weights-count standing macros in
     omega (arith, first, rest)
   where

@@ -8,14 +8,14 @@ use Rattle.std.specs.Ordering.{nat_cmp, is_eq}
 use Rattle.std.proofs.lemmas.Map.Text.{is_eq-slice_cmp}
 use Rattle.glob_rules.specs.declared.attributes.Assignment.{Assignment}
 use Rattle.glob_rules.specs.declared.attributes.word.Assigned.{Assigned}
-use Rattle.glob_rules.specs.AttributeValues.{state_in, stands}
-use Rattle.glob_rules.specs.Standing.{state_at, HasStates, told}
+use Rattle.glob_rules.specs.AttributeValues.{state_in, has_assigned_name}
+use Rattle.glob_rules.specs.Standing.{state_at, HasStates, dereferenced_assignments}
 
-pub stands-state : (name : List ℕ) (standing : List Assigned) → stands name standing ≡ is_some (state_in name standing)
+pub stands-state : (name : List ℕ) (standing : List Assigned) → has_assigned_name name standing ≡ is_some (state_in name standing)
 stands-state name [] = refl
 stands-state name (a ∷ standing) = go (bytes_eq name a.name) (stands-state name standing)
   where
-    go : (b : Bool) → stands name standing ≡ is_some (state_in name standing) → (b || stands name standing) ≡ is_some (cond b (Some a.state) (state_in name standing))
+    go : (b : Bool) → has_assigned_name name standing ≡ is_some (state_in name standing) → (b || has_assigned_name name standing) ≡ is_some (cond b (Some a.state) (state_in name standing))
     go true e = refl
     go false e = e
 
@@ -32,7 +32,7 @@ some-map None = refl
 some-map (Some row) = refl
 
 -- whether the table has a name says whether something stands of it
-pub there_or_not : (states : Table) (standing : List Assigned) (name : List ℕ) (there : Bool) → HasStates states standing → there ≡ is_some (row_at states name) → stands name standing ≡ there
+pub there_or_not : (states : Table) (standing : List Assigned) (name : List ℕ) (there : Bool) → HasStates states standing → there ≡ is_some (row_at states name) → has_assigned_name name standing ≡ there
 there_or_not states standing name there has e =
     stands-state name standing ∙ ap is_some (sym (has name)) ∙ some-map (row_at states name) ∙ sym e
 
@@ -41,17 +41,17 @@ or_false true b e = absurd (cc)
 or_false false b e = (refl, e)
 
 -- the state of a name once more stands
-state_in-last : (name : List ℕ) (standing : List Assigned) (a : Assigned) → stands a.name standing ≡ false → state_in name (standing ++ a ∷ []) ≡ cond (bytes_eq a.name name) (Some a.state) (state_in name standing)
+state_in-last : (name : List ℕ) (standing : List Assigned) (a : Assigned) → has_assigned_name a.name standing ≡ false → state_in name (standing ++ a ∷ []) ≡ cond (bytes_eq a.name name) (Some a.state) (state_in name standing)
 state_in-last name [] a new = ap (λ (b : Bool). cond b (Some a.state) None) (nat_list_eq_equiv.symm name a.name)
 state_in-last name (first ∷ standing) a new = go (bytes_eq name first.name) refl (state_in-last name standing a)
   where
     go : (b : Bool) → bytes_eq name first.name ≡ b
-        → (stands a.name standing ≡ false → state_in name (standing ++ a ∷ []) ≡ cond (bytes_eq a.name name) (Some a.state) (state_in name standing))
+        → (has_assigned_name a.name standing ≡ false → state_in name (standing ++ a ∷ []) ≡ cond (bytes_eq a.name name) (Some a.state) (state_in name standing))
         → cond b (Some first.state) (state_in name (standing ++ a ∷ [])) ≡ cond (bytes_eq a.name name) (Some a.state) (cond b (Some first.state) (state_in name standing))
     go true e more =
         let apart : bytes_eq a.name name ≡ false = nat_list_eq_equiv.symm a.name name ∙ nat_list_eq_equiv.congr name first.name a.name e ∙ nat_list_eq_equiv.symm first.name a.name ∙ (or_false _ _ new).0 in
         sym (ap (λ (b : Bool). cond b (Some a.state) (Some first.state)) apart)
-    go false e more = more (or_false (bytes_eq a.name first.name) (stands a.name standing) new).1
+    go false e more = more (or_false (bytes_eq a.name first.name) (has_assigned_name a.name standing) new).1
 
 mapped : (b : Bool) (state : Bor Assignment) (row : Option (Bor Assignment))
     → option_map (λ (s : Bor Assignment). s.now) (cond b (Some state) row) ≡ cond b (Some state.now) (option_map (λ (s : Bor Assignment). s.now) row)
@@ -60,7 +60,7 @@ mapped false state row = refl
 
 -- the table with one row more
 pub has-more : (before after : Table) (standing : List Assigned) (a : Assigned) (key : Bor (List ℕ)) (state : Bor Assignment) → key.now ≡ a.name → state.now ≡ a.state
-    → HasStates before standing → stands a.name standing ≡ false
+    → HasStates before standing → has_assigned_name a.name standing ≡ false
     → ((q : Bor (List ℕ)) → row_at after q.now ≡ cond (is_eq (slice_cmp nat_cmp key.now q.now)) (Some state) (row_at before q.now))
     → HasStates after (standing ++ a ∷ [])
 has-more before after standing a key state named has has_before new row name =
@@ -73,6 +73,6 @@ has-more before after standing a key state named has has_before new row name =
     ∙ sym (state_in-last name standing a new)
 
 -- what references refer to, with one more
-pub told-last : (said : List (Bor Assigned)) (one : Bor Assigned) → told (said ++ one ∷ []) ≡ told said ++ one.now ∷ []
+pub told-last : (said : List (Bor Assigned)) (one : Bor Assigned) → dereferenced_assignments (said ++ one ∷ []) ≡ dereferenced_assignments said ++ one.now ∷ []
 told-last [] one = refl
 told-last (first ∷ said) one = ap (λ (rest : List Assigned). first.now ∷ rest) (told-last said one)

@@ -25,7 +25,7 @@ use Rattle.glob_rules.specs.declared.Case.TheVariants.{Sensitive}
 use Rattle.glob_rules.specs.declared.ignore.line.Entry.{Entry}
 use Rattle.glob_rules.specs.Ignore.{last_match}
 use Rattle.glob_rules.specs.Rule.{rule_matches_parts}
-use Rattle.glob_rules.specs.Tables.{core_in, core_at, is_found_in, is_found_at, matches_in, matches_at, number_cmp, IsTable, AreFound, EndsWell, HasCore, HasEndings, HasAll}
+use Rattle.glob_rules.specs.Tables.{core_in, core_at, is_found_in, is_found_at, matches_in, matches_at, number_cmp, IsTable, AreFound, LastCountedPasses, HasCore, HasEndings, BoundsPassingNumbers}
 use Rattle.glob_rules.proofs.Cores.{TellsCore, tells_core}
 
 -- ---- the order of the numbers
@@ -152,15 +152,15 @@ module _ (rest : List ℕ) (rises : IsStrictlyIncreasing rest) (test : ℕ → B
   abbrev pub NonePast : ℕ → Type 0
   NonePast at = (j : ℕ) → at ≤ j → j < length rest → test (get_or rest j 0) ≡ true → ⊥
 
-  place_of : (found : ℕ) → ((j : ℕ) → j < length rest → test (get_or rest j 0) ≡ true → get_or rest j 0 < found) → HasAll test rest found
+  place_of : (found : ℕ) → ((j : ℕ) → j < length rest → test (get_or rest j 0) ≡ true → get_or rest j 0 < found) → BoundsPassingNumbers test rest found
   place_of found h k (j, below, is) pass =
       let here : get_or rest j 0 ≡ k = get_or_default rest j 0 k below ∙ is in
       subst (λ (n : ℕ). n < found) here (h j below (ap test here ∙ pass))
 
-  pub past_none : (found : ℕ) → NonePast 0 → HasAll test rest found
+  pub past_none : (found : ℕ) → NonePast 0 → BoundsPassingNumbers test rest found
   past_none found none = place_of found (λ j below pass. absurd (none j (omega arith) below pass))
 
-  pub past_below : (found at : ℕ) → at < length rest → NonePast (at + 1) → get_or rest at 0 < found → HasAll test rest found
+  pub past_below : (found at : ℕ) → at < length rest → NonePast (at + 1) → get_or rest at 0 < found → BoundsPassingNumbers test rest found
   past_below found at low none less = place_of found (λ j below pass.
       elim (cases_lt at j) [
         | inl after ↦ absurd (none j (omega arith) below pass)
@@ -219,7 +219,7 @@ module _ (name : List ℕ) (relative : Option (List ℕ)) (is_dir : Option Bool)
   pub last_is_none : (rules : List Entry) (found : ℕ) → IsLast (test_of rules) found → found ≡ 0 → None ≡ last_match rules name relative is_dir Sensitive
   last_is_none rules found last is = sym (last_none rules (subst (λ (n : ℕ). IsLast (test_of rules) n) is last))
 
-  pub last_is : (rules : List Entry) (found : ℕ) → IsLast (test_of rules) found → EndsWell (test_of rules) found → (found ≡ 0 → ⊥) → slice_get rules (found - 1) ≡ last_match rules name relative is_dir Sensitive
+  pub last_is : (rules : List Entry) (found : ℕ) → IsLast (test_of rules) found → LastCountedPasses (test_of rules) found → (found ≡ 0 → ⊥) → slice_get rules (found - 1) ≡ last_match rules name relative is_dir Sensitive
   last_is rules zero last ends some = absurd (some refl)
   last_is rules (suc n) last ends some =
       let one : suc n - 1 ≡ n = omega arith in
@@ -229,7 +229,7 @@ module _ (name : List ℕ) (relative : Option (List ℕ)) (is_dir : Option Bool)
 
   pub all_found : (rules : List Entry) (sorted : List ℕ) (found : ℕ) → AreFound rules sorted → HasCore (test_of rules) (core_at rules) sorted name found
       → HasEndings (test_of rules) (core_at rules) sorted name (length name) found
-      → ((path : List ℕ) → relative ≡ Some path → HasCore (test_of rules) (core_at rules) sorted path found) → HasAll (test_of rules) sorted found
+      → ((path : List ℕ) → relative ≡ Some path → HasCore (test_of rules) (core_at rules) sorted path found) → BoundsPassingNumbers (test_of rules) sorted found
   all_found rules sorted found are by_name by_ending by_path k there pass = by_rule (slice_get rules k) refl
     where
       by_core : TellsCore (core_at rules k) name relative → k < found
@@ -254,7 +254,7 @@ module _ (name : List ℕ) (relative : Option (List ℕ)) (is_dir : Option Bool)
 
   -- ---- the tables together
 
-  pub last_of_both : (rules : List Entry) (sorted rest : List ℕ) (found : ℕ) → IsTable rules sorted rest → HasAll (test_of rules) sorted found → HasAll (test_of rules) rest found → IsLast (test_of rules) found
+  pub last_of_both : (rules : List Entry) (sorted rest : List ℕ) (found : ℕ) → IsTable rules sorted rest → BoundsPassingNumbers (test_of rules) sorted found → BoundsPassingNumbers (test_of rules) rest found → IsLast (test_of rules) found
   last_of_both rules sorted rest found is in_sorted in_rest k pass =
       elim (Contains-append_cases (filter (is_found_at rules) all) (filter (λ n. not (is_found_at rules n)) all) k
       (Contains-permutation _ _ k (IsPermutation-filter_both (is_found_at rules) (λ n. not (is_found_at rules n)) (λ n. refl) all) among)) [

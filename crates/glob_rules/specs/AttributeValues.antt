@@ -34,8 +34,8 @@ abbrev pub list_says : List ℕ → Option Bool → Case → AttributeList → L
 list_says path is_dir case list = lines_say (last_component path) (relative_to list.base path) is_dir case list.lines
 
 -- what lists, the lowest first, say of a path, in the order in which it is heard
-abbrev pub heard : List AttributeList → List ℕ → Option Bool → Case → List Assigned
-heard lists path is_dir case = reverse (flat_map (list_says path is_dir case) lists)
+abbrev pub path_assignments_reversed : List AttributeList → List ℕ → Option Bool → Case → List Assigned
+path_assignments_reversed lists path is_dir case = reverse (flat_map (list_says path is_dir case) lists)
 
 -- the first if there is one, else the other
 abbrev pub body_or : Option (List Assigned) → Option (List Assigned) → Option (List Assigned)
@@ -68,14 +68,14 @@ state_in name [] = None
 state_in name (a ∷ standing) = if bytes_eq name a.name then Some a.state else state_in name standing
 
 -- something stands of the name
-abbrev pub stands : List ℕ → List Assigned → Bool
-stands name standing = list_any (λ (a : Assigned). bytes_eq name a.name) standing
+abbrev pub has_assigned_name : List ℕ → List Assigned → Bool
+has_assigned_name name standing = list_any (λ (a : Assigned). bytes_eq name a.name) standing
 
 -- What stands once `said` is said after what stands, where `into` says the same of what follows.
 abbrev pub each_said : (List Assigned → List Assigned → List Assigned) → List AttributeList → List Assigned → List Assigned → List Assigned
 each_said into lists standing [] = standing
 each_said into lists standing (a ∷ said) =
-    each_said into lists (if stands a.name standing then standing else into (standing ++ a ∷ []) (follows lists a)) said
+    each_said into lists (if has_assigned_name a.name standing then standing else into (standing ++ a ∷ []) (follows lists a)) said
 
 -- the same, where macros stand in one another no deeper than `depth`
 unfoldable pub after_saying : ℕ → List AttributeList → List Assigned → List Assigned → List Assigned
@@ -91,7 +91,7 @@ macro_count (list ∷ lists) = length list.macros + macro_count lists
 abbrev pub standing_at : List AttributeList → List ℕ → Option Bool → Case → List Assigned
 standing_at lists path is_dir case =
     let highest_first = reverse lists in
-    after_saying (macro_count highest_first) highest_first [] (heard lists path is_dir case)
+    after_saying (macro_count highest_first) highest_first [] (path_assignments_reversed lists path is_dir case)
 
 -- The state of an attribute of a path, by lists of which the lowest is the first; none where nothing is said of it.
 abbrev pub attribute_at : List AttributeList → List ℕ → Option Bool → Case → List ℕ → Option Assignment

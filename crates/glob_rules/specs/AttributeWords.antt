@@ -25,8 +25,8 @@ is_name [] = false
 is_name (b ∷ bs) = if b == dash then false else list_all is_name_byte (b ∷ bs)
 
 -- what is said of a name, if it is one
-abbrev pub said : List ℕ → Assignment → Option Assigned
-said name state = if is_name name then Some (record { name = name; state = state }) else None
+abbrev pub assignment_for_name : List ℕ → Assignment → Option Assigned
+assignment_for_name name state = if is_name name then Some (record { name = name; state = state }) else None
 
 -- `=`
 abbrev pub is_equals : ℕ → Bool
@@ -39,14 +39,14 @@ state_from (b ∷ value) = Value value
 
 -- a word without a mark at its front
 abbrev pub said_plainly : List ℕ → Option Assigned
-said_plainly word = said (before_first is_equals word) (state_from (drop (position_or_len is_equals word) word))
+said_plainly word = assignment_for_name (before_first is_equals word) (state_from (drop (position_or_len is_equals word) word))
 
 -- a word
 abbrev pub assignment_of : List ℕ → Option Assigned
 assignment_of [] = None
 assignment_of (b ∷ bs) =
-    if b == dash then said bs Unset
-    else if b == exclamation_mark then said bs Unspecified
+    if b == dash then assignment_for_name bs Unset
+    else if b == exclamation_mark then assignment_for_name bs Unspecified
     else said_plainly (b ∷ bs)
 
 -- the words of a text

@@ -9,11 +9,11 @@ use Rattle.glob_rules.specs.declared.Case.{Case}
 use Rattle.glob_rules.specs.declared.attributes.Assignment.{Assignment}
 use Rattle.glob_rules.specs.declared.attributes.word.Assigned.{Assigned}
 use Rattle.glob_rules.specs.Attributes.{AttributeList}
-use Rattle.glob_rules.specs.AttributeValues.{state_in, stands, after_saying, macro_count}
+use Rattle.glob_rules.specs.AttributeValues.{state_in, has_assigned_name, after_saying, macro_count}
 
 -- what references refer to
-abbrev pub told : List (Bor Assigned) → List Assigned
-told said = map (λ (one : Bor Assigned). one.now) said
+abbrev pub dereferenced_assignments : List (Bor Assigned) → List Assigned
+dereferenced_assignments said = map (λ (one : Bor Assigned). one.now) said
 
 -- the state under a name in a table of references
 abbrev pub state_at : List (Bor (List ℕ) × Bor Assignment) → List ℕ → Option Assignment
@@ -25,7 +25,7 @@ HasStates states standing = (name : List ℕ) → state_at states name ≡ state
 
 -- what stands once this is said
 abbrev pub with_said : List Assigned → Assigned → List Assigned
-with_said standing a = if stands a.name standing then standing else standing ++ a ∷ []
+with_said standing a = if has_assigned_name a.name standing then standing else standing ++ a ∷ []
 
 -- what stands once this is said, by lists of which the lowest is the first
 abbrev pub standing_after : List AttributeList → List Assigned → List Assigned → List Assigned

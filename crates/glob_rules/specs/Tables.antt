@@ -76,8 +76,8 @@ pub record IsTable (rules : List Entry) (sorted rest : List ℕ) : Type 0 where
   pub others : rest ≡ filter (λ k. not (is_found_at rules k)) (range_with_len 0 (length rules))
 
 -- it counts rules from the first on, the last of which passes the test, or none
-abbrev pub EndsWell : (ℕ → Bool) → ℕ → Type 0
-EndsWell test found = 0 < found → test (found - 1) ≡ true
+abbrev pub LastCountedPasses : (ℕ → Bool) → ℕ → Type 0
+LastCountedPasses test found = 0 < found → test (found - 1) ≡ true
 
 -- the numbers in a table of the rules that have this core and pass the test lie below `found`
 abbrev pub HasCore : (ℕ → Bool) → (ℕ → List ℕ) → List ℕ → List ℕ → ℕ → Type 0
@@ -89,8 +89,8 @@ HasEndings test key numbers text up found = (k i : ℕ) → Contains numbers k �
     → key k ≡ drop i text → test k ≡ true → k < found
 
 -- the numbers that pass the test lie below `found`
-abbrev pub HasAll : (ℕ → Bool) → List ℕ → ℕ → Type 0
-HasAll test numbers found = (k : ℕ) → Contains numbers k → test k ≡ true → k < found
+abbrev pub BoundsPassingNumbers : (ℕ → Bool) → List ℕ → ℕ → Type 0
+BoundsPassingNumbers test numbers found = (k : ℕ) → Contains numbers k → test k ≡ true → k < found
 
 -- the rules of these numbers are found by their cores
 abbrev pub AreFound : List Entry → List ℕ → Type 0

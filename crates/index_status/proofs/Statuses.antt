@@ -278,7 +278,7 @@ module _ {W F I : Type 0} {w : WorktreeOf W} {f : FindOf F} {i : InterruptOf I} 
       }
 
   refused-text : (e : StatusError) (refusal : Refusal) → MakesStatus w f i w0 w1 o0 o1 i0 i1 root setup (Err e) → f.holds o0 ≡ Some setup.blobs → NotIncreased (f.faults o0) (f.faults o1)
-      → refusal ≡ top.of_status e → RefusesText w i (w.precomposes w0) w0 w1 i0 i1 root setup (files_in setup.index) refusal
+      → refusal ≡ top.refusal_of_status_error e → RefusesText w i (w.precomposes w0) w0 w1 i0 i1 root setup (files_in setup.index) refusal
   refused-text (errors.Report e) refusal made held kept same = inr (inr (Texts-refused e refusal (made.no_report e refl) held kept same))
   refused-text (errors.Fault path) refusal made held kept same =
       let fails = made.cause path refl in
@@ -287,7 +287,7 @@ module _ {W F I : Type 0} {w : WorktreeOf W} {f : FindOf F} {i : InterruptOf I} 
 
   -- the refusal that stands for that of a status
   pub StatusTexts-refused : (e : StatusError) (refusal : Refusal) → MakesStatus w f i w0 w1 o0 o1 i0 i1 root setup (Err e) → f.holds o0 ≡ Some setup.blobs → NotIncreased (f.faults o0) (f.faults o1)
-      → refusal ≡ top.of_status e → top.StatusTexts w i (w.precomposes w0) w0 w1 i0 i1 root setup (Err refusal)
+      → refusal ≡ top.refusal_of_status_error e → top.StatusTexts w i (w.precomposes w0) w0 w1 i0 i1 root setup (Err refusal)
   StatusTexts-refused e refusal made held kept same =
       record {
         gives = λ t told. tt;

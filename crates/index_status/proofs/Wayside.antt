@@ -6,14 +6,14 @@ use Rattle.worktree_fs.specs.Kept.{Asks}
 use Rattle.worktree_fs.specs.Tree.{Names}
 use Rattle.worktree_fs.specs.declared.worktree.Worktree.{Ghosts as WorktreeOf}
 use Rattle.worktree_report.specs.Looks.{IsDirectoryAt, IsLookedAt}
-use Rattle.index_status.specs.Ways.{IsBehind, IsLed, has_names, is_bar, way}
+use Rattle.index_status.specs.Ways.{IsBehind, IsLed, has_names, is_bar, path_through_directories}
 
 -- directories alone have led here, and the way goes on along a name and those that are left
 pub record IsOn {W : Type 0} (w : WorktreeOf W) (w0 w1 : W) (root path : List ℕ) (barred : Option (List ℕ)) (here name : List ℕ) (left known : List (List ℕ)) : Type 0 where
   pub keeps : Asks w w0 w1
   pub unread : w.reads w1 ≡ w.reads w0
   pub unfaulted : w.faults w1 ≡ w.faults w0
-  pub leads : (t : Names) → w.told w0 ≡ Some t → way t here (name ∷ left) ≡ way t root (components path)
+  pub leads : (t : Names) → w.told w0 ≡ Some t → path_through_directories t here (name ∷ left) ≡ path_through_directories t root (components path)
   pub on_way : (at : List ℕ) → IsLookedAt (w.told w0) here (name ∷ left) at → IsLookedAt (w.told w0) root (components path) at
   pub led : (bar : Option (List ℕ)) → IsLed (w.told w0) bar here (name ∷ left) → IsLed (w.told w0) bar root (components path)
   pub known_led : IsLed (w.told w0) barred here known

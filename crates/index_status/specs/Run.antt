@@ -85,10 +85,10 @@ pub record StatusWorksAt (composes : Bool) (t : Names) (questions0 questions1 re
 -- ---- refusals
 
 -- the refusal that stands for that of a status
-abbrev pub of_status : StatusError → Refusal
-of_status (errors.Report e) = converted.of_report e
-of_status (errors.Fault path) = refusals.Fault
-of_status errors.OutOfMemory = refusals.OutOfMemory
+abbrev pub refusal_of_status_error : StatusError → Refusal
+refusal_of_status_error (errors.Report e) = converted.refusal_of_report_error e
+refusal_of_status_error (errors.Fault path) = refusals.Fault
+refusal_of_status_error errors.OutOfMemory = refusals.OutOfMemory
 
 -- The text of the states and the report, or why there is none, where a worktree was `w0` and is `w1`, and an interrupt was `i0` and
 -- is `i1`. `composes` says whether the worktree composes names.

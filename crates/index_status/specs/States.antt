@@ -11,7 +11,7 @@ use Rattle.index_status.specs.declared.path_state.PathState.{PathState}
 use Rattle.index_status.specs.declared.path_state.PathState.TheVariants as states
 use Rattle.git_index.specs.Blobs.{blob_id}
 use Rattle.worktree_report.specs.Looks.{IsLookedAt}
-use Rattle.index_status.specs.Ways.{way}
+use Rattle.index_status.specs.Ways.{path_through_directories}
 
 -- the path is not merged; an entry of stage 0 is the only one of its path
 abbrev pub is_unmerged : IndexEntry → Bool
@@ -73,7 +73,7 @@ abbrev pub state : Names → List ℕ → IndexEntry → PathState
 state t root e =
     if is_unmerged e then states.Conflicted
     else if is_left_out e then states.Skipped
-    else at_end t e (way t root (components e.path))
+    else at_end t e (path_through_directories t root (components e.path))
 
 -- ---- how many files are read
 

@@ -10,11 +10,11 @@ use Rattle.index_status.specs.declared.way.Way.TheVariants as ways
 use Rattle.worktree_report.specs.Looks.{IsDirectoryAt, is_directory}
 
 -- The whole path to which some names lead from a directory, if each of them but the last is that of a directory.
-abbrev pub way : Names → List ℕ → List (List ℕ) → Option (List ℕ)
-way t directory [] = Some directory
-way t directory (name ∷ []) = Some (joined directory name)
-way t directory (name ∷ next ∷ names) =
-    if is_directory (kind_of (look t (joined directory name) false)) then way t (joined directory name) (next ∷ names) else None
+abbrev pub path_through_directories : Names → List ℕ → List (List ℕ) → Option (List ℕ)
+path_through_directories t directory [] = Some directory
+path_through_directories t directory (name ∷ []) = Some (joined directory name)
+path_through_directories t directory (name ∷ next ∷ names) =
+    if is_directory (kind_of (look t (joined directory name) false)) then path_through_directories t (joined directory name) (next ∷ names) else None
 
 -- Each name but the last of those on the way from a directory leads to one, where the worktree tells; or this does so up to a name
 -- that leads to the node that bars the way.

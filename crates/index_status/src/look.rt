@@ -133,7 +133,7 @@ fn file_state<W: Worktree>(
 {
     let mut bytes = Bytes::new(alloc);
     match worktree.read(alloc, full.as_bytes(), false, &mut bytes) {
-        Ok(ReadAnswer::Read) => Ok(compared(alloc, bytes.as_bytes(), id)?),
+        Ok(ReadAnswer::Read) => Ok(compare_with_blob_id(alloc, bytes.as_bytes(), id)?),
         Ok(ReadAnswer::Absent) => Ok(PathState::Deleted),
         Ok(ReadAnswer::IsDirectory) => Ok(PathState::TypeChanged),
         Ok(ReadAnswer::IsLink) => Ok(PathState::TypeChanged),
@@ -145,7 +145,11 @@ fn file_state<W: Worktree>(
 }
 
 /// The state of a file by its bytes.
-fn compared(alloc: Global, bytes: &[u8], id: &ObjectId) -> Result<PathState, OutOfMemory>
+fn compare_with_blob_id(
+    alloc: Global,
+    bytes: &[u8],
+    id: &ObjectId,
+) -> Result<PathState, OutOfMemory>
     ensures state { IfOk result (λ state. state ≡ states.by_bytes id.now bytes.now) }
     ensures read { IfOk result (λ state. states.files_for state ≡ 1) }
 {

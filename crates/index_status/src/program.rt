@@ -14,19 +14,19 @@ use gitbase_core::{Bytes, Find, OutOfMemory};
 use std::alloc::Global;
 use worktree_fs::{Interrupt, Sink};
 use worktree_report::{
-    CountsFaults, Places, Refusal, Setup, finish, has_failed_since, of_report, places_behind,
-    read_setup,
+    CountsFaults, Places, Refusal, Setup, has_failed_since, places_behind, read_setup,
+    refusal_of_report_error, write_answer,
 };
 
 /// The line for words that ask for nothing.
 const USAGE: &[u8] = b"usage: status ROOT SETUP\n";
 
 /// Why there is no text, where there is no status.
-fn of_status(alloc: Global, error: StatusError) -> Result<Refusal, OutOfMemory>
-    ensures { IfOk result (λ refusal. refusal ≡ top.of_status error) }
+fn refusal_of_status_error(alloc: Global, error: StatusError) -> Result<Refusal, OutOfMemory>
+    ensures { IfOk result (λ refusal. refusal ≡ top.refusal_of_status_error error) }
 {
     match error {
-        StatusError::Report(error) => of_report(alloc, error),
+        StatusError::Report(error) => refusal_of_report_error(alloc, error),
         StatusError::Fault { path: _ } => Ok(Refusal::Fault),
         StatusError::OutOfMemory => Ok(Refusal::OutOfMemory),
     }
@@ -62,7 +62,7 @@ pub fn text_of_status<W: CountsFaults, I: Interrupt>(
             }
             Ok(status_bytes(alloc, &status, &setup.options)?)
         }
-        Err(error) => Err(of_status(alloc, error)?),
+        Err(error) => Err(refusal_of_status_error(alloc, error)?),
     }
 }
 
@@ -152,5 +152,5 @@ pub fn run_status<W: CountsFaults, I: Interrupt, S: Sink, E: Sink>(
         → NotIncreased (S.refusals out.old) (S.refusals out.new) → (result ≡ 0) ⊎ (result ≡ 8) }
 {
     let answer = text_asked(alloc, words, worktree, interrupt);
-    finish(alloc, USAGE, answer, out, err)
+    write_answer(alloc, USAGE, answer, out, err)
 }

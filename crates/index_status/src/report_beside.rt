@@ -19,7 +19,7 @@ pub struct IndexStatus {
 }
 
 /// The states of index paths beside a report.
-fn beside<W: Worktree>(
+fn status_with_report<W: Worktree>(
     alloc: Global,
     worktree: &mut W,
     root: &[u8],
@@ -55,7 +55,7 @@ pub fn status<W: Worktree, F: Find, I: Interrupt>(
         objects.new interrupt.old interrupt.new worktree_root.now setup.now result }
 {
     match worktree_report(alloc, worktree, objects, interrupt, worktree_root, setup) {
-        Ok(report) => beside(alloc, worktree, worktree_root, &setup.index, report),
+        Ok(report) => status_with_report(alloc, worktree, worktree_root, &setup.index, report),
         Err(error) => Err(StatusError::from(error)),
     }
 }

@@ -44,7 +44,8 @@ pub(crate) fn way_to<W: Worktree>(
     requires known { ways.IsKnown (W.told worktree.old) root.now known.now.barred
         (components known.now.path.now) }
     ensures way { (t : Names) → W.told worktree.old ≡ Some t
-        → IfOk result (λ found. ways.end_of found ≡ ways.way t root.now (components path.now)) }
+        → IfOk result (λ found. ways.end_of found ≡ ways.path_through_directories t root.now
+        (components path.now)) }
     ensures on_way { IfOk result (λ found. IfSome (ways.end_of found)
         (IsLookedAt (W.told worktree.old) root.now (components path.now))) }
     ensures known { IfOk result (λ found. ways.IsKnown (W.told worktree.old) root.now
@@ -65,8 +66,8 @@ pub(crate) fn way_to<W: Worktree>(
     let mut left = known.path;
     for next in names {
         full.push_component(alloc, name)?;
-        left = behind(left, name);
-        match is_led(alloc, worktree, &known.barred, &full, left) {
+        left = path_after_first_component(left, name);
+        match is_known_or_found_directory(alloc, worktree, &known.barred, &full, left) {
             Ok(true) => name = next,
             Ok(false) => return Ok(Way::Barred(full)),
             Err(ReadError::Fault) => return Err(StatesError::Fault { path: full }),
@@ -78,7 +79,7 @@ pub(crate) fn way_to<W: Worktree>(
 }
 
 /// What is left of a path behind a component, if that is its first one; else nothing.
-fn behind<'a>(path: &'a [u8], name: &[u8]) -> &'a [u8]
+fn path_after_first_component<'a>(path: &'a [u8], name: &[u8]) -> &'a [u8]
     ensures { ways.IsBehind (components path.now) name.now (components result.now) }
 {
     match split_component(path) {
@@ -106,7 +107,7 @@ fn is_bar(barred: &Option<PathText>, full: &PathText) -> bool
 
 /// Whether the node at a whole path is a directory. It is not looked at where it bars a way, and
 /// where a known path goes on behind it.
-fn is_led<W: Worktree>(
+fn is_known_or_found_directory<W: Worktree>(
     alloc: Global,
     worktree: &mut W,
     barred: &Option<PathText>,

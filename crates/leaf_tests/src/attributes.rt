@@ -1,11 +1,12 @@
 //! The attributes of paths.
 use crate::attribute_answers as git;
-use crate::rows::{parted_by, replaced};
+use crate::rows::replaced;
 use bstr::ByteSlice;
 use gitbase_core::{Bytes, PathText};
 use glob_rules::Case;
 use glob_rules::attributes::{Assignment, MetadataCollection, Outcome, Search, fill};
 use std::alloc::Global;
+use test_cases::split_at_byte;
 
 /// Whether a search took a list of a file, where a bar stands for each LF; a file without text is
 /// no file.
@@ -97,11 +98,11 @@ struct Row<'a> {
 }
 
 fn row_of(row: &[u8]) -> Row<'_> {
-    let (found, rest) = parted_by(row, b";");
-    let (path, rest) = parted_by(rest, b";");
-    let (user, rest) = parted_by(rest, b";");
-    let (root, rest) = parted_by(rest, b";");
-    let (info, directory) = parted_by(rest, b";");
+    let (found, rest) = split_at_byte(row, b';');
+    let (path, rest) = split_at_byte(rest, b';');
+    let (user, rest) = split_at_byte(rest, b';');
+    let (root, rest) = split_at_byte(rest, b';');
+    let (info, directory) = split_at_byte(rest, b';');
     Row {
         found,
         path,
@@ -233,7 +234,7 @@ fn attributes_as_git_has_them(rt: HostRuntime) {
 }
 
 #[test]
-fn attributes_as_git_has_them_otherwise(rt: HostRuntime) {
+fn attributes_where_git_answers_otherwise(rt: HostRuntime) {
     let alloc = rt.alloc();
     assert_eq!(rt; first_lie(alloc, git::DIFFERENCES, Case::Sensitive), None);
 }

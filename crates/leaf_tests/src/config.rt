@@ -1,9 +1,10 @@
 //! Configuration files.
 use crate::config_answers as git;
-use crate::rows::{is_shown, parted, parted_by, replaced, wanted};
+use crate::rows::{is_shown, replaced, wanted};
 use git_config_lite::{File, Metadata, ParseError, Source};
 use gitbase_core::PathText;
 use std::alloc::Global;
+use test_cases::split_at_byte;
 
 /// A configuration of a repository.
 pub fn local(alloc: Global, text: &[u8]) -> Result<File, ParseError> {
@@ -78,10 +79,10 @@ fn subsection_of(word: &[u8]) -> Option<&[u8]> {
 /// Whether a row of git's answers holds: the answer, the section, the subsection, the key and the
 /// text.
 fn is_answered(alloc: Global, row: &[u8], asks_boolean: bool) -> bool {
-    let (answer, rest) = parted_by(row, b"^");
-    let (section, rest) = parted_by(rest, b"^");
-    let (subsection, rest) = parted_by(rest, b"^");
-    let (key, text) = parted_by(rest, b"^");
+    let (answer, rest) = split_at_byte(row, b'^');
+    let (section, rest) = split_at_byte(rest, b'^');
+    let (subsection, rest) = split_at_byte(rest, b'^');
+    let (key, text) = split_at_byte(rest, b'^');
     let asked = Asked {
         section,
         subsection: subsection_of(subsection),
@@ -127,7 +128,7 @@ const REFUSED: &[u8] = b"\
 1`[a] [b]|1`[a \"s\0\"]";
 
 fn is_refused(alloc: Global, row: &[u8]) -> bool {
-    let (line, text) = parted(row);
+    let (line, text) = split_at_byte(row, b'`');
     match local(alloc, text) {
         Err(ParseError::Syntax { line: found }) => is_shown(alloc, &found, line),
         _ => false,

@@ -1,9 +1,10 @@
 //! Path specs.
 use crate::pathspec_answers as git;
-use crate::rows::{is_shown, parted, parted_by};
+use crate::rows::is_shown;
 use bstr::ByteSlice;
 use glob_rules::pathspec::{Defaults, Error, Match, MatchKind, Matcher, Search, Spec};
 use std::alloc::Global;
+use test_cases::split_at_byte;
 
 const AS_WRITTEN: Defaults = Defaults { ignore_case: false };
 
@@ -47,9 +48,9 @@ fn said_of(search: &Search, path: &[u8], is_dir: bool) -> u8 {
 /// Whether a row of git's answers holds: the answers, of which the last is ours, the kind, the path
 /// and the specs.
 fn is_answered(alloc: Global, row: &[u8], defaults: Defaults) -> bool {
-    let (answers, rest) = parted_by(row, b";");
-    let (kind, rest) = parted_by(rest, b";");
-    let (path, specs) = parted_by(rest, b";");
+    let (answers, rest) = split_at_byte(row, b';');
+    let (kind, rest) = split_at_byte(rest, b';');
+    let (path, specs) = split_at_byte(rest, b';');
     match (
         answers.last(),
         answer(alloc, specs, path, kind.starts_with(b"d"), defaults),
@@ -197,10 +198,10 @@ fn leads_so<M: Matcher>(matcher: &M, path: &[u8], want: &[u8]) -> bool {
 }
 
 fn holds(alloc: Global, row: &[u8]) -> bool {
-    let (question, rest) = parted(row);
-    let (specs, rest) = parted(rest);
-    let (path, rest) = parted(rest);
-    let (kind, want) = parted(rest);
+    let (question, rest) = split_at_byte(row, b'`');
+    let (specs, rest) = split_at_byte(rest, b'`');
+    let (path, rest) = split_at_byte(rest, b'`');
+    let (kind, want) = split_at_byte(rest, b'`');
     if question == b"read".as_slice() {
         return is_refused(alloc, specs, want);
     }

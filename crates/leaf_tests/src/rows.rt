@@ -3,17 +3,6 @@ use bstr::ByteSlice;
 use std::alloc::Global;
 use std::fmt::Display;
 
-/// What stands before the first of these marks, and behind it: the whole row and nothing where
-/// there is none.
-pub fn parted_by<'a>(row: &'a [u8], mark: &[u8]) -> (&'a [u8], &'a [u8]) {
-    row.split_once_str(mark).unwrap_or((row, b""))
-}
-
-/// The same of the first backquote.
-pub fn parted(row: &[u8]) -> (&[u8], &[u8]) {
-    parted_by(row, b"`")
-}
-
 /// A text with one byte in the place of another.
 pub fn replaced(alloc: Global, text: &[u8], old: u8, new: u8) -> Option<Vec<u8>> {
     let mut copy = text.to_vec(alloc).ok()?;

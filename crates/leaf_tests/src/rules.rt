@@ -1,10 +1,11 @@
 //! Globs and the rules of ignore files.
-use crate::rows::{joined, parted_by, replaced};
+use crate::rows::{joined, replaced};
 use crate::rule_answers as git;
 use gitbase_core::PathText;
 use glob_rules::ignore::{Kind, List, Match, ParseIgnore, Search};
 use glob_rules::{Case, Pattern, WildMode, wildmatch};
 use std::alloc::Global;
+use test_cases::split_at_byte;
 
 /// As git reads rules, which knows no precious files.
 const AS_GIT: ParseIgnore = ParseIgnore {
@@ -37,7 +38,7 @@ fn is_pushed(alloc: Global, search: &mut Search, list: Option<List>) -> bool {
 /// The line of the rule that holds for a path, or 0.
 fn line_of(search: &Search, path: &[u8], is_dir: bool, case: Case) -> usize {
     match search.pattern_matching_relative_path(path, Some(is_dir), case) {
-        Some(found) => found.sequence_number,
+        Some(found) => found.sequence_number as usize,
         None => 0,
     }
 }
@@ -76,9 +77,9 @@ struct Row<'a> {
 }
 
 fn row_of(row: &[u8]) -> Row<'_> {
-    let (line, rest) = parted_by(row, b";");
-    let (kind, rest) = parted_by(rest, b";");
-    let (path, rules) = parted_by(rest, b";");
+    let (line, rest) = split_at_byte(row, b';');
+    let (kind, rest) = split_at_byte(rest, b';');
+    let (path, rules) = split_at_byte(rest, b';');
     Row {
         line,
         kind,
@@ -114,7 +115,7 @@ fn rules_as_git_has_them(rt: HostRuntime) {
 }
 
 #[test]
-fn rules_as_git_has_them_otherwise(rt: HostRuntime) {
+fn rules_where_git_answers_otherwise(rt: HostRuntime) {
     let alloc = rt.alloc();
     assert_eq!(rt;
         first_lie(alloc, git::DIFFERENCES, b"", Case::Sensitive),
@@ -152,14 +153,14 @@ fn sign_of(found: &Match<'_>) -> &'static [u8] {
 /// Whether this is the rule of a row.
 fn is_rule(found: &Match<'_>, want: &[u8]) -> bool {
     match want.strip_prefix(sign_of(found)) {
-        Some(line) => line.len() == 1 && is_digit(line, found.sequence_number),
+        Some(line) => line.len() == 1 && is_digit(line, found.sequence_number as usize),
         None => false,
     }
 }
 
 fn is_asked(search: &Search, row: &[u8]) -> bool {
-    let (path, rest) = parted_by(row, b";");
-    let (kind, want) = parted_by(rest, b";");
+    let (path, rest) = split_at_byte(row, b';');
+    let (kind, want) = split_at_byte(rest, b';');
     let is_dir = if kind == b"d".as_slice() {
         Some(true)
     } else {
@@ -187,7 +188,7 @@ fn is_in_list(search: &Search, path: &[u8], number: usize, line: usize) -> bool 
     match search.place_matching_relative_path(path, None, Case::Sensitive) {
         Some((found, rule)) => {
             found == number
-                && rule.sequence_number == line
+                && rule.sequence_number as usize == line
                 && rule.kind == Kind::Precious
                 && rule.source == Some(b"rules".as_slice())
         }
@@ -290,8 +291,8 @@ fn long_search(alloc: Global) -> Option<Search> {
 
 /// Whether the line of a row decides about its path.
 fn is_decided_by(search: &Search, row: &[u8]) -> bool {
-    let (path, rest) = parted_by(row, b";");
-    let (kind, want) = parted_by(rest, b";");
+    let (path, rest) = split_at_byte(row, b';');
+    let (kind, want) = split_at_byte(rest, b';');
     let line = line_of(search, path, kind == b"d".as_slice(), Case::Sensitive);
     match want.first() {
         Some(b'-') => line == 0,

@@ -1,6 +1,6 @@
 //! Submodules: what is said of them, and how the refusals of their values read.
 use crate::config::{from_source, local};
-use crate::rows::{is_shown, parted};
+use crate::rows::is_shown;
 use bstr::ByteSlice;
 use git_config_lite as config;
 use git_config_lite::Source;
@@ -10,6 +10,7 @@ use std::alloc::Global;
 use submodule::{
     Branch, FetchRecurse, File, Ignore, NamesAndActive, Update, init, is_active_platform,
 };
+use test_cases::split_at_byte;
 
 /// Rows, parted by bars: what is asked, about what, what is wanted, the overrides and the text,
 /// parted by backquotes.
@@ -196,10 +197,10 @@ fn answers(alloc: Global, file: File, question: &[u8], about: &[u8], want: &[u8]
 }
 
 fn holds(alloc: Global, row: &[u8]) -> bool {
-    let (question, rest) = parted(row);
-    let (about, rest) = parted(rest);
-    let (want, rest) = parted(rest);
-    let (more, text) = parted(rest);
+    let (question, rest) = split_at_byte(row, b'`');
+    let (about, rest) = split_at_byte(rest, b'`');
+    let (want, rest) = split_at_byte(rest, b'`');
+    let (more, text) = split_at_byte(rest, b'`');
     match file_of(alloc, text, more) {
         Ok(file) => answers(alloc, file, question, about, want),
         Err(init::Error::Parse { line }) => {
@@ -288,8 +289,8 @@ fn are_states(
 
 fn has_states(alloc: Global, row: &[u8]) -> bool {
     let text = b"[submodule \"m\"]\npath = lib\nurl = v\nactive = true\n[submodule \"n\"]\n";
-    let (want, rest) = parted(row);
-    let (fold, lines) = parted(rest);
+    let (want, rest) = split_at_byte(row, b'`');
+    let (fold, lines) = split_at_byte(rest, b'`');
     match (file_of(alloc, text, b""), local(alloc, lines)) {
         (Ok(file), Ok(config)) => are_states(alloc, &file, &config, !fold.is_empty(), want),
         _ => false,

@@ -1,6 +1,6 @@
 //! Submodules: the answers of git.
 use crate::config::local;
-use crate::rows::{joined, parted, replaced, wanted};
+use crate::rows::{joined, replaced, wanted};
 use crate::submodule_answers as git;
 use bstr::ByteSlice;
 use gitbase_core::Bytes;
@@ -8,6 +8,7 @@ use glob_rules::pathspec::Defaults;
 use std::alloc::Global;
 use submodule::is_active_platform::Error;
 use submodule::{Branch, File, IsActivePlatform, RefspecError, Url, UrlError};
+use test_cases::split_at_byte;
 
 /// What a row asks, with LF in the place of each `&`.
 fn asked(alloc: Global, text: &[u8]) -> Option<Vec<u8>> {
@@ -54,8 +55,8 @@ fn is_active_by(alloc: Global, text: &[u8], name: &[u8], want: &[u8]) -> bool {
 }
 
 fn is_activity(alloc: Global, row: &[u8]) -> bool {
-    let (answer, rest) = parted(row);
-    let (name, text) = parted(rest);
+    let (answer, rest) = split_at_byte(row, b'`');
+    let (name, text) = split_at_byte(rest, b'`');
     match asked(alloc, text) {
         Some(text) => is_active_by(alloc, &text, name, wanted(answer)),
         None => false,
@@ -83,8 +84,8 @@ fn with_key(alloc: Global, key: &[u8], value: &[u8]) -> Option<File> {
 }
 
 fn is_field(alloc: Global, row: &[u8]) -> bool {
-    let (answer, rest) = parted(row);
-    let (key, value) = parted(rest);
+    let (answer, rest) = split_at_byte(row, b'`');
+    let (key, value) = split_at_byte(rest, b'`');
     match with_key(alloc, key, value) {
         Some(file) => is_taken(alloc, &file, key) == (wanted(answer) == b"taken".as_slice()),
         None => false,
@@ -96,9 +97,9 @@ fn is_value_of(file: &File, name: &[u8], key: &[u8], want: &[u8]) -> bool {
 }
 
 fn is_value(alloc: Global, row: &[u8]) -> bool {
-    let (answer, rest) = parted(row);
-    let (name, rest) = parted(rest);
-    let (key, text) = parted(rest);
+    let (answer, rest) = split_at_byte(row, b'`');
+    let (name, rest) = split_at_byte(rest, b'`');
+    let (key, text) = split_at_byte(rest, b'`');
     match asked(alloc, text) {
         Some(text) => match modules(alloc, &text) {
             Some(file) => is_value_of(&file, name, key, answer),
@@ -114,7 +115,7 @@ fn is_name_of_lib(alloc: Global, file: &File, want: &[u8]) -> bool {
 }
 
 fn is_name(alloc: Global, row: &[u8]) -> bool {
-    let (answer, text) = parted(row);
+    let (answer, text) = split_at_byte(row, b'`');
     match asked(alloc, text) {
         Some(text) => match modules(alloc, &text) {
             Some(file) => is_name_of_lib(alloc, &file, wanted(answer)),
@@ -164,7 +165,7 @@ fn has_parts(alloc: Global, url: &Url, want: &[u8]) -> bool {
 }
 
 fn is_url(alloc: Global, row: &[u8]) -> bool {
-    let (answer, text) = parted(row);
+    let (answer, text) = split_at_byte(row, b'`');
     let want = wanted(answer);
     match Url::parse(alloc, text) {
         Ok(url) => has_parts(alloc, &url, want),
@@ -183,7 +184,7 @@ fn is_named(name: &Bytes, text: &[u8], want: &[u8]) -> bool {
 }
 
 fn is_branch(alloc: Global, row: &[u8]) -> bool {
-    let (answer, text) = parted(row);
+    let (answer, text) = split_at_byte(row, b'`');
     let want = wanted(answer);
     match Branch::try_from(alloc, text) {
         Ok(Branch::Name(name)) => is_named(&name, text, want),
@@ -237,7 +238,7 @@ fn submodules_as_git_has_them(rt: HostRuntime) {
 }
 
 #[test]
-fn submodules_as_git_has_them_otherwise(rt: HostRuntime) {
+fn submodules_where_git_answers_otherwise(rt: HostRuntime) {
     let alloc = rt.alloc();
     assert_eq!(rt;
         first_lie(alloc, About::Activity, git::ACTIVE_DIFFERENCES),

@@ -1,10 +1,11 @@
 //! Values of submodules: their words, urls and branches, and which submodules they make active.
-use crate::rows::{is_shown, parted};
+use crate::rows::is_shown;
 use crate::submodules_as_git::{About, first_lie};
 use git_config_lite::ValueError;
 use gitbase_core::Bytes;
 use std::alloc::Global;
 use submodule::{Branch, FetchRecurse, Ignore, Url};
+use test_cases::split_at_byte;
 
 /// Whether `m` is active, by a configuration with `&` in the place of each LF.
 const ACTIVE: &[u8] = b"\
@@ -45,11 +46,11 @@ fn is_port(alloc: Global, port: Option<u16>, want: &[u8]) -> bool {
 }
 
 fn has_parts(alloc: Global, url: &Url, want: &[u8]) -> bool {
-    let (scheme, rest) = parted(want);
-    let (user, rest) = parted(rest);
-    let (password, rest) = parted(rest);
-    let (host, rest) = parted(rest);
-    let (port, path) = parted(rest);
+    let (scheme, rest) = split_at_byte(want, b'`');
+    let (user, rest) = split_at_byte(rest, b'`');
+    let (password, rest) = split_at_byte(rest, b'`');
+    let (host, rest) = split_at_byte(rest, b'`');
+    let (port, path) = split_at_byte(rest, b'`');
     url.scheme.as_bytes() == scheme
         && is_part(&url.user, user)
         && is_part(&url.password, password)
@@ -59,7 +60,7 @@ fn has_parts(alloc: Global, url: &Url, want: &[u8]) -> bool {
 }
 
 fn is_url(alloc: Global, row: &[u8]) -> bool {
-    let (text, want) = parted(row);
+    let (text, want) = split_at_byte(row, b'`');
     match Url::parse(alloc, text) {
         Ok(url) => has_parts(alloc, &url, want),
         Err(error) => is_shown(alloc, &error, want),

@@ -7,7 +7,7 @@ use Rattle.worktree_fs.specs.declared.worktree.Worktree.{Ghosts as WorktreeOf}
 use Rattle.worktree_fs.specs.Kept.{Asks}
 use Rattle.diff_files.specs.declared.comparison.Comparison.{Comparison}
 use Rattle.diff_files.specs.declared.stats.Stats.{Ghosts as StatsOf}
-use Rattle.diff_files.specs.KeptStats.{AsksStats, FailsNot, Outside, Tells}
+use Rattle.diff_files.specs.KeptStats.{AsksStats, KeepsFaultCounts, TreeAndStats, Tells}
 use Rattle.ls_files.specs.declared.standings.Standings.{Standings}
 use Rattle.ls_files.specs.declared.options.Listing.{Listing}
 use Rattle.ls_files.specs.declared.options.NamedSpec.{NamedSpec}
@@ -20,6 +20,6 @@ pub record IsAlong {W S : Type 0} (w : WorktreeOf W) (s : StatsOf S) (w0 w1 : W)
     (last : Option (List ℕ)) (entries_left : List IndexEntry) (details_left : List Detail) : Type 0 where
   pub worktree : Asks w w0 w1
   pub stats : AsksStats s s0 s1
-  pub unfaulted : FailsNot w s w0 w1 s0 s1
-  pub same : (outside : Outside) → Tells (w.told w0) (s.told s0) outside
+  pub unfaulted : KeepsFaultCounts w s w0 w1 s0 s1
+  pub same : (outside : TreeAndStats) → Tells (w.told w0) (s.told s0) outside
       → shown_from outside root o asked l named specs shown last entries_left details_left ≡ shown_from outside root o asked l named specs [] None entries details

@@ -17,13 +17,13 @@ use Rattle.worktree_stack.specs.LooksUp.{Leaves, LooksUp}
 use Rattle.worktree_stack.specs.Lookups.{IsLookedUp}
 use Rattle.worktree_stack.specs.Reading.{Refusal, Sources, Tells, is_read, reading, rulebook}
 use Rattle.worktree_stack.specs.Refused.{OfAncestor, Refuses}
-use Rattle.worktree_stack.specs.Setup.{Made, excluded_kind}
+use Rattle.worktree_stack.specs.Setup.{StackSetup, excluded_kind}
 use Rattle.worktree_stack.specs.Stacked.{IsInStep, Stacked, made_of, pushed}
 use Rattle.worktree_stack.specs.declared.error.AtPathError.{AtPathError}
 use Rattle.worktree_stack.specs.declared.error.AtPathError.TheVariants as lookups
 use Rattle.worktree_stack.specs.declared.error.BlobWhy.TheVariants as blobs
 use Rattle.worktree_stack.specs.declared.error.RulesWhy.TheVariants as files
-use Rattle.ls_files.specs.Excluded.{are_read, is_read_above, is_ruled_out, looked_up, of_lookup, ruled_out, ruled_out_after, with_one}
+use Rattle.ls_files.specs.Excluded.{are_read, is_read_above, is_ruled_out, looked_up, of_lookup, excluded_index_entries, ruled_out_after, with_one}
 use Rattle.ls_files.specs.Finds.{Finds, Gives}
 use Rattle.ls_files.specs.declared.excluded_error.ExcludedError.{ExcludedError}
 use Rattle.ls_files.specs.declared.excluded_error.ExcludedError.TheVariants as errors
@@ -58,12 +58,12 @@ and-right : (a b : Bool) → b ≡ false → (a && b) ≡ false
 and-right true b e = e
 and-right false b e = refl
 
-read-at : (s : Sources) (stack : Stacked) (made : Made) (path : List ℕ) → made_of stack ≡ made → IsInStep s stack → IsLookedUp stack (components path) → are_read made s (components path) ≡ true
+read-at : (s : Sources) (stack : Stacked) (made : StackSetup) (path : List ℕ) → made_of stack ≡ made → IsInStep s stack → IsLookedUp stack (components path) → are_read made s (components path) ≡ true
 read-at s stack made path made_is step at =
-    let read : Made → List (List (List ℕ)) → Bool = λ m directories. list_all (λ directory. is_read (reading m s (spelled directory))) directories in
+    let read : StackSetup → List (List (List ℕ)) → Bool = λ m directories. list_all (λ directory. is_read (reading m s (spelled directory))) directories in
     let now : read (made_of stack) (pushed stack.at) ≡ true = step.are_read in
     let all : read (made_of stack) (fronts (all_but_last (components path))) ≡ true = ap (λ (a : Option (List (List ℕ))). read (made_of stack) (pushed a)) (sym at.at) ∙ now in
-    ap (λ (m : Made). read m (fronts (all_but_last (components path)))) (sym made_is) ∙ all
+    ap (λ (m : StackSetup). read m (fronts (all_but_last (components path)))) (sym made_is) ∙ all
 
 read-answered : {W F : Type 0} {w : WorktreeOf W} {f : FindOf F} {w0 w1 : W} {o0 o1 : F} {path : List ℕ} {kind : Option Bool} {old new : Stacked} {T : Type 0} {done : T}
     → (s : Sources) → Tells (w.told w0) (f.holds o0) s → IsInStep s old
@@ -97,18 +97,18 @@ all-front p (name ∷ names) (x ∷ front) rest e fails =
     and-right (p []) (list_all p (map (λ f. name ∷ f) (fronts names)))
     (all-map p (λ f. name ∷ f) (fronts names) ∙ all-front (λ f. p (name ∷ f)) names front rest (tail_is e) (ap (λ (n : List ℕ). p (n ∷ front)) (head_is e) ∙ fails))
 
-unread-above : (s : Sources) (made : Made) (path : List ℕ) (refusal : Refusal) (Holds : List ℕ → Type 0) → OfAncestor (components path) Holds
+unread-above : (s : Sources) (made : StackSetup) (path : List ℕ) (refusal : Refusal) (Holds : List ℕ → Type 0) → OfAncestor (components path) Holds
     → ((d : List ℕ) → Holds d → reading made s d ≡ Err refusal) → is_read_above made s path ≡ false
 unread-above s made path refusal Holds h is =
     and-right (is_normal path) (are_read made s (components path))
     (all-front (λ directory. is_read (reading made s (spelled directory))) (all_but_last (components path)) h.ancestor h.rest h.above (ap is_read (is (spelled h.ancestor) h.holds)))
 
 -- what comes of such a path
-unread-is : (made : Made) (s : Sources) (path : List ℕ) (is_dir : Bool) → is_read_above made s path ≡ false → looked_up made s path is_dir ≡ Err errors.Unread
+unread-is : (made : StackSetup) (s : Sources) (path : List ℕ) (is_dir : Bool) → is_read_above made s path ≡ false → looked_up made s path is_dir ≡ Err errors.Unread
 unfolding looked_up
 unread-is made s path is_dir fails = ap (λ (b : Bool). if b then Ok (is_ruled_out made s path is_dir) else Err errors.Unread) fails
 
-read-is : (made : Made) (s : Sources) (path : List ℕ) (is_dir excluded : Bool) → is_read_above made s path ≡ true → excluded ≡ is_ruled_out made s path is_dir → looked_up made s path is_dir ≡ Ok excluded
+read-is : (made : StackSetup) (s : Sources) (path : List ℕ) (is_dir excluded : Bool) → is_read_above made s path ≡ true → excluded ≡ is_ruled_out made s path is_dir → looked_up made s path is_dir ≡ Ok excluded
 unfolding looked_up
 read-is made s path is_dir excluded reads is = ap (λ (b : Bool). if b then Ok (is_ruled_out made s path is_dir) else Err errors.Unread) reads ∙ ap Ok (sym is)
 
@@ -126,14 +126,14 @@ gives-read {old = old} {new = new} s path is_dir excluded platform tells step ki
     let is = now s (h.in_step s tells step) path h.looked_up in
     read-is (made_of old) s path is_dir excluded (read-answered s tells step h)
     (is
-    ∙ ap (λ (m : Made). is_positive (exclude (rulebook m s) (components path) new.is_dir)) h.made
+    ∙ ap (λ (m : StackSetup). is_positive (exclude (rulebook m s) (components path) new.is_dir)) h.made
     ∙ ap (λ (d : Option Bool). is_positive (exclude (rulebook (made_of old) s) (components path) d)) (h.is_dir ∙ kind_is))
 
-abbrev Stopped : Made → Sources → List ℕ → Bool → AtPathError → Type 0
+abbrev Stopped : StackSetup → Sources → List ℕ → Bool → AtPathError → Type 0
 Stopped made s path is_dir refused = Gives {A = Bool} (Err (of_lookup refused)) (looked_up made s path is_dir)
 
 -- a refused lookup of a path that is normal
-stopped-by : (s : Sources) (made : Made) (path : List ℕ) (is_dir : Bool) (told : Option Names) (holds : Option Objects) (TreeFailed StoreFailed : Type 0) (error : AtPathError) → Tells told holds s
+stopped-by : (s : Sources) (made : StackSetup) (path : List ℕ) (is_dir : Bool) (told : Option Names) (holds : Option Objects) (TreeFailed StoreFailed : Type 0) (error : AtPathError) → Tells told holds s
     → Refuses told holds TreeFailed StoreFailed made (components path) error → (StoreFailed → ⊥) → Stopped made s path is_dir error
 stopped-by s made path is_dir told holds TreeFailed StoreFailed lookups.NotNormal tells refused none = absurd refused
 stopped-by s made path is_dir told holds TreeFailed StoreFailed (lookups.Component why) tells refused none = absurd refused
@@ -170,7 +170,7 @@ stopped-refused {T = T} {w = w} {f = f} {w0 = w0} {w1 = w1} {o0 = o0} {o1 = o1} 
 
 -- ---- a fault has its cause
 
-cause-by : (names : List (List ℕ)) (made : Made) (told : Option Names) (holds : Option Objects) (TreeFailed StoreFailed : Type 0) (error : AtPathError) → (StoreFailed → ⊥)
+cause-by : (names : List (List ℕ)) (made : StackSetup) (told : Option Names) (holds : Option Objects) (TreeFailed StoreFailed : Type 0) (error : AtPathError) → (StoreFailed → ⊥)
     → Refuses told holds TreeFailed StoreFailed made names error → of_lookup error ≡ errors.Fault → TreeFailed
 cause-by names made told holds TreeFailed StoreFailed lookups.NotNormal none refused is = absurd refused
 cause-by names made told holds TreeFailed StoreFailed (lookups.Component why) none refused is = absurd refused
@@ -246,9 +246,9 @@ steps-on w f objects holds step h t told = h.in_step (read_with objects t) (reco
 
 -- ---- one entry more
 
-pub one-more : (t : Names) (root : List ℕ) (setup : Setup) (made now : Made) (done next : List IndexEntry) (e : IndexEntry) (entries : List IndexEntry) (excluded : Bool)
-    → now ≡ made → ruled_out t root setup now e ≡ Ok excluded → next ≡ with_one done e excluded
+pub one-more : (t : Names) (root : List ℕ) (setup : Setup) (made now : StackSetup) (done next : List IndexEntry) (e : IndexEntry) (entries : List IndexEntry) (excluded : Bool)
+    → now ≡ made → excluded_index_entries t root setup now e ≡ Ok excluded → next ≡ with_one done e excluded
     → ruled_out_after t root setup made next entries ≡ ruled_out_after t root setup made done (e ∷ entries)
 one-more t root setup made now done next e entries excluded same is next_is =
     ap (λ (d : List IndexEntry). ruled_out_after t root setup made d entries) next_is
-    ∙ sym (ap (and_then (λ (x : Bool). ruled_out_after t root setup made (with_one done e x) entries)) (ap (λ (m : Made). ruled_out t root setup m e) (sym same) ∙ is))
+    ∙ sym (ap (and_then (λ (x : Bool). ruled_out_after t root setup made (with_one done e x) entries)) (ap (λ (m : StackSetup). excluded_index_entries t root setup m e) (sym same) ∙ is))

@@ -9,17 +9,17 @@ use Rattle.worktree_report.specs.declared.setup.Setup.{Setup}
 use Rattle.worktree_stack.specs.Mappings.{case_of}
 use Rattle.ls_files.specs.declared.options.Listing.{Listing}
 use Rattle.ls_files.specs.Choices.{asks_rules}
-use Rattle.ls_files.specs.Others.{above, as_directory}
+use Rattle.ls_files.specs.Others.{directories_above_path, as_directory}
 use Rattle.ls_files.specs.Places.{Place}
 use Rattle.ls_files.specs.Unmatched.{place_of_name}
 
 -- there are patterns, and the walk asks no rules
-abbrev pub are_alone : Listing → Bool
-are_alone l = l.patterns && not (asks_rules l)
+abbrev pub has_only_given_patterns : Listing → Bool
+has_only_given_patterns l = l.patterns && not (asks_rules l)
 
 -- so each path that the index does not have is looked at, whether it is excluded or not
-abbrev pub unsifted : Listing → Listing
-unsifted l = if are_alone l then record l { ignored = false } else l
+abbrev pub listing_before_pattern_filter : Listing → Listing
+listing_before_pattern_filter l = if has_only_given_patterns l then record l { ignored = false } else l
 
 abbrev pub is_positive : Option Hit → Bool
 is_positive None = false
@@ -38,7 +38,7 @@ is_excluded_to rules case path at = is_slash (slice_index path at) && is_directo
 
 -- a directory on the way to a path is excluded: no pattern takes up again what lies in it
 abbrev pub is_in_excluded : List Rules → Case → List ℕ → Bool
-is_in_excluded rules case path = list_any (is_directory_excluded rules case) (above path)
+is_in_excluded rules case path = list_any (is_directory_excluded rules case) (directories_above_path path)
 
 abbrev pub is_excluded : List Rules → Case → Place → Bool
 is_excluded rules case place = is_in_excluded rules case place.path || is_excluded_itself rules case place
@@ -52,9 +52,9 @@ is_left l rules case name =
 abbrev pub patterns_of : Setup → List Rules
 patterns_of setup = rules_in false setup.globals ∷ rules_in false setup.overrides ∷ []
 
-abbrev pub left_of : Listing → Setup → List (List ℕ) → List (List ℕ)
-left_of l setup names = filter (is_left l (patterns_of setup) (case_of setup.options.ignore_case)) names
+abbrev pub names_kept_by_patterns : Listing → Setup → List (List ℕ) → List (List ℕ)
+names_kept_by_patterns l setup names = filter (is_left l (patterns_of setup) (case_of setup.options.ignore_case)) names
 
 -- of the names of what the index does not have those that are shown
-abbrev pub sifted : Listing → Setup → List (List ℕ) → List (List ℕ)
-sifted l setup names = if are_alone l then left_of l setup names else names
+abbrev pub filter_names_by_patterns : Listing → Setup → List (List ℕ) → List (List ℕ)
+filter_names_by_patterns l setup names = if has_only_given_patterns l then names_kept_by_patterns l setup names else names

@@ -7,16 +7,16 @@ use Rattle.glob_rules.specs.PathSpec.{PathSpec}
 use Rattle.glob_rules.specs.PathSpecs.{list_match}
 use Rattle.glob_rules.specs.declared.pathspec.Match.{Match}
 use Rattle.ls_files.specs.declared.options.Listing.{Listing}
-use Rattle.ls_files.specs.Choices.{chosen}
+use Rattle.ls_files.specs.Choices.{entries_to_list}
 use Rattle.ls_files.specs.Lines.{entry_line}
 
-abbrev pub takes : Option Match → Bool
-takes None = false
-takes (Some m) = not m.excluded
+abbrev pub is_including_match : Option Match → Bool
+is_including_match None = false
+is_including_match (Some m) = not m.excluded
 
 -- the path specs match a path, as that of a directory or not
 abbrev pub is_matched : List PathSpec → List ℕ → Bool → Bool
-is_matched specs path is_dir = takes (list_match specs path (Some is_dir))
+is_matched specs path is_dir = is_including_match (list_match specs path (Some is_dir))
 
 -- a directory stands at the path of a submodule, and of what a sparse index has in the place of a directory
 abbrev pub is_directory : IndexEntry → Bool
@@ -34,4 +34,4 @@ lines_of l prefix specs entries = flat_map (line_if l prefix specs) entries
 
 -- the lines of the entries that are chosen and matched, in the order of the index
 abbrev pub index_text : Listing → List ℕ → List PathSpec → List IndexEntry → List ℕ
-index_text l prefix specs entries = lines_of l prefix specs (chosen l entries)
+index_text l prefix specs entries = lines_of l prefix specs (entries_to_list l entries)

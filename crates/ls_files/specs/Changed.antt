@@ -14,7 +14,7 @@ use Rattle.diff_files.specs.declared.comparison.Comparison.{Comparison}
 use Rattle.diff_files.specs.declared.error.Unsupported.{Unsupported}
 use Rattle.diff_files.specs.declared.error.Unsupported.TheVariants as forms
 use Rattle.diff_files.specs.declared.stats.Stats.{Ghosts as StatsOf}
-use Rattle.diff_files.specs.KeptStats.{AsksStats, Fails, FailsNot, Outside, Tells}
+use Rattle.diff_files.specs.KeptStats.{AsksStats, Fails, KeepsFaultCounts, TreeAndStats, Tells}
 use Rattle.diff_files.specs.Rows.{is_same}
 use Rattle.diff_files.specs.Standing.{is_skipped_in, presence_in, standing_in}
 use Rattle.ls_files.specs.declared.changed_error.ChangedError.{ChangedError}
@@ -63,24 +63,24 @@ abbrev pub is_candidate : Listing → List NamedSpec → List PathSpec → Index
 is_candidate l named specs e = not (is_settled l e) && is_asked l named specs e
 
 -- nor is one that is skipped
-abbrev pub is_looked_at : Outside → List ℕ → Comparison → Listing → List NamedSpec → List PathSpec → IndexEntry → Bool
+abbrev pub is_looked_at : TreeAndStats → List ℕ → Comparison → Listing → List NamedSpec → List PathSpec → IndexEntry → Bool
 is_looked_at s root o l named specs e = is_candidate l named specs e && not (is_skipped_in s.stats root o e)
 
-abbrev pub is_looked_at_by : Outside → ChangeQuery → IndexEntry → Bool
+abbrev pub is_looked_at_by : TreeAndStats → ChangeQuery → IndexEntry → Bool
 is_looked_at_by s q e = is_looked_at s q.root.now q.comparison.now q.listing.now q.named.now q.specs.now e
 
 -- ---- how they stand
 
 -- where only what is gone is asked for, nothing else is looked at
-abbrev pub looked_at : Outside → List ℕ → Comparison → Standings → IndexEntry → Detail → Result PathChange Unsupported
+abbrev pub looked_at : TreeAndStats → List ℕ → Comparison → Standings → IndexEntry → Detail → Result PathChange Unsupported
 looked_at s root o standings.Deleted e d = Ok (presence_in s.stats root e)
 looked_at s root o standings.Modified e d = standing_in s root o e d
 looked_at s root o standings.Both e d = standing_in s root o e d
 
-unfoldable pub change_of : Outside → List ℕ → Comparison → Standings → Listing → List NamedSpec → List PathSpec → IndexEntry → Detail → Result PathChange Unsupported
+unfoldable pub change_of : TreeAndStats → List ℕ → Comparison → Standings → Listing → List NamedSpec → List PathSpec → IndexEntry → Detail → Result PathChange Unsupported
 change_of s root o w l named specs e d = if is_looked_at s root o l named specs e then looked_at s root o w e d else Ok changes.Same
 
-abbrev pub change_by : Outside → ChangeQuery → IndexEntry → Detail → Result PathChange Unsupported
+abbrev pub change_by : TreeAndStats → ChangeQuery → IndexEntry → Detail → Result PathChange Unsupported
 change_by s q e d = change_of s q.root.now q.comparison.now q.standings q.listing.now q.named.now q.specs.now e d
 
 abbrev pub is_deleted : PathChange → Bool
@@ -127,7 +127,7 @@ last_after last w l e change = if is_shown w l e change then Some e.path else la
 
 -- What is shown, with what is shown of some entries, in the order of the index, behind one of the path `last`; or the first form that is
 -- not answered.
-abbrev pub shown_from : Outside → List ℕ → Comparison → Standings → Listing → List NamedSpec → List PathSpec → List Shown → Option (List ℕ) → List IndexEntry → List Detail → Result (List Shown) Unsupported
+abbrev pub shown_from : TreeAndStats → List ℕ → Comparison → Standings → Listing → List NamedSpec → List PathSpec → List Shown → Option (List ℕ) → List IndexEntry → List Detail → Result (List Shown) Unsupported
 shown_from s root o w l named specs shown last [] details = Ok shown
 shown_from s root o w l named specs shown last (e ∷ entries) [] = Err forms.Details
 shown_from s root o w l named specs shown last (e ∷ entries) (d ∷ details) =
@@ -135,7 +135,7 @@ shown_from s root o w l named specs shown last (e ∷ entries) (d ∷ details) =
     else and_then (λ (change : PathChange). shown_from s root o w l named specs (shown ++ shown_of w l e change) (last_after last w l e change) entries details)
     (change_of s root o w l named specs e d)
 
-abbrev pub shown_by : Outside → ChangeQuery → List IndexEntry → List Detail → Result (List Shown) Unsupported
+abbrev pub shown_by : TreeAndStats → ChangeQuery → List IndexEntry → List Detail → Result (List Shown) Unsupported
 shown_by s q entries details = shown_from s q.root.now q.comparison.now q.standings q.listing.now q.named.now q.specs.now [] None entries details
 
 -- what is shown of an entry is added, or the form that is not answered is refused; want of memory stands apart
@@ -163,24 +163,24 @@ unfoldable pub listed_with : Listing → List ℕ → List NamedSpec → List Pa
 listed_with l prefix named specs shown = record { out = out_text l prefix specs shown; err = err_text l named shown }
 
 -- of a sparse index, in which an entry stands for a directory, nothing is shown
-abbrev pub all_in : Outside → List ℕ → List IndexEntry → List Detail → Comparison → Standings → Listing → List NamedSpec → List PathSpec → Result (List Shown) Unsupported
-all_in s root entries details o w l named specs =
+abbrev pub shown_unless_sparse : TreeAndStats → List ℕ → List IndexEntry → List Detail → Comparison → Standings → Listing → List NamedSpec → List PathSpec → Result (List Shown) Unsupported
+shown_unless_sparse s root entries details o w l named specs =
     if list_any is_directory entries then Err forms.SparseIndex else shown_from s root o w l named specs [] None entries details
 
 -- What is listed, or the first form that is not answered.
-abbrev pub changed_in : Outside → List ℕ → List IndexEntry → List Detail → Comparison → Standings → Listing → List ℕ → List NamedSpec → List PathSpec → Result Listed Unsupported
+abbrev pub changed_in : TreeAndStats → List ℕ → List IndexEntry → List Detail → Comparison → Standings → Listing → List ℕ → List NamedSpec → List PathSpec → Result Listed Unsupported
 changed_in s root entries details o w l prefix named specs =
-    and_then (λ (shown : List Shown). Ok (listed_with l prefix named specs shown)) (all_in s root entries details o w l named specs)
+    and_then (λ (shown : List Shown). Ok (listed_with l prefix named specs shown)) (shown_unless_sparse s root entries details o w l named specs)
 
 -- What is answered of a work tree, where it was `w0` and is `w1`, and what is asked for stats was `s0` and is `s1`.
 pub record ListsChanged {W S : Type 0} (w : WorktreeOf W) (s : StatsOf S) (w0 w1 : W) (s0 s1 : S) (root : List ℕ) (entries : List IndexEntry)
     (details : List Detail) (o : Comparison) (asked : Standings) (l : Listing) (prefix : List ℕ) (named : List NamedSpec) (specs : List PathSpec)
     (answer : Result Listed ChangedError) : Type 0 where
   -- Over a told tree and told stats it is exactly what `git ls-files` lists, or the form that is not answered.
-  pub gives : (outside : Outside) → Tells (w.told w0) (s.told s0) outside → Answers (changed_in outside root entries details o asked l prefix named specs) answer
+  pub gives : (outside : TreeAndStats) → Tells (w.told w0) (s.told s0) outside → Answers (changed_in outside root entries details o asked l prefix named specs) answer
   -- a fault is told only where one was counted
   pub cause : IsErrOf answer errors.Fault → Fails w s w0 w1 s0 s1
   -- and none was counted that is not told
-  pub unfaulted : UnlessFault answer (FailsNot w s w0 w1 s0 s1)
+  pub unfaulted : UnlessFault answer (KeepsFaultCounts w s w0 w1 s0 s1)
   pub worktree : Asks w w0 w1
   pub stats : AsksStats s s0 s1

@@ -57,5 +57,5 @@ chosen_after l last [] = []
 chosen_after l last (e ∷ entries) =
     if is_next l last e then e ∷ chosen_after l (Some e.path) entries else chosen_after l last entries
 
-abbrev pub chosen : Listing → List IndexEntry → List IndexEntry
-chosen l entries = chosen_after l None entries
+abbrev pub entries_to_list : Listing → List IndexEntry → List IndexEntry
+entries_to_list l entries = chosen_after l None entries

@@ -18,7 +18,7 @@ use Rattle.worktree_report.specs.declared.setup.Setup.{Setup}
 use Rattle.worktree_stack.specs.Excludes.{exclude, is_positive}
 use Rattle.worktree_stack.specs.Mappings.{case_of}
 use Rattle.worktree_stack.specs.Reading.{Sources, is_read, reading, rulebook}
-use Rattle.worktree_stack.specs.Setup.{Made}
+use Rattle.worktree_stack.specs.Setup.{StackSetup}
 use Rattle.worktree_stack.specs.declared.error.AtPathError.{AtPathError}
 use Rattle.worktree_stack.specs.declared.error.AtPathError.TheVariants as lookups
 use Rattle.worktree_stack.specs.declared.error.BlobWhy.{BlobWhy}
@@ -32,7 +32,7 @@ use Rattle.ls_files.specs.declared.options.Listing.{Listing}
 use Rattle.ls_files.specs.declared.options.NamedSpec.{NamedSpec}
 use Rattle.ls_files.specs.declared.wrong.WrongListing.{WrongListing}
 use Rattle.ls_files.specs.declared.wrong.WrongListing.TheVariants as wrong
-use Rattle.ls_files.specs.Alone.{are_alone, is_excluded, patterns_of}
+use Rattle.ls_files.specs.Alone.{has_only_given_patterns, is_excluded, patterns_of}
 use Rattle.ls_files.specs.Choices.{walks}
 use Rattle.ls_files.specs.Listed.{listed_with}
 use Rattle.ls_files.specs.Wrong.{has_rules, is_sparse}
@@ -66,18 +66,18 @@ is_directory_at t root path = is_a_directory (kind_of (look t (joined root path)
 -- ---- by the rules of directories
 
 -- the rules files of the directories above a path are read
-abbrev pub are_read : Made → Sources → List (List ℕ) → Bool
+abbrev pub are_read : StackSetup → Sources → List (List ℕ) → Bool
 are_read made s names = list_all (λ directory. is_read (reading made s (spelled directory))) (fronts (all_but_last names))
 
-abbrev pub is_read_above : Made → Sources → List ℕ → Bool
+abbrev pub is_read_above : StackSetup → Sources → List ℕ → Bool
 is_read_above made s path = is_normal path && are_read made s (components path)
 
 -- the rule that decides about a path excludes it, as that of a directory or not
-abbrev pub is_ruled_out : Made → Sources → List ℕ → Bool → Bool
+abbrev pub is_ruled_out : StackSetup → Sources → List ℕ → Bool → Bool
 is_ruled_out made s path is_dir = is_positive (exclude (rulebook made s) (components path) (Some is_dir))
 
 -- the same, if the rules above it are read
-unfoldable pub looked_up : Made → Sources → List ℕ → Bool → Result Bool ExcludedError
+unfoldable pub looked_up : StackSetup → Sources → List ℕ → Bool → Result Bool ExcludedError
 looked_up made s path is_dir = if is_read_above made s path then Ok (is_ruled_out made s path is_dir) else Err errors.Unread
 
 -- an entry behind others, if it is excluded
@@ -85,14 +85,14 @@ abbrev pub with_one : List IndexEntry → IndexEntry → Bool → List IndexEntr
 with_one done e excluded = if excluded then done ++ e ∷ [] else done
 
 -- the path of an entry, by what stands there
-abbrev pub ruled_out : Names → List ℕ → Setup → Made → IndexEntry → Result Bool ExcludedError
-ruled_out t root setup made e = looked_up made (read_in t setup) e.path (is_directory_at t root e.path)
+abbrev pub excluded_index_entries : Names → List ℕ → Setup → StackSetup → IndexEntry → Result Bool ExcludedError
+excluded_index_entries t root setup made e = looked_up made (read_in t setup) e.path (is_directory_at t root e.path)
 
 -- those of some entries that are excluded, in their order, behind others
-abbrev pub ruled_out_after : Names → List ℕ → Setup → Made → List IndexEntry → List IndexEntry → Result (List IndexEntry) ExcludedError
+abbrev pub ruled_out_after : Names → List ℕ → Setup → StackSetup → List IndexEntry → List IndexEntry → Result (List IndexEntry) ExcludedError
 ruled_out_after t root setup made done [] = Ok done
 ruled_out_after t root setup made done (e ∷ entries) =
-    and_then (λ excluded. ruled_out_after t root setup made (with_one done e excluded) entries) (ruled_out t root setup made e)
+    and_then (λ excluded. ruled_out_after t root setup made (with_one done e excluded) entries) (excluded_index_entries t root setup made e)
 
 -- ---- by patterns alone
 
@@ -109,7 +109,7 @@ matched_out t root patterns case entries = filter (is_matched_out t root pattern
 -- whether it is that of a directory.
 abbrev pub excluded_in : Names → List ℕ → Setup → Listing → Result (List IndexEntry) ExcludedError
 excluded_in t root setup l =
-    if are_alone l then Ok (matched_out t root (patterns_of setup) (case_of setup.options.ignore_case) setup.index)
+    if has_only_given_patterns l then Ok (matched_out t root (patterns_of setup) (case_of setup.options.ignore_case) setup.index)
     else ruled_out_after t root setup (rules_of root setup) [] setup.index
 
 -- they are listed as an index that has these alone is

@@ -16,8 +16,8 @@ use Rattle.worktree_report.specs.declared.report.ReportEntry.{ReportEntry}
 use Rattle.worktree_report.specs.declared.setup.Setup.{Setup}
 use Rattle.worktree_stack.specs.Mappings.{case_of}
 use Rattle.ls_files.specs.declared.options.Listing.{Listing}
-use Rattle.ls_files.specs.Alone.{are_alone, is_excluded, patterns_of}
-use Rattle.ls_files.specs.Others.{above, as_directory, has_beneath, is_plain, is_untracked, name, name_unless, place_at, shows_empty, with_name}
+use Rattle.ls_files.specs.Alone.{has_only_given_patterns, is_excluded, patterns_of}
+use Rattle.ls_files.specs.Others.{directories_above_path, as_directory, has_beneath, is_plain, is_untracked, name, name_unless, place_at, shows_empty, with_name}
 use Rattle.ls_files.specs.Places.{Judged, Place}
 
 -- only what is ignored is shown, and directories in the place of what they hold
@@ -28,7 +28,7 @@ shows_ignored_directories l = l.ignored && l.directories
 
 -- the patterns of the command line where the walk asks no rules, else none
 abbrev pub patterns_for : Listing → Setup → List Rules
-patterns_for l setup = if are_alone l then patterns_of setup else []
+patterns_for l setup = if has_only_given_patterns l then patterns_of setup else []
 
 abbrev pub is_ignored : Status → Bool
 is_ignored (Ignored kind) = true
@@ -50,11 +50,11 @@ is_left_to patterns case entries path at = is_slash (slice_index path at) && is_
 
 -- the highest one above a path
 abbrev pub left_above : List Rules → Case → List IndexEntry → List ℕ → Option (List ℕ)
-left_above patterns case entries path = find (is_left patterns case entries) (above path)
+left_above patterns case entries path = find (is_left patterns case entries) (directories_above_path path)
 
 -- where directories without files are not shown, it matters what lies in it
 abbrev pub leaves_directories : Listing → Bool
-leaves_directories l = shows_empty l && are_alone l
+leaves_directories l = shows_empty l && has_only_given_patterns l
 
 abbrev pub left_for : Listing → List Rules → Case → List IndexEntry → List ℕ → Option (List ℕ)
 left_for l patterns case entries path = if leaves_directories l then left_above patterns case entries path else None
@@ -86,12 +86,12 @@ all_judged l patterns case entries (e ∷ found) = with_judged (judged l pattern
 -- ---- directories of which all is ignored
 
 -- some directories, in the order of their bytes, with those above what is not ignored
-abbrev pub mixed_by : List (List ℕ) → Judged → List (List ℕ)
-mixed_by mixed j = if j.ignored then mixed else ordered_after mixed (above j.place.path)
+abbrev pub add_directories_above : List (List ℕ) → Judged → List (List ℕ)
+add_directories_above mixed j = if j.ignored then mixed else ordered_after mixed (directories_above_path j.place.path)
 
 abbrev pub mixed_after : List (List ℕ) → List Judged → List (List ℕ)
 mixed_after mixed [] = mixed
-mixed_after mixed (j ∷ all) = mixed_after (mixed_by mixed j) all
+mixed_after mixed (j ∷ all) = mixed_after (add_directories_above mixed j) all
 
 -- those in which something is not ignored
 abbrev pub mixed : List Judged → List (List ℕ)
@@ -117,7 +117,7 @@ all_whole_too entries mixed names (d ∷ directories) = all_whole_too entries mi
 
 -- what is ignored is shown, and each directory above it of which all is
 abbrev pub shown_beside : List IndexEntry → List (List ℕ) → List (List ℕ) → Place → List (List ℕ)
-shown_beside entries mixed names place = all_whole_too entries mixed (named_too entries names place) (above place.path)
+shown_beside entries mixed names place = all_whole_too entries mixed (named_too entries names place) (directories_above_path place.path)
 
 -- the index has nothing in a directory
 abbrev pub is_unknown : List IndexEntry → List ℕ → Bool
@@ -128,7 +128,7 @@ is_unknown_to entries path at = is_slash (slice_index path at) && is_unknown ent
 
 -- the highest such directory above a path
 abbrev pub unknown_above : List IndexEntry → List ℕ → Option (List ℕ)
-unknown_above entries path = find (is_unknown entries) (above path)
+unknown_above entries path = find (is_unknown entries) (directories_above_path path)
 
 -- "--no-empty-directory: Do not list empty directories": git then looks into the highest directory alone for a file, and shows nothing beneath
 abbrev pub shown_instead : List IndexEntry → List (List ℕ) → List (List ℕ) → Place → Option (List ℕ) → List (List ℕ)

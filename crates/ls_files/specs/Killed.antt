@@ -13,7 +13,7 @@ use Rattle.ls_files.specs.declared.options.Listing.{Listing}
 use Rattle.ls_files.specs.declared.options.NamedSpec.{NamedSpec}
 use Rattle.ls_files.specs.Choices.{is_of_a_merge}
 use Rattle.ls_files.specs.Lines.{killed_line}
-use Rattle.ls_files.specs.Others.{above, as_directory, has_beneath, has_entry, name, place_at, place_of, shows_empty, with_name}
+use Rattle.ls_files.specs.Others.{directories_above_path, as_directory, has_beneath, has_entry, name, place_at, place_of, shows_empty, with_name}
 use Rattle.ls_files.specs.Places.{Place}
 
 -- ---- a directory in the place of a file
@@ -32,7 +32,7 @@ is_file_to entries name at = is_slash (slice_index name at) && has_merged entrie
 
 -- a directory above what is shown is to be a file
 abbrev pub is_in_file : List IndexEntry → List ℕ → Bool
-is_in_file entries name = list_any (has_merged entries) (above name)
+is_in_file entries name = list_any (has_merged entries) (directories_above_path name)
 
 -- ---- a file in the place of a directory
 
@@ -49,8 +49,8 @@ abbrev pub is_longer : List ℕ → IndexEntry → Bool
 is_longer name e = not (is_of_a_merge e) && not (bytes_eq e.path name)
 
 -- the next of them
-abbrev pub next : List IndexEntry → List ℕ → Option IndexEntry
-next entries name = find (is_longer name) (run_of entries name)
+abbrev pub find_longer_merged_entry : List IndexEntry → List ℕ → Option IndexEntry
+find_longer_merged_entry entries name = find (is_longer name) (run_of entries name)
 
 -- a slash stands behind the name with which its path begins
 abbrev pub is_beneath : List ℕ → Option IndexEntry → Bool
@@ -60,7 +60,7 @@ is_beneath name (Some e) = is_slash (slice_index e.path (length name))
 -- What is shown is to be a directory. Git looks at the next merged entry alone: with `a.c` and `a/b` in the index a file `a` is not told,
 -- since `.` stands before the slash.
 abbrev pub is_directory_next : List IndexEntry → List ℕ → Bool
-is_directory_next entries name = is_beneath name (next entries name)
+is_directory_next entries name = is_beneath name (find_longer_merged_entry entries name)
 
 abbrev pub is_directory_to_be : List IndexEntry → List ℕ → Bool
 is_directory_to_be entries name = not (ends_in_slash name) && is_directory_next entries name
@@ -81,7 +81,7 @@ is_known_to entries name at = not (is_slash (slice_index name at)) || is_known e
 
 -- all directories above what is shown are
 abbrev pub are_known : List IndexEntry → List ℕ → Bool
-are_known entries name = list_all (is_known entries) (above name)
+are_known entries name = list_all (is_known entries) (directories_above_path name)
 
 -- Without `-o` git does not enter a directory of which the index has nothing, so that what lies in it is not told, also beneath one that is
 -- to be a file.

@@ -20,9 +20,9 @@ use Rattle.worktree_report.specs.Orderly.{IsOrderly}
 use Rattle.ls_files.specs.declared.listed.Listed.{Listed}
 use Rattle.ls_files.specs.declared.options.Listing.{Listing}
 use Rattle.ls_files.specs.declared.options.NamedSpec.{NamedSpec}
-use Rattle.ls_files.specs.Alone.{sifted, unsifted}
+use Rattle.ls_files.specs.Alone.{filter_names_by_patterns, listing_before_pattern_filter}
 use Rattle.ls_files.specs.Cached.{index_text}
-use Rattle.ls_files.specs.Choices.{chosen, walks}
+use Rattle.ls_files.specs.Choices.{entries_to_list, walks}
 use Rattle.ls_files.specs.IgnoredDirectories.{ignored_names, shows_ignored_directories}
 use Rattle.ls_files.specs.Killed.{killed, killed_text}
 use Rattle.ls_files.specs.Others.{others, others_text}
@@ -34,7 +34,7 @@ use Rattle.ls_files.specs.Unmatched.{complaint, places_of}
 abbrev pub names_found : Listing → Setup → List NamedSpec → List ReportEntry → List (List ℕ)
 names_found l setup named found =
     if shows_ignored_directories l then ignored_names l setup found
-    else sifted l setup (others (unsifted l) setup.index setup.specs named found)
+    else filter_names_by_patterns l setup (others (listing_before_pattern_filter l) setup.index setup.specs named found)
 
 -- the same, where it is asked for
 abbrev pub names_for : Listing → Setup → List NamedSpec → List ReportEntry → List (List ℕ)
@@ -51,7 +51,7 @@ out_text l prefix specs entries names ways =
 
 abbrev pub err_text : Listing → List NamedSpec → List IndexEntry → List (List ℕ) → List (List ℕ) → List ℕ
 err_text l named entries names ways =
-    if l.error_unmatch then complaint named (places_of (chosen l entries) (names ++ ways)) else []
+    if l.error_unmatch then complaint named (places_of (entries_to_list l entries) (names ++ ways)) else []
 
 abbrev pub listed_with : Listing → List ℕ → List NamedSpec → List PathSpec → List IndexEntry → List (List ℕ) → List (List ℕ) → Listed
 listed_with l prefix named specs entries names ways =

@@ -40,8 +40,8 @@ above_after passed [] = []
 above_after passed (b ∷ rest) =
     if is_slash b then passed ∷ above_after (passed ++ b ∷ []) rest else above_after (passed ++ b ∷ []) rest
 
-abbrev pub above : List ℕ → List (List ℕ)
-above path = above_after [] path
+abbrev pub directories_above_path : List ℕ → List (List ℕ)
+directories_above_path path = above_after [] path
 
 -- an entry of the index lies beneath a directory, by its name
 abbrev pub has_beneath : List IndexEntry → List ℕ → Bool
@@ -87,7 +87,7 @@ is_closed_at entries all name at = is_slash (slice_index name at) && is_closed e
 
 -- git does not come to what has a name: it is that of such a directory, or lies in one
 abbrev pub is_unseen : List IndexEntry → List NamedSpec → List ℕ → Bool
-is_unseen entries all name = list_any (is_closed entries all) (above name)
+is_unseen entries all name = list_any (is_closed entries all) (directories_above_path name)
 
 -- ---- an entry by itself
 
@@ -141,13 +141,13 @@ is_always Verbatim = false
 
 -- The path specs match a directory, with a slash behind it. Where one names it, and what it holds is ignored, the directory may be ignored
 -- itself: then it is not shown.
-abbrev pub opens : Bool → Option Match → Bool
-opens ignored None = false
-opens ignored (Some m) = not m.excluded && (not ignored || is_always m.kind)
+abbrev pub allows_folded_directory : Bool → Option Match → Bool
+allows_folded_directory ignored None = false
+allows_folded_directory ignored (Some m) = not m.excluded && (not ignored || is_always m.kind)
 
 -- the same of a name alone: nothing of the index lies beneath it, and the path specs match it
 abbrev pub is_other : List IndexEntry → List PathSpec → Bool → List ℕ → Bool
-is_other entries specs ignored name = not (has_beneath entries name) && opens ignored (list_match specs name (Some true))
+is_other entries specs ignored name = not (has_beneath entries name) && allows_folded_directory ignored (list_match specs name (Some true))
 
 -- "--directory: If a whole directory is classified as "other", show just its name with a trailing slash and not its whole contents": the
 -- index has nothing in it
@@ -174,7 +174,7 @@ fills l entries specs all e = l.directories && (l.empty_directories || is_shown 
 
 -- the highest directory above an entry that is shown in its place
 abbrev pub top : List IndexEntry → List PathSpec → Bool → List ℕ → Option (List ℕ)
-top entries specs ignored path = find (folds entries specs ignored) (above path)
+top entries specs ignored path = find (folds entries specs ignored) (directories_above_path path)
 
 -- unless git does not come to it
 abbrev pub if_seen : List IndexEntry → List NamedSpec → List ℕ → Option Place

@@ -35,12 +35,12 @@ sees_by all place None = false
 sees_by all place (Some m) = if is_excluding m then is_named all place else true
 
 -- A path is what a spec is about: the spec matches it; or it excludes, and another matches the path, which it may then take out.
-abbrev pub sees : List NamedSpec → NamedSpec → Place → Bool
-sees all named place = sees_by all place (match_alone place named)
+abbrev pub counts_as_match : List NamedSpec → NamedSpec → Place → Bool
+counts_as_match all named place = sees_by all place (match_alone place named)
 
 -- some path is what the spec is about
 abbrev pub is_seen : List NamedSpec → List Place → NamedSpec → Bool
-is_seen all places named = list_any (sees all named) places
+is_seen all places named = list_any (counts_as_match all named) places
 
 abbrev pub is_unmatched : List NamedSpec → List Place → NamedSpec → Bool
 is_unmatched all places named = not (is_seen all places named)

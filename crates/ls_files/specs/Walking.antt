@@ -27,8 +27,8 @@ deletion_for l = if asks_inside l then Some FindNonBareRepositoriesInIgnoredDire
 
 -- Options with those set that a listing needs: each path by itself and none folded; what is left out, as path specs are asked here
 -- about directories; directories without names, where these are shown; and git's rule that what an ignored directory holds is ignored. All others stay.
-abbrev pub walking : Listing → SetupOptions → SetupOptions
-walking l options =
+abbrev pub walk_options_for_listing : Listing → SetupOptions → SetupOptions
+walk_options_for_listing l options =
     record options {
       excludes = asks_rules l;
       strict_parents = true;

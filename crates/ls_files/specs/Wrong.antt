@@ -10,7 +10,7 @@ use Rattle.ls_files.specs.declared.options.Listing.{Listing}
 use Rattle.ls_files.specs.declared.wrong.WrongListing.{WrongListing}
 use Rattle.ls_files.specs.declared.wrong.WrongListing.TheVariants as wrong
 use Rattle.ls_files.specs.Choices.{asks_rules, shows_index, walks}
-use Rattle.ls_files.specs.Alone.{are_alone}
+use Rattle.ls_files.specs.Alone.{has_only_given_patterns}
 
 -- "-i: Show only ignored files in the output. Must be used with either an explicit -c or -o."
 abbrev pub lacks_kind : Listing → Bool
@@ -37,19 +37,19 @@ shows_directories l = l.others && (l.directories && not l.ignored)
 
 -- patterns alone are asked here about what the index does not have, each path by itself
 abbrev pub wrong_rules : Listing → Option WrongListing
-wrong_rules l = if are_alone l && (l.killed || shows_directories l) then Some wrong.PatternsAlone else None
+wrong_rules l = if has_only_given_patterns l && (l.killed || shows_directories l) then Some wrong.PatternsAlone else None
 
 -- a sparse index has an entry in the place of a directory
 abbrev pub is_sparse : IndexEntry → Bool
 is_sparse e = mode_bits e.mode == dir_mode
 
 -- git reads what it stands for from objects
-abbrev pub wrong_index : Listing → List IndexEntry → Option WrongListing
-wrong_index l entries = if (shows_index l || l.killed) && list_any is_sparse entries then Some wrong.SparseIndex else None
+abbrev pub refusal_of_sparse_index : Listing → List IndexEntry → Option WrongListing
+refusal_of_sparse_index l entries = if (shows_index l || l.killed) && list_any is_sparse entries then Some wrong.SparseIndex else None
 
 -- why there is no such listing of an index
 abbrev pub wrong_in : Listing → List IndexEntry → Option WrongListing
-wrong_in l entries = option_or (wrong_if_ignored l) (option_or (wrong_rules l) (wrong_index l entries))
+wrong_in l entries = option_or (wrong_if_ignored l) (option_or (wrong_rules l) (refusal_of_sparse_index l entries))
 
 -- Ignored directories are shown of a whole work tree alone: none where path specs are written, or one is meant since the command is called in a
 -- directory.

@@ -14,18 +14,18 @@ use std::alloc::Global;
 use worktree_report::Setup;
 
 /// Whether there are patterns, and the walk asks no rules.
-pub fn are_alone(listing: &Listing) -> bool
-    ensures { result ≡ words.are_alone listing.now }
+pub fn has_only_given_patterns(listing: &Listing) -> bool
+    ensures { result ≡ words.has_only_given_patterns listing.now }
 {
     listing.patterns && !asks_rules(listing)
 }
 
 /// The listing of all that is looked at then.
-pub fn unsifted(listing: &Listing) -> Listing
-    ensures { result ≡ words.unsifted listing.now }
+pub fn listing_before_pattern_filter(listing: &Listing) -> Listing
+    ensures { result ≡ words.listing_before_pattern_filter listing.now }
 {
     let mut listing = *listing;
-    if are_alone(&listing) {
+    if has_only_given_patterns(&listing) {
         listing.ignored = false;
     }
     listing
@@ -152,16 +152,16 @@ fn left_by(
 /// Of the names of what the index does not have those that are shown.
 ///
 /// See docs/DECISIONS.md#patterns-alone.
-pub fn sifted(
+pub fn filter_names_by_patterns(
     alloc: Global,
     listing: &Listing,
     setup: &Setup,
     names: Vec<Bytes>,
 ) -> Result<Vec<Bytes>, OutOfMemory>
     ensures { IfOk result
-        (λ left. left.items ≡ words.sifted listing.now setup.now names.items) }
+        (λ left. left.items ≡ words.filter_names_by_patterns listing.now setup.now names.items) }
 {
-    if !are_alone(listing) {
+    if !has_only_given_patterns(listing) {
         return Ok(names);
     }
     let rules = patterns_of(alloc, setup.globals.as_bytes(), setup.overrides.as_bytes())?;

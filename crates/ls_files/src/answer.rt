@@ -9,7 +9,9 @@ use crate::options::{Listing, NamedSpec};
 use gitbase_core::Find;
 use std::alloc::Global;
 use worktree_fs::Interrupt;
-use worktree_report::{CountsFaults, Refusal, Setup, has_failed_since, of_report, worktree_report};
+use worktree_report::{
+    CountsFaults, Refusal, Setup, has_failed_since, refusal_of_report_error, worktree_report,
+};
 
 /// What is listed of the work tree at `root`, by a report that is made for it.
 fn list_walked<W: CountsFaults, I: Interrupt>(
@@ -36,7 +38,7 @@ fn list_walked<W: CountsFaults, I: Interrupt>(
             let found = report.entries.as_slice();
             Ok(list_found(alloc, listing, prefix, named, setup, found)?)
         }
-        Err(error) => Err(of_report(alloc, error)?),
+        Err(error) => Err(refusal_of_report_error(alloc, error)?),
     }
 }
 

@@ -3,7 +3,7 @@ ghost use Rattle.std.specs.Prelude.{◌≡◌, ◌++◌, [], None, Ok, map, IsEr
 ghost use Rattle.std.specs.List.{list_any};
 ghost use Rattle.git_index.specs.IndexFile as files;
 ghost use Rattle.worktree_fs.specs.Kept.{Asks};
-ghost use Rattle.diff_files.specs.KeptStats.{AsksStats, Fails, FailsNot, Outside, Tells};
+ghost use Rattle.diff_files.specs.KeptStats.{AsksStats, Fails, KeepsFaultCounts, TreeAndStats, Tells};
 ghost use Rattle.ls_files.specs.declared.changed_error.ChangedError.TheVariants.{Fault as fault};
 ghost use Rattle.ls_files.specs.Changed as words;
 ghost use Rattle.ls_files.specs.ChangedErrors as refusals;
@@ -151,16 +151,16 @@ fn shown_of<'a, W: Worktree, S: Stats>(
     entries: &'a [IndexEntry],
     details: &[Detail],
 ) -> Result<Vec<Shown<'a>>, ChangedError>
-    ensures gives { (o : Outside) → Tells (W.told worktree.old) (S.told stats.old) o
+    ensures gives { (o : TreeAndStats) → Tells (W.told worktree.old) (S.told stats.old) o
         → IfOk result (λ shown. words.shown_by o query.now entries.now details.now
         ≡ Ok shown.items) }
-    ensures refused { (o : Outside) → Tells (W.told worktree.old) (S.told stats.old) o
+    ensures refused { (o : TreeAndStats) → Tells (W.told worktree.old) (S.told stats.old) o
         → IfErr result (refusals.RefusesBy
         (words.shown_by o query.now entries.now details.now)) }
     ensures cause { IsErrOf result fault
         → Fails W.Worktree S.Stats worktree.old worktree.new stats.old stats.new }
     ensures unfaulted { refusals.UnlessFault result
-        (FailsNot W.Worktree S.Stats worktree.old worktree.new stats.old stats.new) }
+        (KeepsFaultCounts W.Worktree S.Stats worktree.old worktree.new stats.old stats.new) }
     ensures worktree { Asks W.Worktree worktree.old worktree.new }
     ensures stats { AsksStats S.Stats stats.old stats.new }
 {

@@ -5,14 +5,14 @@ ghost use Rattle.ls_files.specs.Alone.{patterns_of};
 ghost use Rattle.ls_files.specs.Excluded as words;
 ghost use Rattle.ls_files.specs.Finds.{Finds};
 
-use crate::alone::{are_alone, case_of, is_path_excluded, patterns_of};
+use crate::alone::{case_of, has_only_given_patterns, is_path_excluded, patterns_of};
 use crate::cached::walks;
 use crate::entries::Entries;
 use crate::excluded_error::ExcludedError;
 use crate::is_directory_at::is_directory_at;
 use crate::listed::{Listed, list_entries};
 use crate::options::{Listing, NamedSpec};
-use crate::ruled_out::ruled_out;
+use crate::ruled_out::excluded_index_entries;
 use crate::wrong::{WrongListing, has_rules, has_sparse};
 use gitbase_core::{IndexEntry, OutOfMemory, State};
 use glob_rules::Case;
@@ -108,10 +108,10 @@ fn excluded_in<W: Worktree>(
     ensures { Finds W.Worktree worktree.old worktree.new
         (λ t. words.excluded_in t root.now setup.now listing.now) result }
 {
-    if are_alone(listing) {
+    if has_only_given_patterns(listing) {
         return matched_out_by(alloc, worktree, root, setup);
     }
-    ruled_out(alloc, worktree, root, setup)
+    excluded_index_entries(alloc, worktree, root, setup)
 }
 
 /// What is listed of entries.

@@ -3,7 +3,7 @@ ghost use Rattle.std.specs.Prelude.{◌≡◌, ◌<◌, bytes_eq, IfOk, OnOk, le
 ghost use Rattle.std.specs.List.{list_any};
 ghost use Rattle.worktree_report.specs.SetupMeant.{ordered_after};
 ghost use Rattle.ls_files.specs.IgnoredDirectories as words;
-ghost use Rattle.ls_files.specs.Others.{above, as_directory, has_beneath, name};
+ghost use Rattle.ls_files.specs.Others.{directories_above_path, as_directory, has_beneath, name};
 
 use crate::alone::case_of;
 use crate::judged::{Judged, all_judged, patterns_for};
@@ -30,7 +30,8 @@ fn add_leading_directories(
     mixed: &mut BTreeSet<Bytes>,
     path: &[u8],
 ) -> Result<(), OutOfMemory>
-    ensures { OnOk result (mixed.new.keys ≡ ordered_after mixed.old.keys (above path.now)) }
+    ensures { OnOk result (mixed.new.keys ≡ ordered_after mixed.old.keys (directories_above_path
+        path.now)) }
 {
     let mut at = 0;
     while at < path.len() {
@@ -48,7 +49,7 @@ fn add_mixed(
     mixed: &mut BTreeSet<Bytes>,
     judged: &Judged<'_>,
 ) -> Result<(), OutOfMemory>
-    ensures { OnOk result (mixed.new.keys ≡ words.mixed_by mixed.old.keys judged.now) }
+    ensures { OnOk result (mixed.new.keys ≡ words.add_directories_above mixed.old.keys judged.now) }
 {
     if judged.is_ignored() {
         return Ok(());
@@ -149,7 +150,8 @@ fn add_all_whole(
     path: &[u8],
 ) -> Result<(), OutOfMemory>
     ensures { OnOk result (names.new.keys
-        ≡ words.all_whole_too index.now mixed.now.keys names.old.keys (above path.now)) }
+        ≡ words.all_whole_too index.now mixed.now.keys names.old.keys (directories_above_path
+        path.now)) }
 {
     let mut at = 0;
     while at < path.len() {

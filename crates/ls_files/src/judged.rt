@@ -4,7 +4,7 @@ ghost use Rattle.std.specs.Prelude.{◌≡◌, ◌++◌, ◌<◌, [], IfOk, OnOk
 ghost use Rattle.worktree_stack.specs.Mappings.{case_of};
 ghost use Rattle.ls_files.specs.IgnoredDirectories as words;
 
-use crate::alone::{are_alone, is_path_excluded, patterns_of};
+use crate::alone::{has_only_given_patterns, is_path_excluded, patterns_of};
 use crate::options::Listing;
 use crate::others::{has_beneath, is_plain, is_untracked, place_at};
 use crate::place::Place;
@@ -55,7 +55,7 @@ impl<'a> Judged<'a> {
 pub fn patterns_for(alloc: Global, listing: &Listing, setup: &Setup) -> Result<Search, OutOfMemory>
     ensures { IfOk result (λ rules. rules ≡ words.patterns_for listing.now setup.now) }
 {
-    if are_alone(listing) {
+    if has_only_given_patterns(listing) {
         return patterns_of(alloc, setup.globals.as_bytes(), setup.overrides.as_bytes());
     }
     Ok(Search::new(alloc))
@@ -108,7 +108,7 @@ fn left_above<'a>(patterns: &Search, case: Case, index: &State, path: &'a [u8]) 
 fn leaves_directories(listing: &Listing) -> bool
     ensures { result ≡ words.leaves_directories listing.now }
 {
-    shows_empty(listing) && are_alone(listing)
+    shows_empty(listing) && has_only_given_patterns(listing)
 }
 
 /// The highest such directory above a path, where they are left.

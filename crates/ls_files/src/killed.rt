@@ -70,8 +70,8 @@ fn is_longer(name: &[u8], entry: &IndexEntry) -> bool
 }
 
 /// The first such entry.
-fn next<'a>(index: &'a State, name: &[u8]) -> Option<&'a IndexEntry>
-    ensures { option_copied result ≡ words.next index.now name.now }
+fn find_longer_merged_entry<'a>(index: &'a State, name: &[u8]) -> Option<&'a IndexEntry>
+    ensures { option_copied result ≡ words.find_longer_merged_entry index.now name.now }
 {
     run_of(index, name)
         .iter()
@@ -95,7 +95,7 @@ fn is_directory_to_be(index: &State, name: &[u8]) -> bool
     if ends_in_slash(name) {
         return false;
     }
-    is_beneath(name, next(index, name))
+    is_beneath(name, find_longer_merged_entry(index, name))
 }
 
 /// Whether what has a name lies in the way of the index.

@@ -53,13 +53,13 @@ fn letter_shown(listing: &Listing, entry: &IndexEntry) -> u8
     ensures { result ≡ lines.letter_shown listing.now entry.now }
 {
     if is_small(listing, entry) {
-        return small(entry);
+        return lowercase_tag(entry);
     }
     letter(entry)
 }
 
 /// The letter of an entry, as a small one.
-fn small(entry: &IndexEntry) -> u8
+fn lowercase_tag(entry: &IndexEntry) -> u8
     ensures { result ≡ lines.letter entry.now + 32 }
 {
     letter(entry) + 32
@@ -178,7 +178,7 @@ fn small_by(sign: Sign, entry: &IndexEntry) -> u8
     ensures { result ≡ lines.letter_by sign entry.now + 32 }
 {
     match sign {
-        Sign::Kept => small(entry),
+        Sign::Kept => lowercase_tag(entry),
         Sign::Gone => b'r',
         Sign::Modified => b'c',
     }

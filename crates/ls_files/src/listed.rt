@@ -1,10 +1,10 @@
 //! What is listed, by the entries of a report.
 ghost use Rattle.std.specs.Prelude.{◌≡◌, ◌++◌, [], map, IfOk, OnOk};
-ghost use Rattle.ls_files.specs.Choices.{chosen};
+ghost use Rattle.ls_files.specs.Choices.{entries_to_list};
 ghost use Rattle.ls_files.specs.Listed as words;
 ghost use Rattle.ls_files.specs.Unmatched.{place_of_entry, place_of_name, places_of};
 
-use crate::alone::{sifted, unsifted};
+use crate::alone::{filter_names_by_patterns, listing_before_pattern_filter};
 use crate::cached::{add_index, is_directory, is_next};
 use crate::ignored_directories::{ignored_names, shows_ignored_directories};
 use crate::killed::{add_all_killed, killed};
@@ -59,7 +59,7 @@ fn add_entries<'a>(
     entries: &'a [IndexEntry],
 ) -> Result<(), OutOfMemory>
     ensures { OnOk result (places.new.items
-        ≡ places.old.items ++ map place_of_entry (chosen listing.now entries.now)) }
+        ≡ places.old.items ++ map place_of_entry (entries_to_list listing.now entries.now)) }
 {
     let mut last = None;
     for entry in entries {
@@ -72,7 +72,7 @@ fn add_entries<'a>(
 }
 
 /// What is told of path specs, where that is asked for.
-fn told(
+fn unmatched_error_text(
     alloc: Global,
     listing: &Listing,
     named: &[NamedSpec],
@@ -110,9 +110,9 @@ fn names_for(
     if shows_ignored_directories(listing) {
         return ignored_names(alloc, listing, setup, found);
     }
-    let all = unsifted(listing);
+    let all = listing_before_pattern_filter(listing);
     let names = others(alloc, &all, &setup.index, &setup.specs, named, found)?;
-    sifted(alloc, listing, setup, names)
+    filter_names_by_patterns(alloc, listing, setup, names)
 }
 
 /// The names of what lies in the way of the index, where that is asked for.
@@ -134,7 +134,7 @@ fn killed_for(
 }
 
 /// The lines of names, and behind them those of the index.
-fn shown(
+fn format_listed_lines(
     alloc: Global,
     listing: &Listing,
     prefix: &[u8],
@@ -167,8 +167,8 @@ fn listed_with(
     ensures { IfOk result (λ made. made ≡ words.listed_with listing.now prefix.now named.now
         specs.now entries.now names.now ways.now) }
 {
-    let out = shown(alloc, listing, prefix, specs, entries, names, ways)?;
-    let err = told(alloc, listing, named, entries, names, ways)?;
+    let out = format_listed_lines(alloc, listing, prefix, specs, entries, names, ways)?;
+    let err = unmatched_error_text(alloc, listing, named, entries, names, ways)?;
     Ok(Listed { out, err })
 }
 

@@ -137,8 +137,8 @@ fn is_always(kind: MatchKind) -> bool
 }
 
 /// Whether a directory that is matched so may be shown for what it holds.
-fn opens(ignored: bool, found: Option<Match>) -> bool
-    ensures { result ≡ words.opens ignored found }
+fn allows_folded_directory(ignored: bool, found: Option<Match>) -> bool
+    ensures { result ≡ words.allows_folded_directory ignored found }
 {
     let Some(found) = found else {
         return false;
@@ -164,7 +164,7 @@ fn is_other(index: &State, specs: &Search, ignored: bool, name: &[u8]) -> bool
         return false;
     }
     let found = specs.pattern_matching_relative_path(name, Some(true));
-    opens(ignored, found)
+    allows_folded_directory(ignored, found)
 }
 
 /// The same of a directory by its path.

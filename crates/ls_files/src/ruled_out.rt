@@ -164,7 +164,8 @@ fn is_ruled_out<W: Worktree>(
     ensures in_step { (t : Names) → W.told worktree.old ≡ Some t
         → IsInStep (read_in t setup.now) stack.new }
     ensures finds { Finds W.Worktree worktree.old worktree.new
-        (λ t. words.ruled_out t root.now setup.now (made_of stack.old) entry.now) result }
+        (λ t. words.excluded_index_entries t root.now setup.now (made_of stack.old) entry.now)
+        result }
 {
     let path = entry.path.as_bytes();
     let is_dir = is_directory_at(alloc, worktree, root, path)?;
@@ -195,7 +196,7 @@ fn ruled_out_by<W: Worktree>(
 
 /// The entries of the index of a setup that its rules exclude. Each rules file is read once, as
 /// long as the entries beneath its directory follow each other.
-pub fn ruled_out<W: Worktree>(
+pub fn excluded_index_entries<W: Worktree>(
     alloc: Global,
     worktree: &mut W,
     root: &[u8],

@@ -3,7 +3,7 @@ ghost use Rattle.std.specs.Prelude.{◌≡◌, Some, IsErrOf, IfOk};
 ghost use Rattle.worktree_fs.specs.Answers.{UnlessFault};
 ghost use Rattle.worktree_fs.specs.Causes.{Increased};
 ghost use Rattle.worktree_fs.specs.Kept.{Asks};
-ghost use Rattle.diff_files.specs.KeptStats.{AsksStats, Fails, FailsNot, Outside, Tells};
+ghost use Rattle.diff_files.specs.KeptStats.{AsksStats, Fails, KeepsFaultCounts, TreeAndStats, Tells};
 ghost use Rattle.diff_files.specs.Rows as rows;
 ghost use Rattle.ls_files.specs.Changed as words;
 
@@ -114,7 +114,7 @@ fn is_looked_at<S: Stats>(
     query: &ChangeQuery<'_>,
     entry: &IndexEntry,
 ) -> Result<bool, ReadError>
-    ensures is { (o : Outside) → S.told stats.old ≡ Some o.stats
+    ensures is { (o : TreeAndStats) → S.told stats.old ≡ Some o.stats
         → IfOk result (λ is. is ≡ words.is_looked_at_by o query.now entry.now) }
     ensures kept { AsksStats S.Stats stats.old stats.new }
     ensures cause { IsErrOf result ReadError.Fault
@@ -136,7 +136,7 @@ fn looked_at<W: Worktree, S: Stats>(
     entry: &IndexEntry,
     detail: &Detail,
 ) -> Result<Result<PathChange, Unsupported>, ReadError>
-    ensures standing { (o : Outside) → Tells (W.told worktree.old) (S.told stats.old) o
+    ensures standing { (o : TreeAndStats) → Tells (W.told worktree.old) (S.told stats.old) o
         → IfOk result (λ change. change ≡ words.looked_at o query.now.root.now
         query.now.comparison.now query.now.standings entry.now detail.now) }
     ensures worktree { Asks W.Worktree worktree.old worktree.new }
@@ -144,7 +144,7 @@ fn looked_at<W: Worktree, S: Stats>(
     ensures cause { IsErrOf result ReadError.Fault
         → Fails W.Worktree S.Stats worktree.old worktree.new stats.old stats.new }
     ensures unfaulted { UnlessFault result
-        (FailsNot W.Worktree S.Stats worktree.old worktree.new stats.old stats.new) }
+        (KeepsFaultCounts W.Worktree S.Stats worktree.old worktree.new stats.old stats.new) }
 {
     let root = query.root;
     let comparison = query.comparison;
@@ -165,14 +165,14 @@ pub fn change_of<W: Worktree, S: Stats>(
     entry: &IndexEntry,
     detail: &Detail,
 ) -> Result<Result<PathChange, Unsupported>, ReadError>
-    ensures change { (o : Outside) → Tells (W.told worktree.old) (S.told stats.old) o
+    ensures change { (o : TreeAndStats) → Tells (W.told worktree.old) (S.told stats.old) o
         → IfOk result (λ change. change ≡ words.change_by o query.now entry.now detail.now) }
     ensures worktree { Asks W.Worktree worktree.old worktree.new }
     ensures stats { AsksStats S.Stats stats.old stats.new }
     ensures cause { IsErrOf result ReadError.Fault
         → Fails W.Worktree S.Stats worktree.old worktree.new stats.old stats.new }
     ensures unfaulted { UnlessFault result
-        (FailsNot W.Worktree S.Stats worktree.old worktree.new stats.old stats.new) }
+        (KeepsFaultCounts W.Worktree S.Stats worktree.old worktree.new stats.old stats.new) }
 {
     if !is_looked_at(alloc, stats, query, entry)? {
         return Ok(Ok(PathChange::Same));

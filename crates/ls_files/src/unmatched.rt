@@ -43,8 +43,8 @@ pub fn is_named(all: &[NamedSpec], place: &Place<'_>) -> bool
 }
 
 /// Whether a path is what a spec is about.
-fn sees(all: &[NamedSpec], named: &NamedSpec, place: &Place<'_>) -> bool
-    ensures { result ≡ words.sees all.now named.now place.now }
+fn counts_as_match(all: &[NamedSpec], named: &NamedSpec, place: &Place<'_>) -> bool
+    ensures { result ≡ words.counts_as_match all.now named.now place.now }
 {
     match match_alone(place, named) {
         Some(found) if is_excluding(found) => is_named(all, place),
@@ -57,7 +57,9 @@ fn sees(all: &[NamedSpec], named: &NamedSpec, place: &Place<'_>) -> bool
 fn is_seen(all: &[NamedSpec], places: &[Place<'_>], named: &NamedSpec) -> bool
     ensures { result ≡ words.is_seen all.now places.now named.now }
 {
-    places.iter().any(|place| sees(all, named, place))
+    places
+        .iter()
+        .any(|place| counts_as_match(all, named, place))
 }
 
 /// Whether no path is what a spec is about.

@@ -57,7 +57,7 @@ fn deletion_for(listing: &Listing) -> Option<ForDeletionMode>
 ///
 /// See docs/DECISIONS.md#listing-by-leaves.
 pub fn walk_options(listing: &Listing, options: &SetupOptions) -> SetupOptions
-    ensures { result ≡ words.walking listing.now options.now }
+    ensures { result ≡ words.walk_options_for_listing listing.now options.now }
 {
     let mut options = *options;
     options.excludes = asks_rules(listing);

@@ -3,7 +3,7 @@ ghost use Rattle.std.specs.Prelude.{◌≡◌};
 ghost use Rattle.std.specs.List.{list_any};
 ghost use Rattle.ls_files.specs.Wrong as words;
 
-use crate::alone::are_alone;
+use crate::alone::has_only_given_patterns;
 use crate::cached::{asks_rules, shows_index, walks};
 use crate::options::Listing;
 use diff_files::Unsupported;
@@ -123,7 +123,7 @@ fn shows_directories(listing: &Listing) -> bool
 fn wrong_rules(listing: &Listing) -> Option<WrongListing>
     ensures { result ≡ words.wrong_rules listing.now }
 {
-    if !are_alone(listing) {
+    if !has_only_given_patterns(listing) {
         return None;
     }
     if listing.killed | shows_directories(listing) {
@@ -147,8 +147,8 @@ pub fn has_sparse(entries: &[IndexEntry]) -> bool
 }
 
 /// Why there is no listing of what an index has, or of what lies in its way.
-fn wrong_index(listing: &Listing, index: &State) -> Option<WrongListing>
-    ensures { result ≡ words.wrong_index listing.now index.now }
+fn refusal_of_sparse_index(listing: &Listing, index: &State) -> Option<WrongListing>
+    ensures { result ≡ words.refusal_of_sparse_index listing.now index.now }
 {
     if !(shows_index(listing) | listing.killed) {
         return None;
@@ -176,7 +176,7 @@ pub fn wrong_in(listing: &Listing, index: &State) -> Option<WrongListing>
     if second.is_some() {
         return second;
     }
-    wrong_index(listing, index)
+    refusal_of_sparse_index(listing, index)
 }
 
 /// Why there is no such listing of a part of a work tree; `whole` says that the whole is listed: no

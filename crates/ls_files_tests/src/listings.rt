@@ -8,7 +8,7 @@ use ls_files::{
     wrong_excluded, wrong_in,
 };
 use std::alloc::Global;
-use test_cases::{lines_of, parted, tree_of};
+use test_cases::{lines_of, split_at_byte, tree_of};
 use worktree_fs::PlannedInterrupt;
 use worktree_report::Setup;
 
@@ -82,7 +82,7 @@ fn listed_in(
     options: &[u8],
     specs: &[u8],
 ) -> Option<Listed> {
-    let (text, steps) = parted(tree, b'^');
+    let (text, steps) = split_at_byte(tree, b'^');
     let listing = listing_of(options);
     let setup = setup_for(alloc, text, &listing, options, specs)?;
     let named = all_named(alloc, specs)?;
@@ -123,7 +123,7 @@ fn lists(
     specs: &[u8],
     want: &[u8],
 ) -> bool {
-    let (out, err) = parted(want, b'^');
+    let (out, err) = split_at_byte(want, b'^');
     match listed_in(alloc, tree, prefix, options, specs) {
         Some(listed) => is_printed(alloc, &listed, out, err),
         None => false,
@@ -132,10 +132,10 @@ fn lists(
 
 /// Whether a row is met.
 fn is_met(alloc: Global, row: &[u8]) -> bool {
-    let (number, rest) = parted(row, b'^');
-    let (prefix, rest) = parted(rest, b'^');
-    let (options, rest) = parted(rest, b'^');
-    let (specs, want) = parted(rest, b'^');
+    let (number, rest) = split_at_byte(row, b'^');
+    let (prefix, rest) = split_at_byte(rest, b'^');
+    let (options, rest) = split_at_byte(rest, b'^');
+    let (specs, want) = split_at_byte(rest, b'^');
     match tree_at(number) {
         Some(tree) => lists(alloc, tree, prefix, options, specs, want),
         None => false,

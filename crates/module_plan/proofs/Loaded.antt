@@ -15,8 +15,8 @@ use Rattle.worktree_fs.specs.declared.worktree.Worktree.{Ghosts as WorktreeOf}
 use Rattle.worktree_report.specs.declared.error.ReportError.{ReportError}
 use Rattle.worktree_report.specs.declared.error.ReportError.TheVariants as reports
 use Rattle.worktree_report.specs.declared.refusal.Refusal.TheVariants as refusals
-use Rattle.worktree_report.specs.Converted.{of_report}
-use Rattle.worktree_report.specs.Loading.{and_then, files_of, known_by, known_in, modules_in, with_specs, IsKnown}
+use Rattle.worktree_report.specs.Converted.{refusal_of_report_error}
+use Rattle.worktree_report.specs.Loading.{and_then, files_of, known_by, known_in, modules_in, with_active_platform, IsKnown}
 use Rattle.worktree_report.specs.Loads.{OfModules}
 use Rattle.worktree_report.specs.Outside.{files_to, IsOutside, Stops, StopsAt}
 use Rattle.module_plan.specs.declared.step.ModulePlan.{ModulePlan}
@@ -28,7 +28,7 @@ use Rattle.module_plan.specs.declared.error.ModuleError.{ModuleError}
 use Rattle.module_plan.specs.declared.error.ModuleError.TheVariants as errors
 use Rattle.module_plan.specs.Plans.{Ascends, IsPlan, Refuses, refused_value}
 use Rattle.module_plan.specs.Wanted.{Asked}
-use Rattle.module_plan.specs.Run.{asking, of_module, text_by, unless_refused}
+use Rattle.module_plan.specs.Run.{asking, refusal_of_module_error, text_by, unless_refused}
 use Rattle.module_plan.proofs.Lined.{lines-by_path}
 
 -- which refusal is answered
@@ -40,19 +40,19 @@ which is = cc
 -- where the files are outside their grammar it is not known what they tell
 pub known-misread : (t : Names) (root : List ℕ) (setup : Setup) (which : Misread) → modules_in t root setup ≡ Err which → known_in t root (asking setup) ≡ Err which
 unfolding known_in modules_in
-known-misread t root setup which e = ap (and_then (with_specs setup.options.ignore_case)) e
+known-misread t root setup which e = ap (and_then (with_active_platform setup.options.ignore_case)) e
 
 -- nor where a value of `submodule.active` is refused
 pub known-refused : (t : Names) (root : List ℕ) (setup : Setup) (modules : Modules) (which : Misread) → modules_in t root setup ≡ Ok modules
-    → with_specs setup.options.ignore_case modules ≡ Err which → known_in t root (asking setup) ≡ Err which
+    → with_active_platform setup.options.ignore_case modules ≡ Err which → known_in t root (asking setup) ≡ Err which
 unfolding known_in modules_in
-known-refused t root setup modules which read e = ap (and_then (with_specs setup.options.ignore_case)) read ∙ e
+known-refused t root setup modules which read e = ap (and_then (with_active_platform setup.options.ignore_case)) read ∙ e
 
 -- where no value is refused, it is known what they tell
 pub known-loaded : (t : Names) (root : List ℕ) (setup : Setup) (modules : Modules) → modules_in t root setup ≡ Ok modules
-    → IsKnown (with_specs setup.options.ignore_case modules) → IsKnown (known_in t root (asking setup))
+    → IsKnown (with_active_platform setup.options.ignore_case modules) → IsKnown (known_in t root (asking setup))
 unfolding known_in modules_in
-known-loaded t root setup modules read known = (known.0, ap (and_then (with_specs setup.options.ignore_case)) read ∙ known.1)
+known-loaded t root setup modules read known = (known.0, ap (and_then (with_active_platform setup.options.ignore_case)) read ∙ known.1)
 
 known-by : (modules : Modules) (found : Result (Option (List PathSpec)) ActiveError) → refused_value found ≡ None → IsKnown (known_by modules found)
 known-by modules (Ok specs) none = (Some (record { modules = modules; platform = specs }), refl)
@@ -62,7 +62,7 @@ known-by modules (Err active_errors.OutOfMemory) none = (None, refl)
 
 -- a fault that ends a plan comes where no value is refused
 pub known-late : (told : Option Names) (root : List ℕ) (asked : Asked) (Failed : Type 0) (fold : Bool) (modules : Modules) (e : ModuleError)
-    → Refuses told root asked (refused_value (platform fold modules.config.sections)) Failed e → of_module e ≡ refusals.Fault → IsKnown (with_specs fold modules)
+    → Refuses told root asked (refused_value (platform fold modules.config.sections)) Failed e → refusal_of_module_error e ≡ refusals.Fault → IsKnown (with_active_platform fold modules)
 known-late told root asked Failed fold modules (errors.ActiveSpec value) refused is = absurd cc
 known-late told root asked Failed fold modules (errors.Fault path) refused is = known-by modules (platform fold modules.config.sections) refused.0
 known-late told root asked Failed fold modules errors.OutOfMemory refused is = absurd cc
@@ -73,7 +73,7 @@ stops-asking t setup reads0 reads1 at = record { before = at.before; config = at
 
 -- a fault of reading is that of a file that was not read
 pub stops-loading : {W : Type 0} (w : WorktreeOf W) (w0 w1 : W) (setup : Setup) (e : ReportError) (Failed : Type 0) → OfModules Failed e → Stops w w0 w1 setup e
-    → of_report e ≡ refusals.Fault → (t : Names) → w.told w0 ≡ Some t → StopsAt t setup (w.reads w0) (w.reads w1)
+    → refusal_of_report_error e ≡ refusals.Fault → (t : Names) → w.told w0 ≡ Some t → StopsAt t setup (w.reads w0) (w.reads w1)
 stops-loading w w0 w1 setup (reports.Config at line) Failed of stops is = absurd cc
 stops-loading w w0 w1 setup (reports.Modules line) Failed of stops is = absurd cc
 stops-loading w w0 w1 setup (reports.ActiveSpec at) Failed of stops is = absurd cc
@@ -86,7 +86,7 @@ same-misread is = cc
 
 -- no file behind the one that is outside its grammar was read
 pub reads-loading : {W : Type 0} (w : WorktreeOf W) (w0 w1 : W) (setup : Setup) (e : ReportError) (Failed : Type 0) (m : Misread) → OfModules Failed e → Stops w w0 w1 setup e
-    → of_report e ≡ refusals.Misread m → w.reads w1 ≤ w.reads w0 + files_to setup m
+    → refusal_of_report_error e ≡ refusals.Misread m → w.reads w1 ≤ w.reads w0 + files_to setup m
 reads-loading w w0 w1 setup (reports.Config at line) Failed m of stops is = subst (λ (x : Misread). w.reads w1 ≤ w.reads w0 + files_to setup x) (same-misread is) stops
 reads-loading w w0 w1 setup (reports.Modules line) Failed m of stops is = subst (λ (x : Misread). w.reads w1 ≤ w.reads w0 + files_to setup x) (same-misread is) stops
 reads-loading w w0 w1 setup (reports.ActiveSpec at) Failed m of stops is = subst (λ (x : Misread). w.reads w1 ≤ w.reads w0 + files_to setup x) (same-misread is) stops
@@ -115,13 +115,13 @@ refused-spec modules (Err (active_errors.NormalizePattern value)) m is = (value,
 refused-spec modules (Err active_errors.OutOfMemory) m is = absurd cc
 
 -- a value of `submodule.active` that is refused is
-pub outside-specs : (root : List ℕ) (setup : Setup) (modules : Modules) (m : Misread) → with_specs setup.options.ignore_case modules ≡ Err m → IsOutside root (asking setup) m
+pub outside-specs : (root : List ℕ) (setup : Setup) (modules : Modules) (m : Misread) → with_active_platform setup.options.ignore_case modules ≡ Err m → IsOutside root (asking setup) m
 outside-specs root setup modules m is =
     let spec = refused-spec modules (platform setup.options.ignore_case modules.config.sections) m is in
     subst (λ (x : Misread). IsOutside root (asking setup) x) (sym spec.1) (record { modules = modules; outside = is ∙ ap (λ (x : Misread). Err x) spec.1 })
 
 -- it is told by all files
-pub reads-specs : (setup : Setup) (modules : Modules) (m : Misread) (reads0 reads1 : ℕ) → with_specs setup.options.ignore_case modules ≡ Err m
+pub reads-specs : (setup : Setup) (modules : Modules) (m : Misread) (reads0 reads1 : ℕ) → with_active_platform setup.options.ignore_case modules ≡ Err m
     → reads1 ≤ reads0 + files_of setup → reads1 ≤ reads0 + files_to setup m
 reads-specs setup modules m reads0 reads1 is fits =
     let spec = refused-spec modules (platform setup.options.ignore_case modules.config.sections) m is in

@@ -12,7 +12,7 @@ use Rattle.worktree_report.specs.declared.refusal.Refusal.{Refusal}
 use Rattle.worktree_report.specs.declared.refusal.Refusal.TheVariants as refusals
 use Rattle.worktree_report.specs.declared.setup.Setup.{Setup}
 use Rattle.worktree_report.specs.Converted.{IsOfReading}
-use Rattle.worktree_report.specs.Loading.{files_of, known_in, modules_in, with_specs, AreModules, IsKnown}
+use Rattle.worktree_report.specs.Loading.{files_of, known_in, modules_in, with_active_platform, AreModules, IsKnown}
 use Rattle.worktree_report.specs.Loads.{LoadsFiles}
 use Rattle.worktree_report.specs.Outside.{files_to, IsOutside, StopsAt}
 use Rattle.worktree_report.specs.Run.{SetupRefuses}
@@ -93,9 +93,9 @@ module _ {W : Type 0} {w : WorktreeOf W} {w0 w1 w2 : W} {root : List ℕ} {setup
       → ((t : Names) → w.told w1 ≡ Some t → IfOk answer (λ text. top.text_of_modules t root setup.options.ignore_case modules ≡ Some text))
       → ((t : Names) → w.told w1 ≡ Some t → OnOk answer (top.IsSafePlanOf t root setup.options.ignore_case modules))
       → AreModules root modules → IfOk answer (λ text. AreModules root modules → top.IsPlanText (w.told w1) root setup.options.ignore_case text)
-      → ((m : Misread) → IsErrOf answer (refusals.Misread m) → with_specs setup.options.ignore_case modules ≡ Err m)
+      → ((m : Misread) → IsErrOf answer (refusals.Misread m) → with_active_platform setup.options.ignore_case modules ≡ Err m)
       → IfErr answer (top.IsOfPlanning (Increased (w.faults w1) (w.faults w2)))
-      → (IsErrOf answer refusals.Fault → IsKnown (with_specs setup.options.ignore_case modules)) → Asks w w1 w2 → w.reads w2 ≡ w.reads w1
+      → (IsErrOf answer refusals.Fault → IsKnown (with_active_platform setup.options.ignore_case modules)) → Asks w w1 w2 → w.reads w2 ≡ w.reads w1
       → w.faults w1 ≡ w.faults w0 → OnOk answer (w.faults w2 ≡ w.faults w1) → top.PlansText w w0 w2 root setup answer
   PlansText-loaded modules answer read loads gives safe tells orderly outside of late asks unread unfaulted later =
       record {

@@ -28,7 +28,7 @@ use Rattle.module_plan.specs.declared.wanted.Wanted.{Wanted}
 use Rattle.module_plan.specs.Plans.{IsAllowedStep, IsSafe}
 use Rattle.module_plan.specs.Verdicts.{AreVerdicts, is_taken, steps_of}
 use Rattle.gitbase_core.specs.Text.{is_dot_git}
-use Rattle.module_plan.specs.Wanted.{Asked, first_why, kind, place, place_below, wanted, why_inactive, wish}
+use Rattle.module_plan.specs.Wanted.{Asked, first_why, kind, submodule_path_or_why, place_below, wanted, why_inactive, make_wanted}
 use Rattle.module_plan.specs.Ways.{obstacle}
 use Rattle.module_plan.proofs.Distinct.{by-verdict}
 
@@ -43,7 +43,7 @@ from-wish None (Err why) step no_url w e = absurd (cc e)
 from-wish None (Ok path) (Err why) no_url w e = absurd (cc e)
 from-wish None (Ok path) (Ok step) true w e = absurd (cc e)
 from-wish None (Ok path) (Ok step) false w e =
-    let is : wish path step ≡ w = cc in
+    let is : make_wanted path step ≡ w = cc in
     (ap (λ (x : Wanted). Ok x.path) is, ap (λ (x : Wanted). Ok x.kind) is)
 
 record IsBelow (normal : Option (List ℕ)) (path : List ℕ) : Type 0 where
@@ -66,7 +66,7 @@ record IsPlace (given : Result (List ℕ) PathError) (path : List ℕ) : Type 0 
   is_given : given ≡ Ok text
   is_below : IsBelow (normalized text) path
 
-below-place : (given : Result (List ℕ) PathError) (path : List ℕ) → place given ≡ Ok path → IsPlace given path
+below-place : (given : Result (List ℕ) PathError) (path : List ℕ) → submodule_path_or_why given ≡ Ok path → IsPlace given path
 below-place (Err e) path is = absurd (cc is)
 below-place (Ok text) path is = record { text = text; is_given = refl; is_below = below-from (normalized text) path is }
 
@@ -133,7 +133,7 @@ allowed-step name (Some (text, source)) step e = step-from name text source step
 
 safe-wanted : (asked : Asked) (name : List ℕ) (w : Wanted) → wanted asked name ≡ Ok w → IsSafe asked (record { name = name; path = w.path; kind = w.kind })
 safe-wanted asked name w e =
-    let parts = from-wish (why_inactive (is_active asked.specs asked.config name)) (place (access.path name asked.modules)) (kind (access.update name asked.modules))
+    let parts = from-wish (why_inactive (is_active asked.specs asked.config name)) (submodule_path_or_why (access.path name asked.modules)) (kind (access.update name asked.modules))
     (is_err (access.url name asked.modules)) w e in
     let at = below-place (access.path name asked.modules) w.path parts.0 in
     record {

@@ -119,10 +119,10 @@ pub record IsSafePlan (t : Names) (places : Places) : Type 0 where
 -- ---- refusals
 
 -- the refusal that stands for that of a plan
-abbrev pub of_module : ModuleError → Refusal
-of_module (errors.ActiveSpec value) = refusals.Misread (misread.ActiveSpec value)
-of_module (errors.Fault path) = refusals.Fault
-of_module errors.OutOfMemory = refusals.OutOfMemory
+abbrev pub refusal_of_module_error : ModuleError → Refusal
+refusal_of_module_error (errors.ActiveSpec value) = refusals.Misread (misread.ActiveSpec value)
+refusal_of_module_error (errors.Fault path) = refusals.Fault
+refusal_of_module_error errors.OutOfMemory = refusals.OutOfMemory
 
 -- a refusal that may come once the setup is read; a fault where the worktree failed
 abbrev pub IsOfPlanning : Type 0 → Refusal → Type 0

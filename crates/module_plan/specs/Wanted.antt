@@ -56,9 +56,9 @@ place_below (Some path) =
     else Ok path
 
 -- the path of a submodule below the root, or why it has none
-abbrev pub place : Result (List ℕ) PathError → Result (List ℕ) Why
-place (Ok path) = place_below (normalized path)
-place (Err e) = Err whys.BadPath
+abbrev pub submodule_path_or_why : Result (List ℕ) PathError → Result (List ℕ) Why
+submodule_path_or_why (Ok path) = place_below (normalized path)
+submodule_path_or_why (Err e) = Err whys.BadPath
 
 -- the commit is checked out where nothing is said
 abbrev pub step_kind : Option Update → Result StepKind Why
@@ -77,8 +77,8 @@ kind (Err (update_errors.CommandForbiddenInModulesConfiguration name command)) =
 kind (Err update_errors.OutOfMemory) = Err whys.BadUpdate
 
 -- a submodule at this path, brought there by this kind of step
-abbrev pub wish : List ℕ → StepKind → Wanted
-wish path kind = record { path = path; kind = kind }
+abbrev pub make_wanted : List ℕ → StepKind → Wanted
+make_wanted path kind = record { path = path; kind = kind }
 
 -- The first that fits says why there is no step: the submodule is not active, it has no path below the root, it has no way
 -- to be updated, it has no url. Else there is one.
@@ -87,10 +87,10 @@ first_why (Some why) path kind no_url = Err why
 first_why None (Err why) kind no_url = Err why
 first_why None (Ok path) (Err why) no_url = Err why
 first_why None (Ok path) (Ok kind) true = Err whys.BadUrl
-first_why None (Ok path) (Ok kind) false = Ok (wish path kind)
+first_why None (Ok path) (Ok kind) false = Ok (make_wanted path kind)
 
 -- What the submodule of a name asks for.
 abbrev pub wanted : Asked → List ℕ → Result Wanted Why
 wanted asked name =
-    first_why (why_inactive (is_active asked.specs asked.config name)) (place (path name asked.modules))
+    first_why (why_inactive (is_active asked.specs asked.config name)) (submodule_path_or_why (path name asked.modules))
     (kind (update name asked.modules)) (is_err (url name asked.modules))

@@ -22,15 +22,15 @@ obstacle_of (Some nodes.File) = Some whys.NotADirectory
 obstacle_of (Some nodes.Untrackable) = Some whys.NotADirectory
 
 -- by what stands at a name, and by what bars the way behind it: behind what is no directory there is nothing
-abbrev pub onward : Option NodeKind → Option Why → Option Why
-onward kind behind = if is_directory kind then behind else obstacle_of kind
+abbrev pub obstacle_here_or_behind : Option NodeKind → Option Why → Option Why
+obstacle_here_or_behind kind behind = if is_directory kind then behind else obstacle_of kind
 
 -- The first node that is there and is no directory, going down from a directory along some names; a link counts as one
 -- and is not followed. Below a name that is not there nothing is.
 abbrev pub obstacle : Names → List ℕ → List (List ℕ) → Option Why
 obstacle t directory [] = None
 obstacle t directory (name ∷ names) =
-    onward (kind_of (look t (joined directory name) false)) (obstacle t (joined directory name) names)
+    obstacle_here_or_behind (kind_of (look t (joined directory name) false)) (obstacle t (joined directory name) names)
 
 -- nothing, a link, or another node
 abbrev pub IsObstacle : Option Why → Type 0

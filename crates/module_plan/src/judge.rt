@@ -13,7 +13,7 @@ use crate::inputs::Asking;
 use crate::seen::Seen;
 use crate::step::{ModulePlan, Skipped, Step, Verdict, Why};
 use crate::taken::TakenPaths;
-use crate::wanted::{Stop, Wanted, asked_for};
+use crate::wanted::{Stop, Wanted, wanted_step};
 use crate::way::obstacle;
 use gitbase_core::{Bytes, OutOfMemory};
 use std::alloc::Global;
@@ -21,7 +21,7 @@ use submodule::IsActivePlatform;
 use worktree_fs::Worktree;
 
 /// The plan, with its steps still in the order of the names.
-pub(crate) fn judged<W: Worktree>(
+pub(crate) fn judge_all<W: Worktree>(
     alloc: Global,
     worktree: &mut W,
     asking: &Asking<'_>,
@@ -97,15 +97,15 @@ fn verdict<W: Worktree>(
     ensures unfaulted { ways.UnlessFault result (W.faults worktree.new ≡ W.faults worktree.old) }
     ensures reads { W.reads worktree.new ≡ W.reads worktree.old }
 {
-    match asked_for(alloc, asking, platform, name) {
-        Ok(wanted) => placed(alloc, worktree, asking.root, taken, seen, name, wanted),
+    match wanted_step(alloc, asking, platform, name) {
+        Ok(wanted) => judge_wanted_step(alloc, worktree, asking.root, taken, seen, name, wanted),
         Err(Stop::LeaveOut(why)) => Ok(left_out(alloc, name, why)?),
         Err(Stop::OutOfMemory) => Err(ModuleError::OutOfMemory),
     }
 }
 
 /// What becomes of a submodule that asks for a step.
-fn placed<W: Worktree>(
+fn judge_wanted_step<W: Worktree>(
     alloc: Global,
     worktree: &mut W,
     root: &[u8],
@@ -127,12 +127,12 @@ fn placed<W: Worktree>(
     ensures unfaulted { ways.UnlessFault result (W.faults worktree.new ≡ W.faults worktree.old) }
     ensures reads { W.reads worktree.new ≡ W.reads worktree.old }
 {
-    if !taken.take(alloc, &wanted.path)? {
+    if !taken.insert_path(alloc, &wanted.path)? {
         return Ok(left_out(alloc, name, Why::SamePath)?);
     }
     match obstacle(alloc, worktree, root, seen, &wanted.path)? {
         Some(why) => Ok(left_out(alloc, name, why)?),
-        None => Ok(updated(alloc, name, wanted)?),
+        None => Ok(update_verdict(alloc, name, wanted)?),
     }
 }
 
@@ -147,7 +147,7 @@ fn left_out(alloc: Global, name: &[u8], why: Why) -> Result<Verdict, OutOfMemory
 }
 
 /// A submodule is updated.
-fn updated(alloc: Global, name: &[u8], wanted: Wanted) -> Result<Verdict, OutOfMemory>
+fn update_verdict(alloc: Global, name: &[u8], wanted: Wanted) -> Result<Verdict, OutOfMemory>
     ensures { IfOk result (λ verdict. verdict ≡ verdicts.update name.now wanted) }
 {
     let Wanted { path, kind } = wanted;

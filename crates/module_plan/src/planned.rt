@@ -12,7 +12,7 @@ ghost use Rattle.module_plan.specs.Ways as ways;
 
 use crate::error::ModuleError;
 use crate::inputs::Asking;
-use crate::judge::judged;
+use crate::judge::judge_all;
 use crate::step::{ModulePlan, Step};
 use git_config_lite as config;
 use gitbase_core::OutOfMemory;
@@ -75,7 +75,7 @@ pub fn plan<W: Worktree>(
         modules,
         config,
     };
-    let plan = judged(alloc, worktree, &asking, &mut platform)?;
+    let plan = judge_all(alloc, worktree, &asking, &mut platform)?;
     Ok(by_path(plan)?)
 }
 

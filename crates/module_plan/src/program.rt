@@ -5,7 +5,7 @@ ghost use Rattle.worktree_fs.specs.Kept.{Asks};
 ghost use Rattle.worktree_fs.specs.Tree.{Names};
 ghost use Rattle.module_plan.specs.Run as top;
 ghost use Rattle.worktree_report.specs.Ends.{Runs};
-ghost use Rattle.worktree_report.specs.Loading.{files_of, modules_in, with_specs, AreModules, IsKnown};
+ghost use Rattle.worktree_report.specs.Loading.{files_of, modules_in, with_active_platform, AreModules, IsKnown};
 ghost use Rattle.worktree_report.specs.Loads.{LoadsFiles};
 ghost use Rattle.worktree_report.specs.Named.{named_by};
 ghost use Rattle.worktree_report.specs.Outside.{files_to, IsOutside, StopsAt};
@@ -20,8 +20,8 @@ use glob_rules::pathspec::Defaults;
 use std::alloc::Global;
 use worktree_fs::{Interrupt, Sink, Worktree};
 use worktree_report::{
-    Misread, Modules, Places, Refusal, Setup, finish, load_modules, of_report, places_behind,
-    read_setup,
+    Misread, Modules, Places, Refusal, Setup, load_modules, places_behind, read_setup,
+    refusal_of_report_error, write_answer,
 };
 
 /// The line for words that ask for nothing.
@@ -29,9 +29,9 @@ const USAGE: &[u8] = b"usage: modules ROOT SETUP\n";
 
 impl From<ModuleError> for Refusal {
     ghost use Rattle.std.specs.Prelude.{◌≡◌};
-    ghost use Rattle.module_plan.specs.Run.{of_module};
+    ghost use Rattle.module_plan.specs.Run.{refusal_of_module_error};
 
-    ghost from_gives = { λ error refusal. refusal ≡ of_module error };
+    ghost from_gives = { λ error refusal. refusal ≡ refusal_of_module_error error };
 
     fn from(error: ModuleError) -> Refusal {
         match error {
@@ -69,7 +69,7 @@ fn modules_of<W: Worktree>(
 {
     match load_modules(alloc, worktree, root, setup) {
         Ok(modules) => Ok(modules),
-        Err(error) => Err(of_report(alloc, error)?),
+        Err(error) => Err(refusal_of_report_error(alloc, error)?),
     }
 }
 
@@ -88,10 +88,11 @@ fn text_of_modules<W: Worktree>(
     ensures orderly { IfOk result (λ text. AreModules root.now modules.now
         → top.IsPlanText (W.told worktree.old) root.now ignore_case text) }
     ensures misread { (which : Place) → IsErrOf result (Refusal.Misread which)
-        → with_specs ignore_case modules.now ≡ Err which }
+        → with_active_platform ignore_case modules.now ≡ Err which }
     ensures refused { IfErr result (top.IsOfPlanning (Increased (W.faults worktree.old)
         (W.faults worktree.new))) }
-    ensures late { IsErrOf result Refusal.Fault → IsKnown (with_specs ignore_case modules.now) }
+    ensures late { IsErrOf result Refusal.Fault → IsKnown (with_active_platform ignore_case
+        modules.now) }
     ensures keeps { Asks W.Worktree worktree.old worktree.new }
     ensures reads { W.reads worktree.new ≡ W.reads worktree.old }
     ensures unfaulted { OnOk result (W.faults worktree.new ≡ W.faults worktree.old) }
@@ -211,5 +212,5 @@ pub fn run_modules<W: Worktree, I: Interrupt, S: Sink, E: Sink>(
         → NotIncreased (S.refusals out.old) (S.refusals out.new) → (result ≡ 0) ⊎ (result ≡ 8) }
 {
     let answer = text_asked(alloc, words, worktree);
-    finish(alloc, USAGE, answer, out, err)
+    write_answer(alloc, USAGE, answer, out, err)
 }

@@ -36,7 +36,11 @@ impl TakenPaths {
     /// Adds a path, and says whether it was not among them.
     ///
     /// See docs/DECISIONS.md#left-out-takes-no-path.
-    pub(crate) fn take(&mut self, alloc: Global, path: &PathText) -> Result<bool, OutOfMemory>
+    pub(crate) fn insert_path(
+        &mut self,
+        alloc: Global,
+        path: &PathText,
+    ) -> Result<bool, OutOfMemory>
         ensures is_new { IfOk result (λ is_new. is_new ≡ not (is_among path.now self.old)) }
         ensures more { (other : List ℕ) → OnOk result (is_among other self.new
             ≡ (bytes_eq other path.now || is_among other self.old)) }

@@ -46,7 +46,7 @@ impl From<OutOfMemory> for Stop {
 /// See docs/DIFFERENCES.md#modules-without-index.
 /// See docs/DIFFERENCES.md#modules-up-to-date.
 /// See docs/DIFFERENCES.md#modules-just-cloned.
-pub(crate) fn asked_for(
+pub(crate) fn wanted_step(
     alloc: Global,
     asking: &Asking<'_>,
     platform: &mut IsActivePlatform,
@@ -82,7 +82,8 @@ fn why_inactive(config: &config::File, platform: &mut IsActivePlatform, name: &[
 
 /// Where a submodule stands.
 fn path_of(alloc: Global, modules: &submodule::File, name: &[u8]) -> Result<PathText, Stop>
-    ensures { Gives result (wanted.place (access.path name.now modules.now.sections)) }
+    ensures { Gives result (wanted.submodule_path_or_why (access.path name.now
+        modules.now.sections)) }
 {
     match modules.path(alloc, name) {
         Ok(path) => place_of(alloc, path),
@@ -95,7 +96,7 @@ fn path_of(alloc: Global, modules: &submodule::File, name: &[u8]) -> Result<Path
 
 /// Where a path leads, if a submodule may stand there.
 fn place_of(alloc: Global, path: &[u8]) -> Result<PathText, Stop>
-    ensures { Gives result (wanted.place (Ok path.now)) }
+    ensures { Gives result (wanted.submodule_path_or_why (Ok path.now)) }
 {
     let Some(path) = PathText::from_bytes(alloc, path)?.normalize(alloc)? else {
         return Err(Stop::LeaveOut(Why::BadPath));

@@ -7,7 +7,7 @@ use glob_rules::pathspec::Defaults;
 use module_plan::{ModuleError, ModulePlan, Skipped, Step, StepKind, Why, plan};
 use std::alloc::Global;
 use submodule::File;
-use test_cases::{held, parted, parted_by, text_of};
+use test_cases::{held, split_at_byte, split_at_mark, text_of};
 use worktree_fs::MemoryWorktree;
 
 /// Cases, each behind an `@`: the nodes, the lines of `.gitmodules` and of the configuration, and
@@ -370,9 +370,9 @@ fn kind_is(kind: &StepKind, word: &[u8], command: &[u8]) -> bool {
 }
 
 fn step_is(step: &Step, want: &[u8]) -> bool {
-    let (kind, rest) = parted(want, b'`');
-    let (path, rest) = parted(rest, b'`');
-    let (name, command) = parted(rest, b'`');
+    let (kind, rest) = split_at_byte(want, b'`');
+    let (path, rest) = split_at_byte(rest, b'`');
+    let (name, command) = split_at_byte(rest, b'`');
     kind_is(&step.kind, kind, command)
         && step.path.as_bytes() == path
         && step.name.as_bytes() == name
@@ -396,7 +396,7 @@ fn word_of(why: Why) -> &'static [u8] {
 }
 
 fn skipped_is(skipped: &Skipped, want: &[u8]) -> bool {
-    let (why, name) = parted(want, b'`');
+    let (why, name) = split_at_byte(want, b'`');
     word_of(skipped.why) == why && skipped.name.as_bytes() == name
 }
 
@@ -429,7 +429,7 @@ fn error_is(error: &ModuleError, want: &[u8]) -> bool {
         ModuleError::ActiveSpec { value: 2 } => want == b"active spec 2".as_slice(),
         ModuleError::ActiveSpec { .. } => false,
         ModuleError::Fault { path } => {
-            let (word, at) = parted(want, b'`');
+            let (word, at) = split_at_byte(want, b'`');
             word == b"fault".as_slice() && path.as_bytes() == at
         }
         ModuleError::OutOfMemory => false,
@@ -452,10 +452,10 @@ fn answers(
 
 /// Whether a row holds over a listing order.
 fn holds(alloc: Global, row: &[u8], reversed: bool) -> bool {
-    let (_, rest) = parted_by(row, b"nodes:");
-    let (nodes, rest) = parted_by(rest, b"\nmodules:");
-    let (modules, rest) = parted_by(rest, b"\nconfig:");
-    let (config, want) = parted_by(rest, b"\nwanted:");
+    let (_, rest) = split_at_mark(row, b"nodes:");
+    let (nodes, rest) = split_at_mark(rest, b"\nmodules:");
+    let (modules, rest) = split_at_mark(rest, b"\nconfig:");
+    let (config, want) = split_at_mark(rest, b"\nwanted:");
     let Some(mut tree) = tree_of(alloc, held(nodes), reversed) else {
         return false;
     };

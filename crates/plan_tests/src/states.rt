@@ -4,7 +4,7 @@ use bstr::ByteSlice;
 use gitbase_core::{Flags, IndexEntry, Mode, ObjectId, PathText, State};
 use index_status::{PathState, StatesError, blob_id, states};
 use std::alloc::Global;
-use test_cases::{digit, held, parted, parted_by};
+use test_cases::{digit, held, split_at_byte, split_at_mark};
 use worktree_fs::MemoryWorktree;
 
 /// Ids of blobs, as `git hash-object` gives them.
@@ -201,10 +201,10 @@ fn id_of(word: &[u8]) -> ObjectId {
 }
 
 fn entry_of(alloc: Global, words: &[u8]) -> Option<IndexEntry> {
-    let (path, rest) = parted(words, b'`');
-    let (mode, rest) = parted(rest, b'`');
-    let (stage, rest) = parted(rest, b'`');
-    let (flag, id) = parted(rest, b'`');
+    let (path, rest) = split_at_byte(words, b'`');
+    let (mode, rest) = split_at_byte(rest, b'`');
+    let (stage, rest) = split_at_byte(rest, b'`');
+    let (flag, id) = split_at_byte(rest, b'`');
     Some(IndexEntry {
         path: PathText::from_bytes(alloc, path).ok()?,
         stage: digit(stage),
@@ -237,7 +237,7 @@ fn word_of(state: PathState) -> &'static [u8] {
 }
 
 fn row_is(made: &[(PathText, PathState)], at: usize, want: &[u8]) -> bool {
-    let (word, path) = parted(want, b'`');
+    let (word, path) = split_at_byte(want, b'`');
     match made.get(at) {
         Some((own, state)) => own.as_bytes() == path && word_of(*state) == word,
         None => want.is_empty(),
@@ -260,7 +260,7 @@ fn answers(alloc: Global, tree: &mut MemoryWorktree, index: &State, want: &[u8])
     match states(alloc, tree, b"/w", index) {
         Ok(made) => rows_are(&made, want),
         Err(StatesError::Fault { path }) => {
-            let (word, at) = parted(want, b'`');
+            let (word, at) = split_at_byte(want, b'`');
             word == b"fault".as_slice() && path.as_bytes() == at
         }
         Err(StatesError::OutOfMemory) => false,
@@ -269,9 +269,9 @@ fn answers(alloc: Global, tree: &mut MemoryWorktree, index: &State, want: &[u8])
 
 /// Whether a row holds over a listing order.
 fn holds(alloc: Global, row: &[u8], reversed: bool) -> bool {
-    let (_, rest) = parted_by(row, b"nodes:");
-    let (nodes, rest) = parted_by(rest, b"\nindex:");
-    let (entries, want) = parted_by(rest, b"\nwanted:");
+    let (_, rest) = split_at_mark(row, b"nodes:");
+    let (nodes, rest) = split_at_mark(rest, b"\nindex:");
+    let (entries, want) = split_at_mark(rest, b"\nwanted:");
     let Some(mut tree) = tree_of(alloc, held(nodes), reversed) else {
         return false;
     };
@@ -287,7 +287,7 @@ fn both_hold(alloc: Global, row: &[u8]) -> bool {
 }
 
 fn is_id(alloc: Global, row: &[u8]) -> bool {
-    let (text, want) = parted(row, b'`');
+    let (text, want) = split_at_byte(row, b'`');
     match blob_id(alloc, text) {
         Ok(id) => id.to_hex().as_slice() == want,
         Err(_) => false,

@@ -5,7 +5,7 @@ use index_status::{StatesError, StatusError};
 use module_plan::ModuleError;
 use std::alloc::Global;
 use std::fmt::Display;
-use test_cases::parted;
+use test_cases::split_at_byte;
 use worktree_report::{ReportError, SetupError};
 
 /// Rows, parted by bars: an error and its text, parted by a backquote.
@@ -60,7 +60,7 @@ fn shows(alloc: Global, error: &[u8], path: PathText, want: &[u8]) -> bool {
 
 /// Whether a row holds.
 fn holds(alloc: Global, row: &[u8]) -> Result<bool, OutOfMemory> {
-    let (error, text) = parted(row, b'`');
+    let (error, text) = split_at_byte(row, b'`');
     Ok(shows(alloc, error, PathText::from_bytes(alloc, b"/w/a")?, text))
 }
 

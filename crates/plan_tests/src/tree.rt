@@ -1,19 +1,19 @@
 //! Trees in memory, from a row.
 use bstr::ByteSlice;
 use std::alloc::Global;
-use test_cases::{digit, is_put, parted};
+use test_cases::{digit, is_put, split_at_byte};
 use worktree_fs::{CallKind, MemoryWorktree};
 
 /// Whether a step was taken: a node put at a path, or a look planned to fail.
 fn is_taken(alloc: Global, tree: &mut MemoryWorktree, step: &[u8]) -> bool {
-    let (what, rest) = parted(step, b'`');
-    let (path, text) = parted(rest, b'`');
+    let (what, rest) = split_at_byte(step, b'`');
+    let (path, text) = split_at_byte(rest, b'`');
     match what {
         b"fail kind" => tree
-            .fail(alloc, CallKind::Kind, u64::from(digit(path)))
+            .plan_fault(alloc, CallKind::Kind, u64::from(digit(path)))
             .is_ok(),
         b"fail read" => tree
-            .fail(alloc, CallKind::Read, u64::from(digit(path)))
+            .plan_fault(alloc, CallKind::Read, u64::from(digit(path)))
             .is_ok(),
         _ => is_put(alloc, tree, what, path, text),
     }

@@ -56,7 +56,7 @@ fn current<R: Env>(rt: &R, alloc: Global) -> Result<String, OutOfMemory> {
 fn disk<'a>(rt: &'a HostRuntime, words: &[Bytes], current: &'a str) -> DiskWorktree<'a>
     ensures { result.composes ≡ composes words.now }
 {
-    DiskWorktree::beside(rt, composes(words), current)
+    DiskWorktree::new_with_current_dir(rt, composes(words), current)
 }
 
 fn main(rt: HostRuntime) -> ExitCode {

@@ -354,13 +354,13 @@ fn run_where_it_fails(
     let mut asked = words(alloc, texts)?;
     match failing {
         Failing::Nothing => (),
-        Failing::Call(call, nth) => tree.fail(alloc, call, nth)?,
+        Failing::Call(call, nth) => tree.plan_fault(alloc, call, nth)?,
         Failing::Out => out.fail_from(1),
         Failing::Err => {
             err.fail_from(1);
             asked = Vec::new(alloc);
         }
-        Failing::Interrupt(nth) => interrupt = PlannedInterrupt::at(nth),
+        Failing::Interrupt(nth) => interrupt = PlannedInterrupt::raised_from(nth),
     }
     let status = dispatch(alloc, &asked, tree, &mut interrupt, &mut out, &mut err);
     Ok(Answer { status, out, err })

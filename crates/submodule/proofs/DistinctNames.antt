@@ -5,7 +5,7 @@ use Rattle.std.specs.List.{IsDistinct}
 use Rattle.std.specs.Cmp.Lexicographic.{nat_list_eq_equiv}
 use Rattle.std.proofs.lemmas.Map.Keys.{IsDistinct-push}
 use Rattle.git_config_lite.specs.Sections.{Section}
-use Rattle.submodule.specs.Names.{is_among, with_name, told, names_after, module_names, submodule_sections}
+use Rattle.submodule.specs.Names.{is_among, with_name, gitmodules_name, names_after, module_names, submodule_sections}
 
 with_one : (names : List (List ℕ)) (name : List ℕ) (b : Bool) → is_among name names ≡ b → IsDistinct bytes_eq names
     → IsDistinct bytes_eq (cond b names (names ++ name ∷ []))
@@ -18,7 +18,7 @@ with_told names (Some name) distinct = with_one names name (is_among name names)
 
 after : (sections : List Section) (names : List (List ℕ)) → IsDistinct bytes_eq names → IsDistinct bytes_eq (names_after names sections)
 after [] names distinct = distinct
-after (section ∷ sections) names distinct = after sections (with_name names (told section)) (with_told names (told section) distinct)
+after (section ∷ sections) names distinct = after sections (with_name names (gitmodules_name section)) (with_told names (gitmodules_name section) distinct)
 
 no_names : IsDistinct bytes_eq []
 unfolding IsDistinct

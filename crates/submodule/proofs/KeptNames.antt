@@ -6,7 +6,7 @@ use Rattle.git_config_lite.specs.declared.metadata.Metadata.{Metadata}
 use Rattle.git_config_lite.specs.Sections.{Section, Configuration}
 use Rattle.git_config_lite.specs.Lookups.{is_asked_for}
 use Rattle.git_config_lite.specs.Writers.{appended}
-use Rattle.submodule.specs.Names.{is_modules, submodule_sections, told, with_name, names_after, module_names}
+use Rattle.submodule.specs.Names.{is_modules, submodule_sections, gitmodules_name, with_name, names_after, module_names}
 use Rattle.submodule.specs.Overrides.{override_source, override_meta, override_section, section_for, sections_for, ordered_names, overrides, is_overriding}
 
 not_modules : (source : Source) → is_modules (override_source source) ≡ false
@@ -30,11 +30,11 @@ named-append (x ∷ xs) ys = by_test (is_asked_for (Some (codes "submodule")) x)
 
 after-append : (xs ys : List Section) (known : List (List ℕ)) → names_after known (xs ++ ys) ≡ names_after (names_after known xs) ys
 after-append [] ys known = refl
-after-append (x ∷ xs) ys known = after-append xs ys (with_name known (told x))
+after-append (x ∷ xs) ys known = after-append xs ys (with_name known (gitmodules_name x))
 
 -- a section that tells nothing adds no name
 module _ (meta : Metadata) (sections : List Section) where
-  told_none : (name : List ℕ) → told (override_section (override_meta meta) sections name) ≡ None
+  told_none : (name : List ℕ) → gitmodules_name (override_section (override_meta meta) sections name) ≡ None
   told_none name = rw (not_modules meta.source) refl
 
   one_kept : (known : List (List ℕ)) (name : List ℕ) (b : Bool) → names_after known (submodule_sections (cond b (override_section (override_meta meta) sections name ∷ []) [])) ≡ known

@@ -81,11 +81,11 @@ abbrev pub name_and_active : Option (List PathSpec) → List Section → List �
 name_and_active specs sections name = (name, is_active specs sections name)
 
 -- each of some names, and whether it is active
-abbrev pub states : Option (List PathSpec) → List Section → List (List ℕ) → List NameAndActive
-states specs sections names = map (name_and_active specs sections) names
+abbrev pub names_with_activity : Option (List PathSpec) → List Section → List (List ℕ) → List NameAndActive
+names_with_activity specs sections names = map (name_and_active specs sections) names
 
 abbrev pub states_by : List Section → List (List ℕ) → Result (Option (List PathSpec)) Error → Result (List NameAndActive) Error
-states_by sections names (Ok specs) = Ok (states specs sections names)
+states_by sections names (Ok specs) = Ok (names_with_activity specs sections names)
 states_by sections names (Err e) = Err e
 
 -- The names that `.gitmodules` tells, and whether each is active by a configuration.

@@ -28,18 +28,18 @@ abbrev pub has_bad_end : List ℕ → Bool
 has_bad_end name = ends_with nat_eq name (codes "/") || (ends_with nat_eq name (codes ".") || ends_with nat_eq name (codes ".lock"))
 
 -- two stars
-abbrev pub has_stars : List ℕ → Bool
-has_stars name = nat_le 2 (count_by (λ b. b == 42) name)
+abbrev pub has_several_stars : List ℕ → Bool
+has_several_stars name = nat_le 2 (count_by (λ b. b == 42) name)
 
 abbrev pub is_bad_name : List ℕ → Bool
-is_bad_name name = list_any is_bad_byte name || (has_bad_pair name || (has_bad_start name || (has_bad_end name || has_stars name)))
+is_bad_name name = list_any is_bad_byte name || (has_bad_pair name || (has_bad_start name || (has_bad_end name || has_several_stars name)))
 
 abbrev pub without_plus : List ℕ → List ℕ
 without_plus [] = []
 without_plus (b ∷ text) = if b == 43 then text else b ∷ text
 
-abbrev pub fetched : List ℕ → List ℕ
-fetched text = before 58 (without_plus text)
+abbrev pub refspec_source : List ℕ → List ℕ
+refspec_source text = before 58 (without_plus text)
 
 abbrev pub branch_named : List ℕ → Option Branch
 branch_named name =
@@ -49,4 +49,4 @@ branch_named name =
 
 -- the branch that a text names; none where it names none
 abbrev pub branch_of : List ℕ → Option Branch
-branch_of text = if bytes_eq text (codes ".") then Some CurrentInSuperproject else branch_named (fetched text)
+branch_of text = if bytes_eq text (codes ".") then Some CurrentInSuperproject else branch_named (refspec_source text)

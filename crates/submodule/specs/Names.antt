@@ -22,8 +22,8 @@ abbrev pub submodule_sections : List Section → List Section
 submodule_sections sections = sections_named (Some (codes "submodule")) sections
 
 -- the name that a section tells, if it is one of `.gitmodules`
-abbrev pub told : Section → Option (List ℕ)
-told section = if is_modules section.meta.source then section.subsection else None
+abbrev pub gitmodules_name : Section → Option (List ℕ)
+gitmodules_name section = if is_modules section.meta.source then section.subsection else None
 
 -- the names with one more, unless it is among them
 abbrev pub with_name : List (List ℕ) → Option (List ℕ) → List (List ℕ)
@@ -33,7 +33,7 @@ with_name names (Some name) = if is_among name names then names else names ++ na
 -- the names that are known once these sections are read
 abbrev pub names_after : List (List ℕ) → List Section → List (List ℕ)
 names_after names [] = names
-names_after names (section ∷ sections) = names_after (with_name names (told section)) sections
+names_after names (section ∷ sections) = names_after (with_name names (gitmodules_name section)) sections
 
 -- The names of the submodules, each once, in the order in which they are first told.
 abbrev pub module_names : List Section → List (List ℕ)

@@ -14,7 +14,7 @@ use Rattle.git_config_lite.specs.declared.metadata.Metadata.{Metadata}
 use Rattle.git_config_lite.specs.declared.entry.Entry.{Entry}
 use Rattle.git_config_lite.specs.Sections.{Section, Configuration}
 use Rattle.git_config_lite.specs.Lookups.{string}
-use Rattle.git_config_lite.specs.Grammar.{said}
+use Rattle.git_config_lite.specs.Grammar.{parse_text_sections}
 use Rattle.git_config_lite.specs.Writers.{entry_with, with_sections}
 use Rattle.submodule.specs.Names.{submodule_sections}
 
@@ -101,4 +101,4 @@ modules_said meta config (Ok sections) = Ok (with_overrides (configuration meta 
 -- What the text of `.gitmodules` says of submodules beside a configuration, or the number of its first line outside the
 -- grammar of configurations.
 abbrev pub modules_of : Option (List ℕ) → List ℕ → Configuration → Result Configuration ℕ
-modules_of path text config = modules_said (modules_meta path) config (said (modules_meta path) text)
+modules_of path text config = modules_said (modules_meta path) config (parse_text_sections (modules_meta path) text)

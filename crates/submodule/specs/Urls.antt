@@ -23,8 +23,8 @@ abbrev pub login : List ℕ → Option (List ℕ)
 login authority = if has 64 authority then Some (ahead_of_last 64 authority) else None
 
 -- what stands behind the first such byte, if there is one
-abbrev pub behind : ℕ → List ℕ → Option (List ℕ)
-behind byte text = if has byte text then Some (drop 1 (onward byte text)) else None
+abbrev pub text_after_byte : ℕ → List ℕ → Option (List ℕ)
+text_after_byte byte text = if has byte text then Some (drop 1 (onward byte text)) else None
 
 abbrev pub user_of : Option (List ℕ) → Option (List ℕ)
 user_of None = None
@@ -32,7 +32,7 @@ user_of (Some login) = Some (before 58 login)
 
 abbrev pub password_of : Option (List ℕ) → Option (List ℕ)
 password_of None = None
-password_of (Some login) = behind 58 login
+password_of (Some login) = text_after_byte 58 login
 
 -- ---- the host and the port
 
@@ -49,8 +49,8 @@ abbrev pub port_behind : List ℕ → List ℕ
 port_behind rest = if has 58 rest then behind_last 58 rest else []
 
 -- a text up to its first `]`, and what is behind that
-abbrev pub closed : List ℕ → Option (List ℕ × List ℕ)
-closed part = if nat_lt (place 93 part) (length part) then Some (take (place 93 part + 1) part, drop (place 93 part + 1) part) else None
+abbrev pub split_after_bracket : List ℕ → Option (List ℕ × List ℕ)
+split_after_bracket part = if nat_lt (place 93 part) (length part) then Some (take (place 93 part + 1) part, drop (place 93 part + 1) part) else None
 
 -- a host in brackets
 abbrev pub bracketed_by : List ℕ → Option (List ℕ × List ℕ) → Place
@@ -58,7 +58,7 @@ bracketed_by part None = place_at part []
 bracketed_by part (Some split) = place_at split.0 (port_behind split.1)
 
 abbrev pub bracketed : List ℕ → Place
-bracketed part = bracketed_by part (closed part)
+bracketed part = bracketed_by part (split_after_bracket part)
 
 abbrev pub bare : List ℕ → Place
 bare part = if has 58 part then place_at (ahead_of_last 58 part) (behind_last 58 part) else place_at part []

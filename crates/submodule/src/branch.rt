@@ -102,7 +102,7 @@ impl Branch {
         if value == b".".as_slice() {
             return Ok(Branch::CurrentInSuperproject);
         }
-        named(alloc, fetched(value))
+        named(alloc, refspec_source(value))
     }
 }
 
@@ -119,8 +119,8 @@ fn without_plus(text: &[u8]) -> &[u8]
 /// See docs/DECISIONS.md#branch-as-fetched.
 /// See docs/DIFFERENCES.md#branch-colon.
 /// See docs/DIFFERENCES.md#branch-plus.
-fn fetched(text: &[u8]) -> &[u8]
-    ensures { result.now ≡ branches.fetched text.now }
+fn refspec_source(text: &[u8]) -> &[u8]
+    ensures { result.now ≡ branches.refspec_source text.now }
 {
     before(b':', without_plus(text))
 }
@@ -179,8 +179,8 @@ fn star_count(name: &[u8]) -> usize
     name.iter().filter(|byte| **byte == b'*').count()
 }
 
-fn has_stars(name: &[u8]) -> bool
-    ensures { result ≡ branches.has_stars name.now }
+fn has_several_stars(name: &[u8]) -> bool
+    ensures { result ≡ branches.has_several_stars name.now }
 {
     star_count(name) >= 2
 }
@@ -192,7 +192,7 @@ fn is_bad_name(name: &[u8]) -> bool
         || has_bad_pair(name)
         || has_bad_start(name)
         || has_bad_end(name)
-        || has_stars(name)
+        || has_several_stars(name)
 }
 
 fn refused(alloc: Global, name: &[u8], value: &[u8]) -> Result<Error, OutOfMemory>

@@ -53,8 +53,8 @@ impl<'a> Iterator for Names<'a> {
 
 /// The name that a section tells, if it is one of `.gitmodules`.
 /// See docs/DIFFERENCES.md#module-odd-name.
-fn told(section: &Section) -> Option<&[u8]>
-    ensures { option_copied result ≡ names.told section.now }
+fn gitmodules_name(section: &Section) -> Option<&[u8]>
+    ensures { option_copied result ≡ names.gitmodules_name section.now }
 {
     if is_modules(section.meta().source) {
         section.subsection_name()
@@ -113,7 +113,7 @@ pub(crate) fn names_of(alloc: Global, config: &config::File) -> Result<Vec<Bytes
         sorted: BTreeSet::new(alloc),
     };
     for section in config.sections_by_name(b"submodule") {
-        known = with_name(alloc, known, told(section))?;
+        known = with_name(alloc, known, gitmodules_name(section))?;
     }
     let Known {
         names,

@@ -94,7 +94,7 @@ fn add(
 ) -> Result<(), OutOfMemory>
     requires one { length made.old.sections ≡ 1 }
     requires key { IsTrue (writers.is_key_name key.now) }
-    ensures added { OnOk result (made.new.sections ≡ building.grown
+    ensures added { OnOk result (made.new.sections ≡ building.extend_first_section
         (overrides.override name.now key.now config.now.sections) made.old.sections) }
     ensures one { length made.new.sections ≡ 1 }
 {

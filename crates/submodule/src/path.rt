@@ -116,7 +116,7 @@ pub(crate) fn has_path(
 }
 
 /// The path that a value says.
-fn given<'a>(alloc: Global, name: &[u8], value: &'a [u8]) -> Result<&'a [u8], Error>
+fn check_path_value<'a>(alloc: Global, name: &[u8], value: &'a [u8]) -> Result<&'a [u8], Error>
     ensures { answers.PathGives result (access.path_by name.now (Some value.now)) }
 {
     if value.is_empty() {
@@ -141,7 +141,7 @@ pub(crate) fn path_of<'a>(
     ensures { answers.PathGives result (access.path_by name.now (option_copied value.entry)) }
 {
     match value {
-        Some(value) => given(alloc, name, value),
+        Some(value) => check_path_value(alloc, name, value),
         None => Err(missing(alloc, name)?),
     }
 }

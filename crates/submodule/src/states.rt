@@ -22,11 +22,11 @@ pub struct NamesAndActive<'a> {
 
 impl<'a> Model for NamesAndActive<'a> {
     ghost use Rattle.std.specs.Prelude.{List};
-    ghost use Rattle.submodule.specs.Active.{NameAndActive, states};
+    ghost use Rattle.submodule.specs.Active.{NameAndActive, names_with_activity};
 
     ghost Value = { List NameAndActive };
 
-    ghost view = { λ left. states left.platform left.config.now.sections left.names };
+    ghost view = { λ left. names_with_activity left.platform left.config.now.sections left.names };
 }
 
 impl<'a> NamesAndActive<'a> {
@@ -35,7 +35,7 @@ impl<'a> NamesAndActive<'a> {
         platform: IsActivePlatform,
         config: &'a config::File,
     ) -> NamesAndActive<'a>
-        ensures { result ≡ active.states platform config.now.sections names.entry }
+        ensures { result ≡ active.names_with_activity platform config.now.sections names.entry }
     {
         NamesAndActive {
             names,

@@ -168,7 +168,12 @@ fn allowed(alloc: Global, name: &[u8], source: Source, update: Update) -> Result
 
 /// The update that a value says.
 /// See docs/DIFFERENCES.md#module-command.
-fn given(alloc: Global, name: &[u8], value: &[u8], source: Source) -> Result<Update, Error>
+fn parse_update_value(
+    alloc: Global,
+    name: &[u8],
+    value: &[u8],
+    source: Source,
+) -> Result<Update, Error>
     ensures { answers.UpdateOfGives result
         (access.update_from name.now value.now source (updates.update_of value.now)) }
 {
@@ -189,7 +194,7 @@ pub(crate) fn update_of(
         (access.update_by name.now (option_map text_and_source_of found.entry)) }
 {
     match found {
-        Some((value, source)) => Ok(Some(given(alloc, name, value, source)?)),
+        Some((value, source)) => Ok(Some(parse_update_value(alloc, name, value, source)?)),
         None => Ok(None),
     }
 }

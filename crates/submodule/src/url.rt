@@ -152,7 +152,7 @@ fn refused(alloc: Global, name: &[u8], source: UrlError) -> Result<Error, OutOfM
 }
 
 /// The url that a value says.
-fn given(alloc: Global, name: &[u8], value: &[u8]) -> Result<Url, Error>
+fn parse_url_value(alloc: Global, name: &[u8], value: &[u8]) -> Result<Url, Error>
     ensures { answers.UrlOfGives result (access.url_by name.now (Some value.now)) }
 {
     if let [] = value {
@@ -171,7 +171,7 @@ pub(crate) fn url_of(alloc: Global, name: &[u8], value: Option<&[u8]>) -> Result
     ensures { answers.UrlOfGives result (access.url_by name.now (option_copied value.entry)) }
 {
     match value {
-        Some(value) => given(alloc, name, value),
+        Some(value) => parse_url_value(alloc, name, value),
         None => Err(missing(alloc, name)?),
     }
 }

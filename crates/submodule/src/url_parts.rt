@@ -49,7 +49,7 @@ fn user_of(login: Option<&[u8]>) -> Option<&[u8]>
 
 /// What stands behind the first `:`, if there is one.
 fn behind_colon(text: &[u8]) -> Option<&[u8]>
-    ensures { option_copied result ≡ urls.behind 58 text.now }
+    ensures { option_copied result ≡ urls.text_after_byte 58 text.now }
 {
     if has(b':', text) {
         Some(behind_first(onward(b':', text)))
@@ -80,8 +80,8 @@ fn port_behind(rest: &[u8]) -> &[u8]
 }
 
 /// A text up to its first `]`, and what is behind that; none where there is no `]`.
-fn closed(part: &[u8]) -> Option<(&[u8], &[u8])>
-    ensures { seen.pair result ≡ urls.closed part.now }
+fn split_after_bracket(part: &[u8]) -> Option<(&[u8], &[u8])>
+    ensures { seen.pair result ≡ urls.split_after_bracket part.now }
 {
     let at = place(b']', part);
     if at < part.len() {
@@ -97,7 +97,7 @@ fn closed(part: &[u8]) -> Option<(&[u8], &[u8])>
 fn bracketed(part: &[u8]) -> HostAndPort<'_>
     ensures { seen.host_place result ≡ urls.bracketed part.now }
 {
-    match closed(part) {
+    match split_after_bracket(part) {
         Some((host, rest)) => HostAndPort {
             host,
             port: port_behind(rest),

@@ -9,5 +9,5 @@ mod rows;
 mod trees;
 
 pub use nodes::{is_git_put, is_put};
-pub use rows::{digit, held, lines_of, number, parted, parted_by, text_of};
+pub use rows::{digit, held, lines_of, number, split_at_byte, split_at_mark, text_of};
 pub use trees::{is_taken, tree_of};

@@ -30,7 +30,7 @@ fn behind_first(row: &[u8]) -> &[u8]
 
 /// What stands before the first byte of this kind, and behind it: the whole row and nothing where
 /// there is none.
-pub fn parted(row: &[u8], byte: u8) -> (&[u8], &[u8])
+pub fn split_at_byte(row: &[u8], byte: u8) -> (&[u8], &[u8])
     ensures before { result.0.now ≡ cuts.before byte row.now }
     ensures behind { result.1.now ≡ cuts.behind byte row.now }
 {
@@ -40,7 +40,7 @@ pub fn parted(row: &[u8], byte: u8) -> (&[u8], &[u8])
 
 /// What stands before the first of these marks, and behind it: the whole row and nothing where
 /// there is none.
-pub fn parted_by<'a>(row: &'a [u8], mark: &[u8]) -> (&'a [u8], &'a [u8])
+pub fn split_at_mark<'a>(row: &'a [u8], mark: &[u8]) -> (&'a [u8], &'a [u8])
     ensures before { result.0.now ≡ cuts.before_mark mark.now row.now }
     ensures behind { result.1.now ≡ cuts.behind_mark mark.now row.now }
 {

@@ -3,7 +3,7 @@ ghost use Rattle.std.specs.Prelude.{IfSome};
 ghost use Rattle.test_cases.specs.Puts.{Grows, IsUsual};
 
 use crate::nodes::{is_added, is_git_put};
-use crate::rows::{lines_of, parted};
+use crate::rows::{lines_of, split_at_byte};
 use hex;
 use std::alloc::Global;
 use worktree_fs::{MemoryWorktree, NewNode};
@@ -40,8 +40,8 @@ fn branch_of(word: &[u8]) -> &[u8] {
 pub fn is_taken(alloc: Global, tree: &mut MemoryWorktree, step: &[u8], mark: u8) -> bool
     ensures { Grows tree.old tree.new }
 {
-    let (what, rest) = parted(step, b' ');
-    let (path, text) = parted(rest, b'=');
+    let (what, rest) = split_at_byte(step, b' ');
+    let (path, text) = split_at_byte(rest, b'=');
     match what {
         b"f" => is_file(alloc, tree, path, text, mark),
         b"x" => is_binary(alloc, tree, path, text),

@@ -11,14 +11,14 @@ use Rattle.diff_files.specs.declared.error.DiffError.{DiffError}
 use Rattle.diff_files.specs.declared.error.DiffError.TheVariants as differences
 use Rattle.diff_files.specs.declared.stats.Stats.{Ghosts as StatsOf}
 use Rattle.git_index.specs.declared.stat.Detail.{Detail}
-use Rattle.git_places.specs.Answers.{GivesBy, UnlessBy}
+use Rattle.git_places.specs.Answers.{IsFoundOrFailed, HoldsUnlessFault}
 use Rattle.git_places.proofs.Passes.{passes}
 use Rattle.glob_rules.specs.PathSpec.{PathSpec}
 use Rattle.worktree_fs.specs.declared.owners.Owners.{Ghosts as OwnersOf}
 use Rattle.worktree_fs.specs.declared.worktree.Worktree.{Ghosts as WorktreeOf}
 use Rattle.worktree_fs.specs.Causes.{Increased}
 use Rattle.worktree_fs.specs.Kept.{Asks}
-use Rattle.worktree_fs.specs.Owners.{Owned}
+use Rattle.worktree_fs.specs.Owners.{OwnershipByPath}
 use Rattle.worktree_fs.specs.Tree.{Names}
 use Rattle.tizhagor.specs.declared.refusal.HereRefusal.{HereRefusal}
 use Rattle.tizhagor.specs.declared.reply.Reply.{Reply}
@@ -40,11 +40,11 @@ no_err a e is = absurd cc
 same_err : {A B : Type 0} (a b : HereRefusal) → ◌≡◌ {A = Result A HereRefusal} (Err a) (Err b) → ◌≡◌ {A = Result B HereRefusal} (Err a) (Err b)
 same_err a b e = ap Err (err_is a b e)
 
-unless_any : {A P : Type 0} (answer : Result A HereRefusal) → P → UnlessBy fault answer P
+unless_any : {A P : Type 0} (answer : Result A HereRefusal) → P → HoldsUnlessFault fault answer P
 unless_any (Ok given) holds = holds
 unless_any (Err e) holds = inr holds
 
-unless_weaker : {A P Q : Type 0} (answer : Result A HereRefusal) → (P → Q) → UnlessBy fault answer P → UnlessBy fault answer Q
+unless_weaker : {A P Q : Type 0} (answer : Result A HereRefusal) → (P → Q) → HoldsUnlessFault fault answer P → HoldsUnlessFault fault answer Q
 unless_weaker (Ok given) to holds = to holds
 unless_weaker (Err e) to holds = elim holds [ inl is ↦ inl is | inr known ↦ inr (to known) ]
 
@@ -81,7 +81,7 @@ module _ {W D : Type 0} (w : WorktreeOf W) (d : StatsOf D) where
   goes_on {B = B} w0 w1 w2 d0 d1 d2 given found next whole answer same first then =
       record {
         gives = λ t told tree tells.
-            subst (λ (r : Result B HereRefusal). GivesBy fault memory answer r) (sym (same t told (first.gives t told tree tells)))
+            subst (λ (r : Result B HereRefusal). IsFoundOrFailed fault memory answer r) (sym (same t told (first.gives t told tree tells)))
             (then.gives t told (first.keeps.tree ∙ tree) (first.stats.told ∙ tells));
         cause = λ is. elim (then.cause is) [
           | inl rose ↦ inl (subst (λ (n : ℕ). Increased n (w.faults w2)) first.unfaulted rose)
@@ -204,15 +204,15 @@ of_states-is (Err differences.OutOfMemory) = tt
 -- ---- behind owners
 
 module _ {W O D : Type 0} (w : WorktreeOf W) (o : OwnersOf O) (d : StatsOf D) where
-  pub behind_owners : {A B : Type 0} (w0 w1 w2 : W) (o0 o1 : O) (d0 d1 : D) (given : A) (found : Names → Owned → Result A HereRefusal) (next : Names → Told → Result B HereRefusal)
-      (whole : Names → Owned → Told → Result B HereRefusal) (answer : Result B HereRefusal)
-      → ((t : Names) (owned : Owned) (told : Told) → found t owned ≡ Ok given → whole t owned told ≡ next t told)
+  pub behind_owners : {A B : Type 0} (w0 w1 w2 : W) (o0 o1 : O) (d0 d1 : D) (given : A) (found : Names → OwnershipByPath → Result A HereRefusal) (next : Names → Told → Result B HereRefusal)
+      (whole : Names → OwnershipByPath → Told → Result B HereRefusal) (answer : Result B HereRefusal)
+      → ((t : Names) (owned : OwnershipByPath) (told : Told) → found t owned ≡ Ok given → whole t owned told ≡ next t told)
       → FindsHereWith {A = A} w o w0 w1 o0 o1 found (Ok given) → Beside {A = B} w d w1 w2 d0 d1 next answer → IfErr answer IsOfFinding
       → Compares {A = B} w o d w0 w2 o0 o1 d0 d1 whole answer
   behind_owners {B = B} w0 w1 w2 o0 o1 d0 d1 given found next whole answer same first then of =
       record {
         gives = λ t owned told tree owns tells.
-            subst (λ (r : Result B HereRefusal). GivesBy fault memory answer r) (sym (same t owned told (first.gives t owned tree owns)))
+            subst (λ (r : Result B HereRefusal). IsFoundOrFailed fault memory answer r) (sym (same t owned told (first.gives t owned tree owns)))
             (then.gives t told (first.keeps.tree ∙ tree) tells);
         of = of;
         cause = λ is. elim (then.cause is) [
@@ -227,8 +227,8 @@ module _ {W O D : Type 0} (w : WorktreeOf W) (o : OwnersOf O) (d : StatsOf D) wh
         stats = then.stats;
       }
 
-  pub stops_before : {A B : Type 0} (w0 w1 : W) (o0 o1 : O) (d0 : D) (e : HereRefusal) (found : Names → Owned → Result A HereRefusal) (whole : Names → Owned → Told → Result B HereRefusal)
-      → ((t : Names) (owned : Owned) (told : Told) → found t owned ≡ Err e → whole t owned told ≡ Err e)
+  pub stops_before : {A B : Type 0} (w0 w1 : W) (o0 o1 : O) (d0 : D) (e : HereRefusal) (found : Names → OwnershipByPath → Result A HereRefusal) (whole : Names → OwnershipByPath → Told → Result B HereRefusal)
+      → ((t : Names) (owned : OwnershipByPath) (told : Told) → found t owned ≡ Err e → whole t owned told ≡ Err e)
       → FindsHereWith {A = A} w o w0 w1 o0 o1 found (Err e) → IsOfFinding e → Compares {A = B} w o d w0 w1 o0 o1 d0 d0 whole (Err e)
   stops_before w0 w1 o0 o1 d0 e found whole to h of =
       record {

@@ -9,14 +9,14 @@ use Rattle.worktree_fs.specs.declared.owners.Owners.{Ghosts as OwnersOf}
 use Rattle.worktree_fs.specs.declared.sink.Sink.{Ghosts as SinkOf}
 use Rattle.worktree_fs.specs.declared.worktree.Worktree.{Ghosts as WorktreeOf}
 use Rattle.worktree_fs.specs.Causes.{Increased, NotIncreased}
-use Rattle.worktree_fs.specs.Owners.{Owned}
+use Rattle.worktree_fs.specs.Owners.{OwnershipByPath}
 use Rattle.worktree_fs.specs.Tree.{Names}
 use Rattle.tizhagor.specs.declared.refusal.HereRefusal.{HereRefusal}
 use Rattle.tizhagor.specs.declared.reply.Reply.{Reply}
 use Rattle.tizhagor.specs.Answers.{AnswersTask, AnswersWord, IsAsked, IsMisuse, Place, Task, both_of, call_of, check_of, compare_of, offer_of, task_of, word_at, word_of}
 use Rattle.tizhagor.specs.Both.{join_of}
 use Rattle.tizhagor.specs.BothAnswers.{AnswersBoth, BothAnswer, IsJoined}
-use Rattle.tizhagor.specs.BothHere.{AnswersAll, AnswersBeside, IsBoth, IsBothBy, IsBothTo, IsFirstOf, IsJoinedOf, IsSecondOf, RefusesSecond, SaysBoth, beside}
+use Rattle.tizhagor.specs.BothHere.{AnswersAll, AnswersBeside, IsBoth, IsBothBy, IsBothTo, IsFirstOf, IsJoinedOf, IsSecondOf, RefusesSecond, SaysBoth, join_second_reply}
 use Rattle.tizhagor.specs.ComparedHere.{Answers, AnswersAny, ComparesTo, IsCompared, IsSaidBy, RefusesCompared, replied_at}
 use Rattle.tizhagor.specs.Compares.{Compares, SomeFails}
 use Rattle.tizhagor.specs.Ends.{EndsHere, IsFatal, IsReplied, IsTold, IsToldOf}
@@ -26,6 +26,8 @@ use Rattle.tizhagor.specs.Parts.{memory_line}
 use Rattle.tizhagor.specs.Refusals.{memory, status_of}
 use Rattle.tizhagor.proofs.ComparedEnds as alone
 use Rattle.tizhagor.proofs.Ended as ended
+use Rattle.tizhagor.proofs.Statuses as statuses
+use Rattle.tizhagor.proofs.TaskEnds as tasks
 
 same_reply : {a b : Reply} → ◌≡◌ {A = Result Reply HereRefusal} (Ok a) (Ok b) → a ≡ b
 same_reply e = cc
@@ -36,7 +38,7 @@ same_some e = cc
 -- a first reply is one alone
 same_first : (composes : Bool) (t : Names) (found : Result Found HereRefusal) (word : TreeWord) (a b : Reply) → output.IsSaidOf composes t found word a → output.IsSaidOf composes t found word b → a ≡ b
 same_first composes t found word a b x y =
-    let same : x.here ≡ y.here = ended.same_found (sym x.found_is ∙ y.found_is) in
+    let same : x.here ≡ y.here = statuses.same_found (sym x.found_is ∙ y.found_is) in
     same_some (sym x.reply_is ∙ ap (λ (here : Found). said_for composes t here word) same ∙ y.reply_is)
 
 memory_not : (e : HereRefusal) (n : ℕ) → e ≡ memory → status_of e ≡ n → n ≡ 128
@@ -45,7 +47,7 @@ memory_not e n is status = sym status ∙ ap status_of is
 -- ---- two words, the second behind the first
 
 module _ {W I O D : Type 0} (w : WorktreeOf W) (i : InterruptOf I) (o : OwnersOf O) (d : StatsOf D) (w0 w1 : W) (i0 i1 : I) (o0 o1 : O) (d0 d1 : D)
-    (walked : Names → Owned → Result Found HereRefusal) (word : TreeWord) (join : Reply → Reply → Reply) (changed : Names → Owned → Told → Result Reply HereRefusal) where
+    (walked : Names → OwnershipByPath → Result Found HereRefusal) (word : TreeWord) (join : Reply → Reply → Reply) (changed : Names → OwnershipByPath → Told → Result Reply HereRefusal) where
   -- both have a reply
   record Gave (reply : Reply) : Type 0 where
     middle : W
@@ -69,23 +71,23 @@ module _ {W I O D : Type 0} (w : WorktreeOf W) (i : InterruptOf I) (o : OwnersOf
   gave_by reply both (Ok second) compares is =
       elim is [
         | inl same ↦ record { middle = both.middle; owners = both.owners; first = both.first; second = second; walks = both.walks; compares = compares; reply_is = same_reply same }
-        | inr wants ↦ absurd (ended.no_reply wants)
+        | inr wants ↦ absurd (statuses.no_reply wants)
       ]
-  gave_by reply both (Err e) compares is = absurd (ended.no_reply is)
+  gave_by reply both (Err e) compares is = absurd (statuses.no_reply is)
 
   gave : (reply : Reply) → AnswersBoth w i o d w0 w1 i0 i1 o0 o1 d0 d1 walked word join changed (Ok reply) → Gave reply
-  gave reply a = elim a [ inl refused ↦ absurd (ended.no_reply refused.answer_is) | inr both ↦ gave_by reply both both.second both.compares both.joined ]
+  gave reply a = elim a [ inl refused ↦ absurd (statuses.no_reply refused.answer_is) | inr both ↦ gave_by reply both both.second both.compares both.joined ]
 
   refused_by : (e : HereRefusal) (both : BothAnswer w i o d w0 w1 i0 i1 o0 o1 d0 d1 walked word join changed (Err e)) (second : Result Reply HereRefusal)
       → Compares w o d both.middle w1 both.owners o1 d0 d1 changed second → IsJoined join both.first second (Err e) → RefusedBehind e ⊎ (e ≡ memory)
-  refused_by e both (Ok second) compares is = elim is [ inl same ↦ absurd (ended.no_reply (sym same)) | inr wants ↦ inr (ended.same_error wants) ]
+  refused_by e both (Ok second) compares is = elim is [ inl same ↦ absurd (statuses.no_reply (sym same)) | inr wants ↦ inr (statuses.same_error wants) ]
   refused_by e both (Err other) compares is =
       inl (record {
         middle = both.middle;
         owners = both.owners;
         first = both.first;
         walks = both.walks;
-        compares = subst (λ (x : HereRefusal). Compares w o d both.middle w1 both.owners o1 d0 d1 changed (Err x)) (sym (ended.same_error is)) compares;
+        compares = subst (λ (x : HereRefusal). Compares w o d both.middle w1 both.owners o1 d0 d1 changed (Err x)) (sym (statuses.same_error is)) compares;
       })
 
   -- a refusal is the first's, the second's, or want of memory
@@ -93,30 +95,30 @@ module _ {W I O D : Type 0} (w : WorktreeOf W) (i : InterruptOf I) (o : OwnersOf
       → AnswersWord w i o w0 w1 i0 i1 o0 o1 walked word (Err e) ⊎ (RefusedBehind e ⊎ (e ≡ memory))
   refusal_of e a =
       elim a [
-        | inl refused ↦ inl (subst (λ (x : HereRefusal). AnswersWord w i o w0 w1 i0 i1 o0 o1 walked word (Err x)) (sym (ended.same_error refused.answer_is)) refused.walks)
+        | inl refused ↦ inl (subst (λ (x : HereRefusal). AnswersWord w i o w0 w1 i0 i1 o0 o1 walked word (Err x)) (sym (statuses.same_error refused.answer_is)) refused.walks)
         | inr both ↦ inr (refused_by e both both.second both.compares both.joined)
       ]
 
   gave_faults : (reply : Reply) → Gave reply → w.faults w1 ≡ w.faults w0
-  gave_faults reply g = g.compares.unfaulted ∙ ended.word_unfaulted w i o w0 g.middle i0 i1 o0 g.owners walked word g.first g.walks
+  gave_faults reply g = g.compares.unfaulted ∙ tasks.word_unfaulted w i o w0 g.middle i0 i1 o0 g.owners walked word g.first g.walks
 
   gave_owners : (reply : Reply) → Gave reply → o.faults o1 ≡ o.faults o0
   gave_owners reply g = g.compares.owners_unfaulted ∙ g.walks.owners_unfaulted
 
-  gave_first : (reply : Reply) (g : Gave reply) (t : Names) (owned : Owned) → w.told w0 ≡ Some t → o.told o0 ≡ Some owned → output.IsSaidOf (w.precomposes w0) t (walked t owned) word g.first
-  gave_first reply g t owned tree owns = ended.word_reply w i o w0 g.middle i0 i1 o0 g.owners walked word g.first g.walks t owned tree owns
+  gave_first : (reply : Reply) (g : Gave reply) (t : Names) (owned : OwnershipByPath) → w.told w0 ≡ Some t → o.told o0 ≡ Some owned → output.IsSaidOf (w.precomposes w0) t (walked t owned) word g.first
+  gave_first reply g t owned tree owns = tasks.word_reply w i o w0 g.middle i0 i1 o0 g.owners walked word g.first g.walks t owned tree owns
 
-  gave_second : (reply : Reply) (g : Gave reply) (t : Names) (owned : Owned) → w.told w0 ≡ Some t → o.told o0 ≡ Some owned → (told : Told) → d.told d0 ≡ Some told → changed t owned told ≡ Ok g.second
+  gave_second : (reply : Reply) (g : Gave reply) (t : Names) (owned : OwnershipByPath) → w.told w0 ≡ Some t → o.told o0 ≡ Some owned → (told : Told) → d.told d0 ≡ Some told → changed t owned told ≡ Ok g.second
   gave_second reply g t owned tree owns told tells =
-      g.compares.gives t owned told (ended.word_tree w i o w0 g.middle i0 i1 o0 g.owners walked word g.first g.walks ∙ tree) (g.walks.owners.told ∙ owns) tells
+      g.compares.gives t owned told (tasks.word_tree w i o w0 g.middle i0 i1 o0 g.owners walked word g.first g.walks ∙ tree) (g.walks.owners.told ∙ owns) tells
 
-  behind_first : (e : HereRefusal) (r : RefusedBehind e) (t : Names) (owned : Owned) → w.told w0 ≡ Some t → o.told o0 ≡ Some owned → output.IsSaidOf (w.precomposes w0) t (walked t owned) word r.first
-  behind_first e r t owned tree owns = ended.word_reply w i o w0 r.middle i0 i1 o0 r.owners walked word r.first r.walks t owned tree owns
+  behind_first : (e : HereRefusal) (r : RefusedBehind e) (t : Names) (owned : OwnershipByPath) → w.told w0 ≡ Some t → o.told o0 ≡ Some owned → output.IsSaidOf (w.precomposes w0) t (walked t owned) word r.first
+  behind_first e r t owned tree owns = tasks.word_reply w i o w0 r.middle i0 i1 o0 r.owners walked word r.first r.walks t owned tree owns
 
   -- nothing failed
   no_fault : (e : HereRefusal) (r : RefusedBehind e) → SomeFails w o d r.middle w1 r.owners o1 d0 d1 → NotIncreased (w.faults w0) (w.faults w1) → NotIncreased (o.faults o0) (o.faults o1) → NotIncreased (d.faults d0) (d.faults d1) → ⊥
   no_fault e r failed quiet owners_quiet stats_quiet =
-      let same = ended.word_unfaulted w i o w0 r.middle i0 i1 o0 r.owners walked word r.first r.walks in
+      let same = tasks.word_unfaulted w i o w0 r.middle i0 i1 o0 r.owners walked word r.first r.walks in
       let owners_same = r.walks.owners_unfaulted in
       elim failed [
         | inl rose ↦ omega (arith, rose, quiet, same)
@@ -124,11 +126,11 @@ module _ {W I O D : Type 0} (w : WorktreeOf W) (i : InterruptOf I) (o : OwnersOf
         | inr (inr rose) ↦ omega (arith, rose, stats_quiet)
       ]
 
-  behind_is : (e : HereRefusal) (r : RefusedBehind e) (t : Names) (owned : Owned) → w.told w0 ≡ Some t → o.told o0 ≡ Some owned
+  behind_is : (e : HereRefusal) (r : RefusedBehind e) (t : Names) (owned : OwnershipByPath) → w.told w0 ≡ Some t → o.told o0 ≡ Some owned
       → NotIncreased (w.faults w0) (w.faults w1) → NotIncreased (o.faults o0) (o.faults o1) → (told : Told) → d.told d0 ≡ Some told → NotIncreased (d.faults d0) (d.faults d1)
       → (e ≡ memory) ⊎ (changed t owned told ≡ Err e)
   behind_is e r t owned tree owns quiet owners_quiet told tells stats_quiet =
-      elim (r.compares.gives t owned told (ended.word_tree w i o w0 r.middle i0 i1 o0 r.owners walked word r.first r.walks ∙ tree) (r.walks.owners.told ∙ owns) tells) [
+      elim (r.compares.gives t owned told (tasks.word_tree w i o w0 r.middle i0 i1 o0 r.owners walked word r.first r.walks ∙ tree) (r.walks.owners.told ∙ owns) tells) [
         | inl is ↦ inr is
         | inr (inl failed) ↦ absurd (no_fault e r (r.compares.cause (ap Err failed)) quiet owners_quiet stats_quiet)
         | inr (inr wants) ↦ inl wants
@@ -137,47 +139,47 @@ module _ {W I O D : Type 0} (w : WorktreeOf W) (i : InterruptOf I) (o : OwnersOf
   not_misuse : (e : HereRefusal) → AnswersBoth w i o d w0 w1 i0 i1 o0 o1 d0 d1 walked word join changed (Err e) → status_of e ≡ 129 → ⊥
   not_misuse e a is =
       elim (refusal_of e a) [
-        | inl walks ↦ ended.word_not_misuse w i o w0 w1 i0 i1 o0 o1 walked word e walks is
-        | inr (inl r) ↦ ended.finding_not_misuse e r.compares.of is
+        | inl walks ↦ tasks.word_not_misuse w i o w0 w1 i0 i1 o0 o1 walked word e walks is
+        | inr (inl r) ↦ statuses.finding_not_misuse e r.compares.of is
         | inr (inr wants) ↦ absurd (let same = memory_not e 129 wants is in omega (arith, same))
       ]
 
   was_interrupted : (e : HereRefusal) → AnswersBoth w i o d w0 w1 i0 i1 o0 o1 d0 d1 walked word join changed (Err e) → status_of e ≡ 130 → Increased (i.raised i0) (i.raised i1)
   was_interrupted e a is =
       elim (refusal_of e a) [
-        | inl walks ↦ ended.word_interrupted w i o w0 w1 i0 i1 o0 o1 walked word e walks is
-        | inr (inl r) ↦ absurd (ended.finding_not_interrupted e r.compares.of is)
+        | inl walks ↦ tasks.word_interrupted w i o w0 w1 i0 i1 o0 o1 walked word e walks is
+        | inr (inl r) ↦ absurd (statuses.finding_not_interrupted e r.compares.of is)
         | inr (inr wants) ↦ absurd (let same = memory_not e 130 wants is in omega (arith, same))
       ]
 
   -- nothing is found for the first
-  none_found : (answer : Result Reply HereRefusal) → AnswersBoth w i o d w0 w1 i0 i1 o0 o1 d0 d1 walked word join changed answer → (t : Names) (owned : Owned) → w.told w0 ≡ Some t → o.told o0 ≡ Some owned
-      → NotIncreased (w.faults w0) (w.faults w1) → NotIncreased (o.faults o0) (o.faults o1) → (e : HereRefusal) → walked t owned ≡ Err e → ended.IsRefusedAs e answer
-  none_found (Ok reply) a t owned tree owns quiet owners_quiet e known = let g = gave reply a in ended.not_found (sym (g.walks.is t owned tree owns) ∙ known)
+  none_found : (answer : Result Reply HereRefusal) → AnswersBoth w i o d w0 w1 i0 i1 o0 o1 d0 d1 walked word join changed answer → (t : Names) (owned : OwnershipByPath) → w.told w0 ≡ Some t → o.told o0 ≡ Some owned
+      → NotIncreased (w.faults w0) (w.faults w1) → NotIncreased (o.faults o0) (o.faults o1) → (e : HereRefusal) → walked t owned ≡ Err e → tasks.IsRefusedAs e answer
+  none_found (Ok reply) a t owned tree owns quiet owners_quiet e known = let g = gave reply a in statuses.not_found (sym (g.walks.is t owned tree owns) ∙ known)
   none_found (Err other) a t owned tree owns quiet owners_quiet e known =
       elim (refusal_of other a) [
-        | inl walks ↦ ended.word_none w i o w0 w1 i0 i1 o0 o1 walked word (Err other) walks t owned tree owns quiet owners_quiet e known
-        | inr (inl r) ↦ absurd (ended.not_found (sym (r.walks.is t owned tree owns) ∙ known))
+        | inl walks ↦ tasks.word_none w i o w0 w1 i0 i1 o0 o1 walked word (Err other) walks t owned tree owns quiet owners_quiet e known
+        | inr (inl r) ↦ absurd (statuses.not_found (sym (r.walks.is t owned tree owns) ∙ known))
         | inr (inr wants) ↦ inr wants
       ]
 
   -- what both say over a tree, owners and stats is the answer, or memory is wanted
-  gave_wanted : (reply : Reply) → AnswersBoth w i o d w0 w1 i0 i1 o0 o1 d0 d1 walked word join changed (Ok reply) → (t : Names) (owned : Owned) (told : Told) → w.told w0 ≡ Some t → o.told o0 ≡ Some owned → d.told d0 ≡ Some told
+  gave_wanted : (reply : Reply) → AnswersBoth w i o d w0 w1 i0 i1 o0 o1 d0 d1 walked word join changed (Ok reply) → (t : Names) (owned : OwnershipByPath) (told : Told) → w.told w0 ≡ Some t → o.told o0 ≡ Some owned → d.told d0 ≡ Some told
       → (wanted : Result Reply HereRefusal) → SaysBoth (w.precomposes w0) t (walked t owned) word join (changed t owned told) wanted → wanted ≡ Ok reply
   gave_wanted reply a t owned told tree owns tells wanted says =
       let g = gave reply a in
       let same : says.first ≡ g.first = same_first (w.precomposes w0) t (walked t owned) word says.first g.first says.first_is (gave_first reply g t owned tree owns) in
-      says.wanted_is ∙ ap (beside join says.first) (gave_second reply g t owned tree owns told tells) ∙ ap (λ (first : Reply). Ok (join first g.second)) same ∙ ap Ok (sym g.reply_is)
+      says.wanted_is ∙ ap (join_second_reply join says.first) (gave_second reply g t owned tree owns told tells) ∙ ap (λ (first : Reply). Ok (join first g.second)) same ∙ ap Ok (sym g.reply_is)
 
-  refused_wanted : (e : HereRefusal) → AnswersBoth w i o d w0 w1 i0 i1 o0 o1 d0 d1 walked word join changed (Err e) → (t : Names) (owned : Owned) (told : Told) → w.told w0 ≡ Some t → o.told o0 ≡ Some owned → d.told d0 ≡ Some told
+  refused_wanted : (e : HereRefusal) → AnswersBoth w i o d w0 w1 i0 i1 o0 o1 d0 d1 walked word join changed (Err e) → (t : Names) (owned : OwnershipByPath) (told : Told) → w.told w0 ≡ Some t → o.told o0 ≡ Some owned → d.told d0 ≡ Some told
       → NotIncreased (w.faults w0) (w.faults w1) → NotIncreased (o.faults o0) (o.faults o1) → NotIncreased (d.faults d0) (d.faults d1) → NotIncreased (i.raised i0) (i.raised i1)
       → (wanted : Result Reply HereRefusal) → SaysBoth (w.precomposes w0) t (walked t owned) word join (changed t owned told) wanted → (e ≡ memory) ⊎ (wanted ≡ Err e)
   refused_wanted e a t owned told tree owns tells quiet owners_quiet stats_quiet calm wanted says =
       elim (refusal_of e a) [
-        | inl walks ↦ inl (ended.word_complete w i o w0 w1 i0 i1 o0 o1 walked word e walks t owned tree owns quiet owners_quiet calm says.ready)
+        | inl walks ↦ inl (tasks.word_complete w i o w0 w1 i0 i1 o0 o1 walked word e walks t owned tree owns quiet owners_quiet calm says.ready)
         | inr (inl r) ↦ elim (behind_is e r t owned tree owns quiet owners_quiet told tells stats_quiet) [
           | inl wants ↦ inl wants
-          | inr is ↦ inr (says.wanted_is ∙ ap (beside join says.first) is)
+          | inr is ↦ inr (says.wanted_is ∙ ap (join_second_reply join says.first) is)
         ]
         | inr (inr wants) ↦ inl wants
       ]
@@ -185,7 +187,7 @@ module _ {W I O D : Type 0} (w : WorktreeOf W) (i : InterruptOf I) (o : OwnersOf
 -- ---- tasks
 
 no_both : {W I O : Type 0} (w : WorktreeOf W) (i : InterruptOf I) (o : OwnersOf O) (w0 w1 : W) (i0 i1 : I) (o0 o1 : O) (place : Place) (directory : Option (List ℕ)) (answer wanted : Result Reply HereRefusal)
-    (composes : Bool) (t : Names) (owned : Owned) (told : Told) (task : Task) → AnswersTask w i o w0 w1 i0 i1 o0 o1 place directory answer task → IsBothBy composes t owned told place directory wanted task → ⊥
+    (composes : Bool) (t : Names) (owned : OwnershipByPath) (told : Told) (task : Task) → AnswersTask w i o w0 w1 i0 i1 o0 o1 place directory answer task → IsBothBy composes t owned told place directory wanted task → ⊥
 no_both w i o w0 w1 i0 i1 o0 o1 place directory answer wanted composes t owned told (call_of call asked writing) a says = says
 no_both w i o w0 w1 i0 i1 o0 o1 place directory answer wanted composes t owned told (word_of word asked) a says = says
 no_both w i o w0 w1 i0 i1 o0 o1 place directory answer wanted composes t owned told (check_of wants asked) a says = says
@@ -236,7 +238,7 @@ module _ {W I O D S E : Type 0} (w : WorktreeOf W) (i : InterruptOf I) (o : Owne
       elim any [
         | inl by ↦ alone.unfaulted w i o d s e w0 w1 i0 i1 o0 o1 d0 d1 s0 s1 e0 e1 first place words status answer by ends few
         | inr a ↦
-            let wrote = ended.ends_low s e s0 s1 e0 e1 first status answer ends few in
+            let wrote = statuses.ends_low s e s0 s1 e0 e1 first status answer ends few in
             record {
               request = a.request;
               asked = a.asked;
@@ -249,7 +251,7 @@ module _ {W I O D S E : Type 0} (w : WorktreeOf W) (i : InterruptOf I) (o : Owne
   owners_unfaulted answer any ends few =
       elim any [
         | inl by ↦ alone.owners_unfaulted w i o d s e w0 w1 i0 i1 o0 o1 d0 d1 s0 s1 e0 e1 first place words status answer by ends few
-        | inr a ↦ let wrote = ended.ends_low s e s0 s1 e0 e1 first status answer ends few in gave_owners w i o d w0 w1 i0 i1 o0 o1 d0 d1 _ _ _ _ wrote.0 (gave_here answer wrote.0 a wrote.1)
+        | inr a ↦ let wrote = statuses.ends_low s e s0 s1 e0 e1 first status answer ends few in gave_owners w i o d w0 w1 i0 i1 o0 o1 d0 d1 _ _ _ _ wrote.0 (gave_here answer wrote.0 a wrote.1)
       ]
 
   pub stats_unfaulted : (answer : Result Reply HereRefusal) → AnswersAll w i o d w0 w1 i0 i1 o0 o1 d0 d1 place words answer → EndsHere s e s0 s1 e0 e1 first answer status
@@ -257,12 +259,12 @@ module _ {W I O D S E : Type 0} (w : WorktreeOf W) (i : InterruptOf I) (o : Owne
   stats_unfaulted answer any ends few =
       elim any [
         | inl by ↦ alone.stats_unfaulted w i o d s e w0 w1 i0 i1 o0 o1 d0 d1 s0 s1 e0 e1 first place words status answer by ends few
-        | inr a ↦ let wrote = ended.ends_low s e s0 s1 e0 e1 first status answer ends few in (gave_here answer wrote.0 a wrote.1).compares.stats_unfaulted
+        | inr a ↦ let wrote = statuses.ends_low s e s0 s1 e0 e1 first status answer ends few in (gave_here answer wrote.0 a wrote.1).compares.stats_unfaulted
       ]
 
   -- what is said of the output where there is a reply
   is_both : (answer : Result Reply HereRefusal) (reply : Reply) (a : AnswersBeside w i o d w0 w1 i0 i1 o0 o1 d0 d1 place words answer) → answer ≡ Ok reply
-      → (t : Names) (owned : Owned) → w.told w0 ≡ Some t → o.told o0 ≡ Some owned → IsBoth (w.precomposes w0) t owned (d.told d0) place words reply
+      → (t : Names) (owned : OwnershipByPath) → w.told w0 ≡ Some t → o.told o0 ≡ Some owned → IsBoth (w.precomposes w0) t owned (d.told d0) place words reply
   is_both answer reply a is t owned tree owns =
       let g = gave_here answer reply a is in
       record {
@@ -276,7 +278,7 @@ module _ {W I O D S E : Type 0} (w : WorktreeOf W) (i : InterruptOf I) (o : Owne
       }
 
   pub gives : (answer : Result Reply HereRefusal) → AnswersAll w i o d w0 w1 i0 i1 o0 o1 d0 d1 place words answer → EndsHere s e s0 s1 e0 e1 first answer status
-      → (t : Names) (owned : Owned) → w.told w0 ≡ Some t → o.told o0 ≡ Some owned → status ≤ 1
+      → (t : Names) (owned : OwnershipByPath) → w.told w0 ≡ Some t → o.told o0 ≡ Some owned → status ≤ 1
       → (reply : Reply) × (output.IsOutputHere (w.precomposes w0) t owned place words (w.faults w0) (w.faults w1) reply ⊎ (IsCompared t owned (d.told d0) place words reply ⊎ IsBoth (w.precomposes w0) t owned (d.told d0) place words reply))
       × IsReplied s e s0 s1 e0 e1 reply status
   gives answer any ends t owned tree owns few =
@@ -285,7 +287,7 @@ module _ {W I O D S E : Type 0} (w : WorktreeOf W) (i : InterruptOf I) (o : Owne
             let gave = alone.gives w i o d s e w0 w1 i0 i1 o0 o1 d0 d1 s0 s1 e0 e1 first place words status answer by ends t owned tree owns few in
             elim gave.1 [ inl here ↦ (gave.0, inl here, gave.2) | inr compared ↦ (gave.0, inr (inl compared), gave.2) ]
         | inr a ↦
-            let wrote = ended.ends_low s e s0 s1 e0 e1 first status answer ends few in
+            let wrote = statuses.ends_low s e s0 s1 e0 e1 first status answer ends few in
             (wrote.0, inr (inr (is_both answer wrote.0 a wrote.1 t owned tree owns)), wrote.2)
       ]
 
@@ -294,7 +296,7 @@ module _ {W I O D S E : Type 0} (w : WorktreeOf W) (i : InterruptOf I) (o : Owne
       elim any [
         | inl by ↦ alone.misuse w i o d s e w0 w1 i0 i1 o0 o1 d0 d1 s0 s1 e0 e1 first place words status answer by ends is
         | inr a ↦
-            let refused = ended.ends_above s e s0 s1 e0 e1 first status answer ends 129 is (omega arith) in
+            let refused = statuses.ends_above s e s0 s1 e0 e1 first status answer ends 129 is (omega arith) in
             absurd (not_misuse w i o d w0 w1 i0 i1 o0 o1 d0 d1 _ _ _ _ refused.0 (as_known answer (Err refused.0) a refused.1) refused.2)
       ]
 
@@ -303,7 +305,7 @@ module _ {W I O D S E : Type 0} (w : WorktreeOf W) (i : InterruptOf I) (o : Owne
   usage answer any ends known =
       elim any [
         | inl by ↦ alone.usage w i o d s e w0 w1 i0 i1 o0 o1 d0 d1 s0 s1 e0 e1 first place words status answer by ends known
-        | inr a ↦ absurd (ended.no_asking (sym a.asked ∙ known.is))
+        | inr a ↦ absurd (statuses.no_asking (sym a.asked ∙ known.is))
       ]
 
   pub interrupted : (answer : Result Reply HereRefusal) → AnswersAll w i o d w0 w1 i0 i1 o0 o1 d0 d1 place words answer → EndsHere s e s0 s1 e0 e1 first answer status → status ≡ 130
@@ -312,17 +314,17 @@ module _ {W I O D S E : Type 0} (w : WorktreeOf W) (i : InterruptOf I) (o : Owne
       elim any [
         | inl by ↦ alone.interrupted w i o d s e w0 w1 i0 i1 o0 o1 d0 d1 s0 s1 e0 e1 first place words status answer by ends is
         | inr a ↦
-            let refused = ended.ends_above s e s0 s1 e0 e1 first status answer ends 130 is (omega arith) in
+            let refused = statuses.ends_above s e s0 s1 e0 e1 first status answer ends 130 is (omega arith) in
             was_interrupted w i o d w0 w1 i0 i1 o0 o1 d0 d1 _ _ _ _ refused.0 (as_known answer (Err refused.0) a refused.1) refused.2
       ]
 
   -- a refusal of the first, or of the second
-  refuses : (refusal : HereRefusal) (a : AnswersBeside w i o d w0 w1 i0 i1 o0 o1 d0 d1 place words (Err refusal)) (t : Names) (owned : Owned) → w.told w0 ≡ Some t → o.told o0 ≡ Some owned
+  refuses : (refusal : HereRefusal) (a : AnswersBeside w i o d w0 w1 i0 i1 o0 o1 d0 d1 place words (Err refusal)) (t : Names) (owned : OwnershipByPath) → w.told w0 ≡ Some t → o.told o0 ≡ Some owned
       → NotIncreased (w.faults w0) (w.faults w1) → NotIncreased (o.faults o0) (o.faults o1) → status_of refusal ≡ 128
       → (refusal ≡ memory) ⊎ (output.RefusesHere (w.precomposes w0) t owned place words refusal ⊎ RefusesSecond (w.precomposes w0) t owned (d.told d0) (d.faults d0) (d.faults d1) place words refusal)
   refuses refusal a t owned tree owns quiet owners_quiet is =
       elim (refusal_of w i o d w0 w1 i0 i1 o0 o1 d0 d1 _ _ _ _ refusal a.both) [
-        | inl walks ↦ elim (ended.word_refuses w i o w0 w1 i0 i1 o0 o1 _ _ refusal walks t owned tree owns quiet owners_quiet is) [
+        | inl walks ↦ elim (tasks.word_refuses w i o w0 w1 i0 i1 o0 o1 _ _ refusal walks t owned tree owns quiet owners_quiet is) [
           | inl wants ↦ inl wants
           | inr known ↦ inr (inl (record {
             request = a.request;
@@ -344,13 +346,13 @@ module _ {W I O D S E : Type 0} (w : WorktreeOf W) (i : InterruptOf I) (o : Owne
       ]
 
   pub fatal : (answer : Result Reply HereRefusal) → AnswersAll w i o d w0 w1 i0 i1 o0 o1 d0 d1 place words answer → EndsHere s e s0 s1 e0 e1 first answer status
-      → (t : Names) (owned : Owned) → w.told w0 ≡ Some t → o.told o0 ≡ Some owned → status ≡ 128 → NotIncreased (w.faults w0) (w.faults w1) → NotIncreased (o.faults o0) (o.faults o1) → NotIncreased (s.refusals s0) (s.refusals s1)
+      → (t : Names) (owned : OwnershipByPath) → w.told w0 ≡ Some t → o.told o0 ≡ Some owned → status ≡ 128 → NotIncreased (w.faults w0) (w.faults w1) → NotIncreased (o.faults o0) (o.faults o1) → NotIncreased (s.refusals s0) (s.refusals s1)
       → IsToldOf e e0 e1 memory_line 128 status
       ⊎ IsFatal e e0 e1 first (λ refusal. output.RefusesHere (w.precomposes w0) t owned place words refusal
       ⊎ (RefusesCompared t owned (d.told d0) (d.faults d0) (d.faults d1) place words refusal ⊎ RefusesSecond (w.precomposes w0) t owned (d.told d0) (d.faults d0) (d.faults d1) place words refusal))
   fatal (Ok reply) any ends t owned tree owns is quiet owners_quiet taken =
       elim ends.by [
-        | inl whole ↦ absurd (let same = whole.status_is in let low = ended.is_low reply in omega (arith, same, low, is))
+        | inl whole ↦ absurd (let same = whole.status_is in let low = statuses.is_low reply in omega (arith, same, low, is))
         | inr cut ↦ absurd (let cause = cut.cause in omega (arith, cause, taken))
       ]
   fatal (Err refusal) any ends t owned tree owns is quiet owners_quiet taken =
@@ -364,7 +366,7 @@ module _ {W I O D S E : Type 0} (w : WorktreeOf W) (i : InterruptOf I) (o : Owne
         ]
         | inr a ↦ elim ends.by.1 [
           | inl told ↦ elim (refuses refusal a t owned tree owns quiet owners_quiet (sym told.status_is ∙ is)) [
-            | inl wants ↦ inl (ended.wants_memory s e s0 s1 e0 e1 first status refusal wants ends.by.1)
+            | inl wants ↦ inl (statuses.wants_memory s e s0 s1 e0 e1 first status refusal wants ends.by.1)
             | inr (inl here) ↦ inr (record { refusal = refusal; refused = inl here; said = told.said })
             | inr (inr second) ↦ inr (record { refusal = refusal; refused = inr (inr second); said = told.said })
           ]
@@ -373,7 +375,7 @@ module _ {W I O D S E : Type 0} (w : WorktreeOf W) (i : InterruptOf I) (o : Owne
       ]
 
   pub refused : (answer : Result Reply HereRefusal) → AnswersAll w i o d w0 w1 i0 i1 o0 o1 d0 d1 place words answer → EndsHere s e s0 s1 e0 e1 first answer status
-      → (t : Names) (owned : Owned) (refusal : HereRefusal) → w.told w0 ≡ Some t → o.told o0 ≡ Some owned → output.IsNotFoundHere t owned place words refusal
+      → (t : Names) (owned : OwnershipByPath) (refusal : HereRefusal) → w.told w0 ≡ Some t → o.told o0 ≡ Some owned → output.IsNotFoundHere t owned place words refusal
       → NotIncreased (w.faults w0) (w.faults w1) → NotIncreased (o.faults o0) (o.faults o1) → IsTold e e0 e1 first refusal status
   refused answer any ends t owned refusal tree owns known quiet owners_quiet =
       elim any [
@@ -384,7 +386,7 @@ module _ {W I O D S E : Type 0} (w : WorktreeOf W) (i : InterruptOf I) (o : Owne
       ]
 
   pub complete : (answer : Result Reply HereRefusal) → AnswersAll w i o d w0 w1 i0 i1 o0 o1 d0 d1 place words answer → EndsHere s e s0 s1 e0 e1 first answer status
-      → (t : Names) (owned : Owned) → w.told w0 ≡ Some t → o.told o0 ≡ Some owned → output.IsValidHere (w.precomposes w0) t owned place words → NotIncreased (w.faults w0) (w.faults w1) → NotIncreased (o.faults o0) (o.faults o1)
+      → (t : Names) (owned : OwnershipByPath) → w.told w0 ≡ Some t → o.told o0 ≡ Some owned → output.IsValidHere (w.precomposes w0) t owned place words → NotIncreased (w.faults w0) (w.faults w1) → NotIncreased (o.faults o0) (o.faults o1)
       → NotIncreased (i.raised i0) (i.raised i1) → NotIncreased (s.refusals s0) (s.refusals s1) → (status ≤ 1) ⊎ IsToldOf e e0 e1 memory_line 128 status
   complete answer any ends t owned tree owns valid quiet owners_quiet calm taken =
       elim any [
@@ -393,7 +395,7 @@ module _ {W I O D S E : Type 0} (w : WorktreeOf W) (i : InterruptOf I) (o : Owne
       ]
 
   both_ends : (answer wanted : Result Reply HereRefusal) (a : AnswersBeside w i o d w0 w1 i0 i1 o0 o1 d0 d1 place words answer) → EndsHere s e s0 s1 e0 e1 first answer status
-      → (t : Names) (owned : Owned) (told : Told) → w.told w0 ≡ Some t → o.told o0 ≡ Some owned → d.told d0 ≡ Some told → IsBothTo (w.precomposes w0) t owned told place words wanted
+      → (t : Names) (owned : OwnershipByPath) (told : Told) → w.told w0 ≡ Some t → o.told o0 ≡ Some owned → d.told d0 ≡ Some told → IsBothTo (w.precomposes w0) t owned told place words wanted
       → NotIncreased (w.faults w0) (w.faults w1) → NotIncreased (o.faults o0) (o.faults o1) → NotIncreased (d.faults d0) (d.faults d1) → NotIncreased (i.raised i0) (i.raised i1)
       → IsToldOf e e0 e1 memory_line 128 status ⊎ EndsHere s e s0 s1 e0 e1 first wanted status
   both_ends (Ok reply) wanted a ends t owned told tree owns tells known quiet owners_quiet stats_quiet calm =
@@ -402,25 +404,25 @@ module _ {W I O D S E : Type 0} (w : WorktreeOf W) (i : InterruptOf I) (o : Owne
   both_ends (Err refusal) wanted a ends t owned told tree owns tells known quiet owners_quiet stats_quiet calm =
       let says = of_task (λ (x : Task). IsBothBy (w.precomposes w0) t owned told place a.request.directory wanted x) (Err refusal) a (known.is a.request a.asked) in
       elim (refused_wanted w i o d w0 w1 i0 i1 o0 o1 d0 d1 _ _ _ _ refusal a.both t owned told tree owns tells quiet owners_quiet stats_quiet calm wanted says) [
-        | inl wants ↦ inl (ended.wants_memory s e s0 s1 e0 e1 first status refusal wants ends.by.1)
+        | inl wants ↦ inl (statuses.wants_memory s e s0 s1 e0 e1 first status refusal wants ends.by.1)
         | inr is ↦ inr (subst (λ (x : Result Reply HereRefusal). EndsHere s e s0 s1 e0 e1 first x status) (sym is) ends)
       ]
 
   -- the words ask for both, and something else is answered: memory was wanted for them
   both_unread : (answer wanted : Result Reply HereRefusal) → Answers w i o d w0 w1 i0 i1 o0 o1 d0 d1 place words answer → EndsHere s e s0 s1 e0 e1 first answer status
-      → (t : Names) (owned : Owned) (told : Told) → IsBothTo (w.precomposes w0) t owned told place words wanted → IsToldOf e e0 e1 memory_line 128 status
+      → (t : Names) (owned : OwnershipByPath) (told : Told) → IsBothTo (w.precomposes w0) t owned told place words wanted → IsToldOf e e0 e1 memory_line 128 status
   both_unread answer wanted by ends t owned told known =
       elim by [
         | inl here ↦ elim here.0 [
           | inl of ↦ absurd (no_both w i o w0 w1 i0 i1 o0 o1 place of.request.directory answer wanted (w.precomposes w0) t owned told (task_of place.takes_colors of.request.command) of.answers (known.is of.request of.asked))
-          | inr (inl wrong) ↦ absurd (ended.no_asking (sym known.words_are ∙ wrong.misuse.is))
-          | inr (inr unread) ↦ ended.wants_memory s e s0 s1 e0 e1 first status memory refl (subst (λ (x : Result Reply HereRefusal). EndsHere s e s0 s1 e0 e1 first x status) unread.answer_is ends).by.1
+          | inr (inl wrong) ↦ absurd (statuses.no_asking (sym known.words_are ∙ wrong.misuse.is))
+          | inr (inr unread) ↦ statuses.wants_memory s e s0 s1 e0 e1 first status memory refl (subst (λ (x : Result Reply HereRefusal). EndsHere s e s0 s1 e0 e1 first x status) unread.answer_is ends).by.1
         ]
         | inr a ↦ absurd (subst (λ (x : Task). IsBothBy (w.precomposes w0) t owned told place a.request.directory wanted x) a.task_is (known.is a.request a.asked))
       ]
 
   pub compared : (answer : Result Reply HereRefusal) → AnswersAll w i o d w0 w1 i0 i1 o0 o1 d0 d1 place words answer → EndsHere s e s0 s1 e0 e1 first answer status
-      → (t : Names) (owned : Owned) (told : Told) (wanted : Result Reply HereRefusal) → w.told w0 ≡ Some t → o.told o0 ≡ Some owned → d.told d0 ≡ Some told
+      → (t : Names) (owned : OwnershipByPath) (told : Told) (wanted : Result Reply HereRefusal) → w.told w0 ≡ Some t → o.told o0 ≡ Some owned → d.told d0 ≡ Some told
       → ComparesTo t owned told place words wanted ⊎ (NotIncreased (i.raised i0) (i.raised i1) × IsBothTo (w.precomposes w0) t owned told place words wanted)
       → NotIncreased (w.faults w0) (w.faults w1) → NotIncreased (o.faults o0) (o.faults o1) → NotIncreased (d.faults d0) (d.faults d1)
       → IsToldOf e e0 e1 memory_line 128 status ⊎ EndsHere s e s0 s1 e0 e1 first wanted status

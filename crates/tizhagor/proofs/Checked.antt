@@ -4,13 +4,13 @@ use Rattle.check_ignore.specs.Finds.{Finds}
 use Rattle.check_ignore.specs.declared.answer.Answered.{Answered}
 use Rattle.check_ignore.specs.declared.stop.Stop.{Stop}
 use Rattle.check_ignore.specs.declared.stop.Stop.TheVariants as stops
-use Rattle.git_places.specs.Answers.{GivesBy, UnlessBy}
+use Rattle.git_places.specs.Answers.{IsFoundOrFailed, HoldsUnlessFault}
 use Rattle.git_places.proofs.Passes.{passes}
 use Rattle.worktree_fs.specs.declared.owners.Owners.{Ghosts as OwnersOf}
 use Rattle.worktree_fs.specs.declared.worktree.Worktree.{Ghosts as WorktreeOf}
 use Rattle.worktree_fs.specs.Causes.{Increased}
 use Rattle.worktree_fs.specs.Kept.{Asks}
-use Rattle.worktree_fs.specs.Owners.{Owned}
+use Rattle.worktree_fs.specs.Owners.{OwnershipByPath}
 use Rattle.worktree_fs.specs.Tree.{Names}
 use Rattle.tizhagor.specs.declared.refusal.HereRefusal.{HereRefusal}
 use Rattle.tizhagor.specs.declared.reply.Reply.{Reply}
@@ -30,7 +30,7 @@ no_err a e is = absurd cc
 same_err : {A B : Type 0} (a b : HereRefusal) → ◌≡◌ {A = Result A HereRefusal} (Err a) (Err b) → ◌≡◌ {A = Result B HereRefusal} (Err a) (Err b)
 same_err a b e = ap Err (err_is a b e)
 
-unless_any : {A P : Type 0} (answer : Result A HereRefusal) → P → UnlessBy fault answer P
+unless_any : {A P : Type 0} (answer : Result A HereRefusal) → P → HoldsUnlessFault fault answer P
 unless_any (Ok given) holds = holds
 unless_any (Err e) holds = inr holds
 
@@ -119,7 +119,7 @@ module _ {W : Type 0} (w : WorktreeOf W) where
   goes_on w0 w1 w2 given found next whole answer same first then =
       record {
         gives = λ t told.
-            subst (λ (r : Result Reply HereRefusal). GivesBy fault memory answer r) (sym (same t (first.gives t told))) (then.gives t (first.keeps.tree ∙ told));
+            subst (λ (r : Result Reply HereRefusal). IsFoundOrFailed fault memory answer r) (sym (same t (first.gives t told))) (then.gives t (first.keeps.tree ∙ told));
         cause = λ is. subst (λ (n : ℕ). Increased n (w.faults w2)) first.unfaulted (then.cause is);
         unfaulted = on_ok answer (λ is. is ∙ first.unfaulted) then.unfaulted;
         keeps = asks_then w w0 w1 w2 first.keeps then.keeps;
@@ -140,15 +140,15 @@ module _ {W : Type 0} (w : WorktreeOf W) where
 -- ---- behind owners
 
 module _ {W O : Type 0} (w : WorktreeOf W) (o : OwnersOf O) where
-  pub behind_owners : {A : Type 0} (w0 w1 w2 : W) (o0 o1 : O) (given : A) (found : Names → Owned → Result A HereRefusal) (next : Names → Result Reply HereRefusal)
-      (whole : Names → Owned → Result Reply HereRefusal) (answer : Result Reply HereRefusal)
-      → ((t : Names) (owned : Owned) → found t owned ≡ Ok given → whole t owned ≡ next t)
+  pub behind_owners : {A : Type 0} (w0 w1 w2 : W) (o0 o1 : O) (given : A) (found : Names → OwnershipByPath → Result A HereRefusal) (next : Names → Result Reply HereRefusal)
+      (whole : Names → OwnershipByPath → Result Reply HereRefusal) (answer : Result Reply HereRefusal)
+      → ((t : Names) (owned : OwnershipByPath) → found t owned ≡ Ok given → whole t owned ≡ next t)
       → FindsHereWith {A = A} w o w0 w1 o0 o1 found (Ok given) → Looks w w1 w2 next answer → IfErr answer IsOfFinding
       → Checks w o w0 w2 o0 o1 whole answer
   behind_owners w0 w1 w2 o0 o1 given found next whole answer same first then of =
       record {
         gives = λ t owned told owns.
-            subst (λ (r : Result Reply HereRefusal). GivesBy fault memory answer r) (sym (same t owned (first.gives t owned told owns)))
+            subst (λ (r : Result Reply HereRefusal). IsFoundOrFailed fault memory answer r) (sym (same t owned (first.gives t owned told owns)))
             (then.gives t (first.keeps.tree ∙ told));
         of = of;
         cause = λ is. inl (subst (λ (n : ℕ). Increased n (w.faults w2)) first.unfaulted (then.cause is));
@@ -158,8 +158,8 @@ module _ {W O : Type 0} (w : WorktreeOf W) (o : OwnersOf O) where
         owners = first.owners;
       }
 
-  pub stops_before : {A : Type 0} (w0 w1 : W) (o0 o1 : O) (e : HereRefusal) (found : Names → Owned → Result A HereRefusal) (whole : Names → Owned → Result Reply HereRefusal)
-      → ((t : Names) (owned : Owned) → found t owned ≡ Err e → whole t owned ≡ Err e)
+  pub stops_before : {A : Type 0} (w0 w1 : W) (o0 o1 : O) (e : HereRefusal) (found : Names → OwnershipByPath → Result A HereRefusal) (whole : Names → OwnershipByPath → Result Reply HereRefusal)
+      → ((t : Names) (owned : OwnershipByPath) → found t owned ≡ Err e → whole t owned ≡ Err e)
       → FindsHereWith {A = A} w o w0 w1 o0 o1 found (Err e) → IsOfFinding e → Checks w o w0 w1 o0 o1 whole (Err e)
   stops_before w0 w1 o0 o1 e found whole to h of =
       record {

@@ -3,14 +3,14 @@ use Rattle.std.proofs.Common.{◌≡◌, ◌⊎◌, ◌≤◌, ◌<◌, inl, inr
 use Rattle.diff_files.specs.Stats.{Told}
 use Rattle.diff_files.specs.declared.stats.Stats.{Ghosts as StatsOf}
 use Rattle.command_line.specs.declared.command.Request.{Request}
-use Rattle.git_places.specs.Answers.{GivesBy}
+use Rattle.git_places.specs.Answers.{IsFoundOrFailed}
 use Rattle.git_setup.specs.declared.asked.Asked.{Asked}
 use Rattle.worktree_fs.specs.declared.interrupt.Interrupt.{Ghosts as InterruptOf}
 use Rattle.worktree_fs.specs.declared.owners.Owners.{Ghosts as OwnersOf}
 use Rattle.worktree_fs.specs.declared.sink.Sink.{Ghosts as SinkOf}
 use Rattle.worktree_fs.specs.declared.worktree.Worktree.{Ghosts as WorktreeOf}
 use Rattle.worktree_fs.specs.Causes.{Increased, NotIncreased}
-use Rattle.worktree_fs.specs.Owners.{Owned}
+use Rattle.worktree_fs.specs.Owners.{OwnershipByPath}
 use Rattle.worktree_fs.specs.Tree.{Names}
 use Rattle.tizhagor.specs.declared.refusal.HereRefusal.{HereRefusal}
 use Rattle.tizhagor.specs.declared.reply.Reply.{Reply}
@@ -22,11 +22,12 @@ use Rattle.tizhagor.specs.Output as output
 use Rattle.tizhagor.specs.Parts.{memory_line}
 use Rattle.tizhagor.specs.Refusals.{IsOfFinding, fault, memory, status_of}
 use Rattle.tizhagor.proofs.Ended as ended
+use Rattle.tizhagor.proofs.Statuses as statuses
 
 -- ---- tasks
 
 no_word : {W I O : Type 0} (w : WorktreeOf W) (i : InterruptOf I) (o : OwnersOf O) (w0 w1 : W) (i0 i1 : I) (o0 o1 : O) (place : Place) (directory : Option (List ℕ)) (answer wanted : Result Reply HereRefusal)
-    (t : Names) (owned : Owned) (told : Told) (task : Task) → AnswersTask w i o w0 w1 i0 i1 o0 o1 place directory answer task → IsSaidBy t owned told place directory wanted task → ⊥
+    (t : Names) (owned : OwnershipByPath) (told : Told) (task : Task) → AnswersTask w i o w0 w1 i0 i1 o0 o1 place directory answer task → IsSaidBy t owned told place directory wanted task → ⊥
 no_word w i o w0 w1 i0 i1 o0 o1 place directory answer wanted t owned told (call_of call asked writing) a said = said
 no_word w i o w0 w1 i0 i1 o0 o1 place directory answer wanted t owned told (word_of word asked) a said = said
 no_word w i o w0 w1 i0 i1 o0 o1 place directory answer wanted t owned told (check_of wants asked) a said = said
@@ -55,7 +56,7 @@ module _ {W I O D S E : Type 0} (w : WorktreeOf W) (i : InterruptOf I) (o : Owne
       elim any [
         | inl here ↦ ended.unfaulted w i o s e w0 w1 i0 i1 o0 o1 s0 s1 e0 e1 first place words status answer here.0 ends few
         | inr a ↦
-            let wrote = ended.ends_low s e s0 s1 e0 e1 first status answer ends few in
+            let wrote = statuses.ends_low s e s0 s1 e0 e1 first status answer ends few in
             record {
               request = a.request;
               asked = a.asked;
@@ -68,7 +69,7 @@ module _ {W I O D S E : Type 0} (w : WorktreeOf W) (i : InterruptOf I) (o : Owne
   owners_unfaulted answer any ends few =
       elim any [
         | inl here ↦ ended.owners_unfaulted w i o s e w0 w1 i0 i1 o0 o1 s0 s1 e0 e1 first place words status answer here.0 ends few
-        | inr a ↦ let wrote = ended.ends_low s e s0 s1 e0 e1 first status answer ends few in (as_known answer (Ok wrote.0) a wrote.1).owners_unfaulted
+        | inr a ↦ let wrote = statuses.ends_low s e s0 s1 e0 e1 first status answer ends few in (as_known answer (Ok wrote.0) a wrote.1).owners_unfaulted
       ]
 
   pub stats_unfaulted : (answer : Result Reply HereRefusal) → Answers w i o d w0 w1 i0 i1 o0 o1 d0 d1 place words answer → EndsHere s e s0 s1 e0 e1 first answer status
@@ -76,17 +77,17 @@ module _ {W I O D S E : Type 0} (w : WorktreeOf W) (i : InterruptOf I) (o : Owne
   stats_unfaulted answer any ends few =
       elim any [
         | inl here ↦ ap d.faults here.1
-        | inr a ↦ let wrote = ended.ends_low s e s0 s1 e0 e1 first status answer ends few in (as_known answer (Ok wrote.0) a wrote.1).stats_unfaulted
+        | inr a ↦ let wrote = statuses.ends_low s e s0 s1 e0 e1 first status answer ends few in (as_known answer (Ok wrote.0) a wrote.1).stats_unfaulted
       ]
 
   pub gives : (answer : Result Reply HereRefusal) → Answers w i o d w0 w1 i0 i1 o0 o1 d0 d1 place words answer → EndsHere s e s0 s1 e0 e1 first answer status
-      → (t : Names) (owned : Owned) → w.told w0 ≡ Some t → o.told o0 ≡ Some owned → status ≤ 1
+      → (t : Names) (owned : OwnershipByPath) → w.told w0 ≡ Some t → o.told o0 ≡ Some owned → status ≤ 1
       → (reply : Reply) × (output.IsOutputHere (w.precomposes w0) t owned place words (w.faults w0) (w.faults w1) reply ⊎ IsCompared t owned (d.told d0) place words reply) × IsReplied s e s0 s1 e0 e1 reply status
   gives answer any ends t owned tree owns few =
       elim any [
         | inl here ↦ let gave = ended.gives w i o s e w0 w1 i0 i1 o0 o1 s0 s1 e0 e1 first place words status answer here.0 ends t owned tree owns few in (gave.0, inl gave.1, gave.2)
         | inr a ↦
-            let wrote = ended.ends_low s e s0 s1 e0 e1 first status answer ends few in (
+            let wrote = statuses.ends_low s e s0 s1 e0 e1 first status answer ends few in (
               wrote.0,
               inr (record {
                 request = a.request;
@@ -103,8 +104,8 @@ module _ {W I O D S E : Type 0} (w : WorktreeOf W) (i : InterruptOf I) (o : Owne
       elim any [
         | inl here ↦ ended.misuse w i o s e w0 w1 i0 i1 o0 o1 s0 s1 e0 e1 first place words status answer here.0 ends is
         | inr a ↦
-            let refused = ended.ends_above s e s0 s1 e0 e1 first status answer ends 129 is (omega arith) in
-            absurd (ended.finding_not_misuse refused.0 (as_known answer (Err refused.0) a refused.1).of refused.2)
+            let refused = statuses.ends_above s e s0 s1 e0 e1 first status answer ends 129 is (omega arith) in
+            absurd (statuses.finding_not_misuse refused.0 (as_known answer (Err refused.0) a refused.1).of refused.2)
       ]
 
   pub usage : (answer : Result Reply HereRefusal) → Answers w i o d w0 w1 i0 i1 o0 o1 d0 d1 place words answer → EndsHere s e s0 s1 e0 e1 first answer status → IsMisuse words
@@ -112,7 +113,7 @@ module _ {W I O D S E : Type 0} (w : WorktreeOf W) (i : InterruptOf I) (o : Owne
   usage answer any ends known =
       elim any [
         | inl here ↦ ended.usage w i o s e w0 w1 i0 i1 o0 o1 s0 s1 e0 e1 first place words status answer here.0 ends known
-        | inr a ↦ absurd (ended.no_asking (sym a.asked ∙ known.is))
+        | inr a ↦ absurd (statuses.no_asking (sym a.asked ∙ known.is))
       ]
 
   pub interrupted : (answer : Result Reply HereRefusal) → Answers w i o d w0 w1 i0 i1 o0 o1 d0 d1 place words answer → EndsHere s e s0 s1 e0 e1 first answer status → status ≡ 130
@@ -121,8 +122,8 @@ module _ {W I O D S E : Type 0} (w : WorktreeOf W) (i : InterruptOf I) (o : Owne
       elim any [
         | inl here ↦ ended.interrupted w i o s e w0 w1 i0 i1 o0 o1 s0 s1 e0 e1 first place words status answer here.0 ends is
         | inr a ↦
-            let refused = ended.ends_above s e s0 s1 e0 e1 first status answer ends 130 is (omega arith) in
-            absurd (ended.finding_not_interrupted refused.0 (as_known answer (Err refused.0) a refused.1).of refused.2)
+            let refused = statuses.ends_above s e s0 s1 e0 e1 first status answer ends 130 is (omega arith) in
+            absurd (statuses.finding_not_interrupted refused.0 (as_known answer (Err refused.0) a refused.1).of refused.2)
       ]
 
   -- nothing failed
@@ -130,7 +131,7 @@ module _ {W I O D S E : Type 0} (w : WorktreeOf W) (i : InterruptOf I) (o : Owne
   no_fault failed quiet owners_quiet stats_quiet =
       elim failed [ inl rose ↦ omega (arith, rose, quiet) | inr (inl rose) ↦ omega (arith, rose, owners_quiet) | inr (inr rose) ↦ omega (arith, rose, stats_quiet) ]
 
-  is_refused : (refusal : HereRefusal) (a : AnswersComparing w o d w0 w1 i0 i1 o0 o1 d0 d1 place words (Err refusal)) (t : Names) (owned : Owned) → w.told w0 ≡ Some t → o.told o0 ≡ Some owned
+  is_refused : (refusal : HereRefusal) (a : AnswersComparing w o d w0 w1 i0 i1 o0 o1 d0 d1 place words (Err refusal)) (t : Names) (owned : OwnershipByPath) → w.told w0 ≡ Some t → o.told o0 ≡ Some owned
       → NotIncreased (w.faults w0) (w.faults w1) → NotIncreased (o.faults o0) (o.faults o1) → (told : Told) → d.told d0 ≡ Some told → NotIncreased (d.faults d0) (d.faults d1)
       → (refusal ≡ memory) ⊎ (replied_at place a.request.directory a.wants a.comparing t owned told ≡ Err refusal)
   is_refused refusal a t owned tree owns quiet owners_quiet told tells stats_quiet =
@@ -140,7 +141,7 @@ module _ {W I O D S E : Type 0} (w : WorktreeOf W) (i : InterruptOf I) (o : Owne
         | inr (inr wants) ↦ inl wants
       ]
 
-  refuses : (refusal : HereRefusal) (a : AnswersComparing w o d w0 w1 i0 i1 o0 o1 d0 d1 place words (Err refusal)) (t : Names) (owned : Owned) → w.told w0 ≡ Some t → o.told o0 ≡ Some owned
+  refuses : (refusal : HereRefusal) (a : AnswersComparing w o d w0 w1 i0 i1 o0 o1 d0 d1 place words (Err refusal)) (t : Names) (owned : OwnershipByPath) → w.told w0 ≡ Some t → o.told o0 ≡ Some owned
       → NotIncreased (w.faults w0) (w.faults w1) → NotIncreased (o.faults o0) (o.faults o1) → RefusesCompared t owned (d.told d0) (d.faults d0) (d.faults d1) place words refusal
   refuses refusal a t owned tree owns quiet owners_quiet =
       record {
@@ -154,12 +155,12 @@ module _ {W I O D S E : Type 0} (w : WorktreeOf W) (i : InterruptOf I) (o : Owne
       }
 
   pub fatal : (answer : Result Reply HereRefusal) → Answers w i o d w0 w1 i0 i1 o0 o1 d0 d1 place words answer → EndsHere s e s0 s1 e0 e1 first answer status
-      → (t : Names) (owned : Owned) → w.told w0 ≡ Some t → o.told o0 ≡ Some owned → status ≡ 128 → NotIncreased (w.faults w0) (w.faults w1) → NotIncreased (o.faults o0) (o.faults o1) → NotIncreased (s.refusals s0) (s.refusals s1)
+      → (t : Names) (owned : OwnershipByPath) → w.told w0 ≡ Some t → o.told o0 ≡ Some owned → status ≡ 128 → NotIncreased (w.faults w0) (w.faults w1) → NotIncreased (o.faults o0) (o.faults o1) → NotIncreased (s.refusals s0) (s.refusals s1)
       → IsToldOf e e0 e1 memory_line 128 status
       ⊎ IsFatal e e0 e1 first (λ refusal. output.RefusesHere (w.precomposes w0) t owned place words refusal ⊎ RefusesCompared t owned (d.told d0) (d.faults d0) (d.faults d1) place words refusal)
   fatal (Ok reply) any ends t owned tree owns is quiet owners_quiet taken =
       elim ends.by [
-        | inl whole ↦ absurd (let same = whole.status_is in let low = ended.is_low reply in omega (arith, same, low, is))
+        | inl whole ↦ absurd (let same = whole.status_is in let low = statuses.is_low reply in omega (arith, same, low, is))
         | inr cut ↦ absurd (let cause = cut.cause in omega (arith, cause, taken))
       ]
   fatal (Err refusal) any ends t owned tree owns is quiet owners_quiet taken =
@@ -175,7 +176,7 @@ module _ {W I O D S E : Type 0} (w : WorktreeOf W) (i : InterruptOf I) (o : Owne
       ]
 
   pub refused : (answer : Result Reply HereRefusal) → Answers w i o d w0 w1 i0 i1 o0 o1 d0 d1 place words answer → EndsHere s e s0 s1 e0 e1 first answer status
-      → (t : Names) (owned : Owned) (refusal : HereRefusal) → w.told w0 ≡ Some t → o.told o0 ≡ Some owned → output.IsNotFoundHere t owned place words refusal
+      → (t : Names) (owned : OwnershipByPath) (refusal : HereRefusal) → w.told w0 ≡ Some t → o.told o0 ≡ Some owned → output.IsNotFoundHere t owned place words refusal
       → NotIncreased (w.faults w0) (w.faults w1) → NotIncreased (o.faults o0) (o.faults o1) → IsTold e e0 e1 first refusal status
   refused answer any ends t owned refusal tree owns known quiet owners_quiet =
       elim any [
@@ -184,7 +185,7 @@ module _ {W I O D S E : Type 0} (w : WorktreeOf W) (i : InterruptOf I) (o : Owne
       ]
 
   pub complete : (answer : Result Reply HereRefusal) → Answers w i o d w0 w1 i0 i1 o0 o1 d0 d1 place words answer → EndsHere s e s0 s1 e0 e1 first answer status
-      → (t : Names) (owned : Owned) → w.told w0 ≡ Some t → o.told o0 ≡ Some owned → output.IsValidHere (w.precomposes w0) t owned place words → NotIncreased (w.faults w0) (w.faults w1) → NotIncreased (o.faults o0) (o.faults o1)
+      → (t : Names) (owned : OwnershipByPath) → w.told w0 ≡ Some t → o.told o0 ≡ Some owned → output.IsValidHere (w.precomposes w0) t owned place words → NotIncreased (w.faults w0) (w.faults w1) → NotIncreased (o.faults o0) (o.faults o1)
       → NotIncreased (i.raised i0) (i.raised i1) → NotIncreased (s.refusals s0) (s.refusals s1) → (status ≤ 1) ⊎ IsToldOf e e0 e1 memory_line 128 status
   complete answer any ends t owned tree owns valid quiet owners_quiet calm taken =
       elim any [
@@ -197,7 +198,7 @@ module _ {W I O D S E : Type 0} (w : WorktreeOf W) (i : InterruptOf I) (o : Owne
   ends_as answer wanted found is said ends = subst (λ (x : Result Reply HereRefusal). EndsHere s e s0 s1 e0 e1 first x status) (sym is ∙ said) ends
 
   comparing_ends : (answer wanted : Result Reply HereRefusal) (a : AnswersComparing w o d w0 w1 i0 i1 o0 o1 d0 d1 place words answer) → EndsHere s e s0 s1 e0 e1 first answer status
-      → (t : Names) (owned : Owned) (told : Told) → w.told w0 ≡ Some t → o.told o0 ≡ Some owned → d.told d0 ≡ Some told → ComparesTo t owned told place words wanted
+      → (t : Names) (owned : OwnershipByPath) (told : Told) → w.told w0 ≡ Some t → o.told o0 ≡ Some owned → d.told d0 ≡ Some told → ComparesTo t owned told place words wanted
       → NotIncreased (w.faults w0) (w.faults w1) → NotIncreased (o.faults o0) (o.faults o1) → NotIncreased (d.faults d0) (d.faults d1)
       → IsToldOf e e0 e1 memory_line 128 status ⊎ EndsHere s e s0 s1 e0 e1 first wanted status
   comparing_ends (Ok reply) wanted a ends t owned told tree owns tells known quiet owners_quiet stats_quiet =
@@ -206,20 +207,20 @@ module _ {W I O D S E : Type 0} (w : WorktreeOf W) (i : InterruptOf I) (o : Owne
   comparing_ends (Err refusal) wanted a ends t owned told tree owns tells known quiet owners_quiet stats_quiet =
       let said = of_task (λ (x : Task). IsSaidBy t owned told place a.request.directory wanted x) (Err refusal) a (known.is a.request a.asked) in
       elim (is_refused refusal a t owned tree owns quiet owners_quiet told tells stats_quiet) [
-        | inl wants ↦ inl (ended.wants_memory s e s0 s1 e0 e1 first status refusal wants ends.by.1)
+        | inl wants ↦ inl (statuses.wants_memory s e s0 s1 e0 e1 first status refusal wants ends.by.1)
         | inr is ↦ inr (ends_as (Err refusal) wanted _ is said ends)
       ]
 
   pub compared : (answer : Result Reply HereRefusal) → Answers w i o d w0 w1 i0 i1 o0 o1 d0 d1 place words answer → EndsHere s e s0 s1 e0 e1 first answer status
-      → (t : Names) (owned : Owned) (told : Told) (wanted : Result Reply HereRefusal) → w.told w0 ≡ Some t → o.told o0 ≡ Some owned → d.told d0 ≡ Some told → ComparesTo t owned told place words wanted
+      → (t : Names) (owned : OwnershipByPath) (told : Told) (wanted : Result Reply HereRefusal) → w.told w0 ≡ Some t → o.told o0 ≡ Some owned → d.told d0 ≡ Some told → ComparesTo t owned told place words wanted
       → NotIncreased (w.faults w0) (w.faults w1) → NotIncreased (o.faults o0) (o.faults o1) → NotIncreased (d.faults d0) (d.faults d1)
       → IsToldOf e e0 e1 memory_line 128 status ⊎ EndsHere s e s0 s1 e0 e1 first wanted status
   compared answer any ends t owned told wanted tree owns tells known quiet owners_quiet stats_quiet =
       elim any [
         | inl here ↦ elim here.0 [
           | inl of ↦ absurd (no_word w i o w0 w1 i0 i1 o0 o1 place of.request.directory answer wanted t owned told (task_of place.takes_colors of.request.command) of.answers (known.is of.request of.asked))
-          | inr (inl wrong) ↦ absurd (ended.no_asking (sym known.words_are ∙ wrong.misuse.is))
-          | inr (inr unread) ↦ inl (ended.wants_memory s e s0 s1 e0 e1 first status memory refl (subst (λ (x : Result Reply HereRefusal). EndsHere s e s0 s1 e0 e1 first x status) unread.answer_is ends).by.1)
+          | inr (inl wrong) ↦ absurd (statuses.no_asking (sym known.words_are ∙ wrong.misuse.is))
+          | inr (inr unread) ↦ inl (statuses.wants_memory s e s0 s1 e0 e1 first status memory refl (subst (λ (x : Result Reply HereRefusal). EndsHere s e s0 s1 e0 e1 first x status) unread.answer_is ends).by.1)
         ]
         | inr a ↦ comparing_ends answer wanted a ends t owned told tree owns tells known quiet owners_quiet stats_quiet
       ]

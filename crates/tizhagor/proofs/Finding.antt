@@ -2,7 +2,7 @@
 use Rattle.std.proofs.Common.{◌≡◌, ℕ, List, Result, Ok, Err, IfErr, refl}
 use Rattle.worktree_fs.specs.declared.owners.Owners.{Ghosts as OwnersOf}
 use Rattle.worktree_fs.specs.declared.worktree.Worktree.{Ghosts as WorktreeOf}
-use Rattle.worktree_fs.specs.Owners.{Owned}
+use Rattle.worktree_fs.specs.Owners.{OwnershipByPath}
 use Rattle.worktree_fs.specs.Tree.{Names}
 use Rattle.git_places.proofs.Carried.{as_refused}
 use Rattle.git_setup.specs.Finds.{FindsWith}
@@ -31,11 +31,11 @@ is_fault (git.SubmoduleCase path) is = absurd cc
 is_fault git.Fault is = refl
 is_fault git.OutOfMemory is = absurd cc
 
-pub finds_any : {W O A : Type 0} (w : WorktreeOf W) (o : OwnersOf O) (w0 w1 : W) (o0 o1 : O) (found : Names → Owned → Result A GitRefusal) (answer : Result A GitRefusal)
+pub finds_any : {W O A : Type 0} (w : WorktreeOf W) (o : OwnersOf O) (w0 w1 : W) (o0 o1 : O) (found : Names → OwnershipByPath → Result A GitRefusal) (answer : Result A GitRefusal)
     → FindsWith w o w0 w1 o0 o1 found answer → FindsHereWith w o w0 w1 o0 o1 (λ t owned. as_git (found t owned)) (as_git answer)
 finds_any w o w0 w1 o0 o1 found answer h = as_refused w o w0 w1 o0 o1 of_git git.Fault git.OutOfMemory is_fault found answer h
 
-pub finds_as : {W O : Type 0} (w : WorktreeOf W) (o : OwnersOf O) (w0 w1 : W) (o0 o1 : O) (found : Names → Owned → Result Found GitRefusal) (answer : Result Found GitRefusal)
+pub finds_as : {W O : Type 0} (w : WorktreeOf W) (o : OwnersOf O) (w0 w1 : W) (o0 o1 : O) (found : Names → OwnershipByPath → Result Found GitRefusal) (answer : Result Found GitRefusal)
     → FindsWith w o w0 w1 o0 o1 found answer → FindsHereWith w o w0 w1 o0 o1 (λ t owned. as_git (found t owned)) (as_git answer)
 finds_as w o w0 w1 o0 o1 found answer h = as_refused w o w0 w1 o0 o1 of_git git.Fault git.OutOfMemory is_fault found answer h
 

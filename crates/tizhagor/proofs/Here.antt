@@ -3,7 +3,7 @@ use Rattle.std.proofs.Common.{◌≡◌, inl, inr, ℕ, List, Some, Result, Ok, 
 use Rattle.worktree_fs.specs.declared.interrupt.Interrupt.{Ghosts as InterruptOf}
 use Rattle.worktree_fs.specs.declared.owners.Owners.{Ghosts as OwnersOf}
 use Rattle.worktree_fs.specs.declared.worktree.Worktree.{Ghosts as WorktreeOf}
-use Rattle.worktree_fs.specs.Owners.{Owned}
+use Rattle.worktree_fs.specs.Owners.{OwnershipByPath}
 use Rattle.worktree_fs.specs.Tree.{Names}
 use Rattle.worktree_report.specs.declared.refusal.Refusal.{Refusal}
 use Rattle.command_line.specs.Requests.{request_in, MisusedAt}
@@ -15,7 +15,7 @@ use Rattle.tizhagor.specs.declared.refusal.HereRefusal.{HereRefusal}
 use Rattle.tizhagor.specs.declared.written.Writing.{Writing}
 use Rattle.ls_files.specs.declared.listed.Listed.{Listed}
 use Rattle.tizhagor.specs.declared.reply.Reply.{Reply}
-use Rattle.tizhagor.specs.Answers.{AnswersBy, AnswersCall, AnswersHere, AnswersWord, ByFound, Offers, Place, Then, ThenSays}
+use Rattle.tizhagor.specs.Answers.{AnswersBy, AnswersCall, AnswersHere, AnswersWord, ByFound, AnswersFixedText, Place, Then, SaysWordByFound}
 use Rattle.tizhagor.specs.Listings.{as_reply, reply_of}
 use Rattle.tizhagor.specs.TreeWords.{TreeWord, Replies}
 use Rattle.tizhagor.specs.Replies.{SaysPlainly, of_text, plain, plainly, replied}
@@ -49,20 +49,20 @@ replies_text Makes (Err e) makes = makes
 
 -- one that is always the same
 pub offers_plainly : {W I O : Type 0} (w0 : W) (i0 : I) (o0 : O) (text : List ℕ) (answer : Result Reply HereRefusal) → IfOk answer (λ reply. reply ≡ plain text) → IfErr answer (λ e. e ≡ memory)
-    → SaysPlainly (Offers w0 w0 i0 i0 o0 o0 text) answer
+    → SaysPlainly (AnswersFixedText w0 w0 i0 i0 o0 o0 text) answer
 offers_plainly w0 i0 o0 text (Ok reply) gives refused =
     (record { gives = ap (λ (r : Reply). r.out) gives; refused = tt; worktree = refl; interrupt = refl; owners = refl }, rw gives refl)
 offers_plainly w0 i0 o0 text (Err e) gives refused = (record { gives = tt; refused = refused; worktree = refl; interrupt = refl; owners = refl }, tt)
 
 module _ {W I O : Type 0} (w : WorktreeOf W) (i : InterruptOf I) (o : OwnersOf O) (w0 w1 : W) (i0 i1 : I) (o0 o1 : O) where
   -- a reply or a refusal of one by what was found
-  pub by_word : (found : Names → Owned → Result Found HereRefusal) (word : TreeWord) (answer : Result Reply Refusal) (here_answer : Result Reply HereRefusal) → here_answer ≡ replied answer
-      → ByFound w o w0 o0 o1 found (ThenSays w i w1 i0 i1 word answer) → AnswersWord w i o w0 w1 i0 i1 o0 o1 found word here_answer
+  pub by_word : (found : Names → OwnershipByPath → Result Found HereRefusal) (word : TreeWord) (answer : Result Reply Refusal) (here_answer : Result Reply HereRefusal) → here_answer ≡ replied answer
+      → ByFound w o w0 o0 o1 found (SaysWordByFound w i w1 i0 i1 word answer) → AnswersWord w i o w0 w1 i0 i1 o0 o1 found word here_answer
   by_word found word (Ok reply) here_answer is by = rw is by
   by_word found word (Err refusal) here_answer is by = rw is (inr (record { refusal = refusal; e_is = refl; by = by }))
 
   -- a text or a refusal by what was found
-  pub by_found : (found : Names → Owned → Result Found HereRefusal) (call : Call) (answer : Result (List ℕ) Refusal) (here_answer : Result (List ℕ) HereRefusal) → here_answer ≡ as_program answer
+  pub by_found : (found : Names → OwnershipByPath → Result Found HereRefusal) (call : Call) (answer : Result (List ℕ) Refusal) (here_answer : Result (List ℕ) HereRefusal) → here_answer ≡ as_program answer
       → ByFound w o w0 o0 o1 found (Then w i w1 i0 i1 call answer) → AnswersBy w i o w0 w1 i0 i1 o0 o1 found call here_answer
   by_found found call (Ok text) here_answer is by = rw is by
   by_found found call (Err refusal) here_answer is by = rw is (inr (record { refusal = refusal; e_is = refl; by = by }))
@@ -73,7 +73,7 @@ module _ {W I O : Type 0} (w : WorktreeOf W) (i : InterruptOf I) (o : OwnersOf O
   by_root call answer here loaded root is made = subst (λ (r : List ℕ). TextsBy w i loaded w1 i0 i1 r here.setup answer call) is made
 
   -- the bytes of a text
-  pub by_writing : (found : Names → Owned → Result Found HereRefusal) (call : Call) (writing : Writing) (answer result : Result (List ℕ) HereRefusal) → IsWrittenAs writing answer result
+  pub by_writing : (found : Names → OwnershipByPath → Result Found HereRefusal) (call : Call) (writing : Writing) (answer result : Result (List ℕ) HereRefusal) → IsWrittenAs writing answer result
       → AnswersBy w i o w0 w1 i0 i1 o0 o1 found call answer → AnswersCall w i o w0 w1 i0 i1 o0 o1 found call writing result
   by_writing found call writing (Ok text) (Ok bytes) is by =
       elim is [ inl same ↦ record { text = text; bytes_is = same_bytes _ _ same; by = by } | inr wants ↦ absurd (no_bytes _ _ wants) ]

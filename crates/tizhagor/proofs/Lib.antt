@@ -4,6 +4,8 @@ pub mod Said
 pub mod Finding
 pub mod Here
 pub mod QuietReports
+pub mod Statuses
+pub mod TaskEnds
 pub mod Ended
 pub mod Besides
 pub mod Changes

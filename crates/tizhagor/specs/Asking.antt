@@ -6,7 +6,7 @@ use Rattle.git_setup.specs.Found.{found_in}
 use Rattle.git_setup.specs.declared.asked.Asked.{Asked}
 use Rattle.git_setup.specs.declared.found.Found.{Found}
 use Rattle.clean_plan.specs.Prepared.{prepared}
-use Rattle.worktree_fs.specs.Owners.{Owned}
+use Rattle.worktree_fs.specs.Owners.{OwnershipByPath}
 use Rattle.worktree_fs.specs.Tree.{Names}
 use Rattle.worktree_report.specs.declared.setup.SetupOptions.{SetupOptions}
 use Rattle.tizhagor.specs.declared.call.Call.{Call}
@@ -31,7 +31,7 @@ abbrev pub directory_in : Names → List ℕ → Option (List ℕ) → Result (L
 directory_in t current None = Ok current
 directory_in t current (Some name) = directory_named t current name
 
-abbrev pub found_from : Names → Owned → List Variable → Asked → List ℕ → Result Found HereRefusal
+abbrev pub found_from : Names → OwnershipByPath → List Variable → Asked → List ℕ → Result Found HereRefusal
 found_from t owned variables asked directory = as_git (found_in t owned (surroundings_of directory variables) asked)
 
 -- a directory, if it is the current one
@@ -40,7 +40,7 @@ if_current current directory = if bytes_eq directory current then Ok directory e
 
 -- The work tree around the current directory, and the setup that its repository gives, or the first refusal: of another directory, then
 -- of the repository.
-unfoldable pub around_in : Names → Owned → List ℕ → List Variable → Option (List ℕ) → Asked → Result Found HereRefusal
+unfoldable pub around_in : Names → OwnershipByPath → List ℕ → List Variable → Option (List ℕ) → Asked → Result Found HereRefusal
 around_in t owned current variables directory asked =
     and_then (found_from t owned variables asked) (and_then (if_current current) (directory_in t current directory))
 
@@ -52,10 +52,10 @@ is_away options current here = is_some options.for_deletion && not (bytes_eq her
 abbrev pub at_top : SetupOptions → List ℕ → Found → Result Found HereRefusal
 at_top options current here = if is_away options current here then Err (errors.NotAtTop here.root) else Ok here
 
-abbrev pub top_from : Names → Owned → List ℕ → List Variable → Asked → List ℕ → Result Found HereRefusal
+abbrev pub top_from : Names → OwnershipByPath → List ℕ → List Variable → Asked → List ℕ → Result Found HereRefusal
 top_from t owned current variables asked directory = and_then (at_top asked.options current) (found_from t owned variables asked directory)
 
 -- The work tree around a directory, and the setup that its repository gives, or the first refusal: of the directory, then of the
 -- repository, and then of a deletion that is asked for below the top or from elsewhere.
-unfoldable pub here_in : Names → Owned → List ℕ → List Variable → Option (List ℕ) → Asked → Result Found HereRefusal
+unfoldable pub here_in : Names → OwnershipByPath → List ℕ → List Variable → Option (List ℕ) → Asked → Result Found HereRefusal
 here_in t owned current variables directory asked = and_then (top_from t owned current variables asked) (directory_in t current directory)

@@ -6,7 +6,7 @@ use Rattle.git_setup.specs.declared.found.Found.{Found}
 use Rattle.worktree_fs.specs.declared.interrupt.Interrupt.{Ghosts as InterruptOf}
 use Rattle.worktree_fs.specs.declared.owners.Owners.{Ghosts as OwnersOf}
 use Rattle.worktree_fs.specs.declared.worktree.Worktree.{Ghosts as WorktreeOf}
-use Rattle.worktree_fs.specs.Owners.{Owned}
+use Rattle.worktree_fs.specs.Owners.{OwnershipByPath}
 use Rattle.worktree_fs.specs.Tree.{Names}
 use Rattle.tizhagor.specs.declared.refusal.HereRefusal.{HereRefusal}
 use Rattle.tizhagor.specs.declared.reply.Reply.{Reply}
@@ -22,7 +22,7 @@ IsJoined join first (Err e) answer = answer ≡ Err e
 
 -- The first word is refused, and the second is not asked for.
 pub record FirstRefuses {W I O D : Type 0} (w : WorktreeOf W) (i : InterruptOf I) (o : OwnersOf O) (w0 w1 : W) (i0 i1 : I) (o0 o1 : O) (d0 d1 : D)
-    (walked : Names → Owned → Result Found HereRefusal) (word : TreeWord) (answer : Result Reply HereRefusal) : Type 0 where
+    (walked : Names → OwnershipByPath → Result Found HereRefusal) (word : TreeWord) (answer : Result Reply HereRefusal) : Type 0 where
   pub refusal : HereRefusal
   pub answer_is : answer ≡ Err refusal
   pub walks : AnswersWord w i o w0 w1 i0 i1 o0 o1 walked word (Err refusal)
@@ -30,7 +30,7 @@ pub record FirstRefuses {W I O D : Type 0} (w : WorktreeOf W) (i : InterruptOf I
 
 -- The first word has a reply. The second is answered over the worktree and the owners as they were by then, and asks no interrupt.
 pub record BothAnswer {W I O D : Type 0} (w : WorktreeOf W) (i : InterruptOf I) (o : OwnersOf O) (d : StatsOf D) (w0 w1 : W) (i0 i1 : I) (o0 o1 : O) (d0 d1 : D)
-    (walked : Names → Owned → Result Found HereRefusal) (word : TreeWord) (join : Reply → Reply → Reply) (changed : Names → Owned → Told → Result Reply HereRefusal) (answer : Result Reply HereRefusal) : Type 0 where
+    (walked : Names → OwnershipByPath → Result Found HereRefusal) (word : TreeWord) (join : Reply → Reply → Reply) (changed : Names → OwnershipByPath → Told → Result Reply HereRefusal) (answer : Result Reply HereRefusal) : Type 0 where
   pub middle : W
   pub owners : O
   pub first : Reply
@@ -40,6 +40,6 @@ pub record BothAnswer {W I O D : Type 0} (w : WorktreeOf W) (i : InterruptOf I) 
   pub joined : IsJoined join first second answer
 
 abbrev pub AnswersBoth : {W I O D : Type 0} → WorktreeOf W → InterruptOf I → OwnersOf O → StatsOf D → W → W → I → I → O → O → D → D
-    → (Names → Owned → Result Found HereRefusal) → TreeWord → (Reply → Reply → Reply) → (Names → Owned → Told → Result Reply HereRefusal) → Result Reply HereRefusal → Type 0
+    → (Names → OwnershipByPath → Result Found HereRefusal) → TreeWord → (Reply → Reply → Reply) → (Names → OwnershipByPath → Told → Result Reply HereRefusal) → Result Reply HereRefusal → Type 0
 AnswersBoth w i o d w0 w1 i0 i1 o0 o1 d0 d1 walked word join changed answer =
     FirstRefuses w i o w0 w1 i0 i1 o0 o1 d0 d1 walked word answer ⊎ BothAnswer w i o d w0 w1 i0 i1 o0 o1 d0 d1 walked word join changed answer

@@ -11,7 +11,7 @@ use Rattle.worktree_fs.specs.declared.interrupt.Interrupt.{Ghosts as InterruptOf
 use Rattle.worktree_fs.specs.declared.owners.Owners.{Ghosts as OwnersOf}
 use Rattle.worktree_fs.specs.declared.worktree.Worktree.{Ghosts as WorktreeOf}
 use Rattle.worktree_fs.specs.Causes.{NotIncreased}
-use Rattle.worktree_fs.specs.Owners.{Owned}
+use Rattle.worktree_fs.specs.Owners.{OwnershipByPath}
 use Rattle.worktree_fs.specs.Tree.{Names}
 use Rattle.tizhagor.specs.declared.refusal.HereRefusal.{HereRefusal}
 use Rattle.tizhagor.specs.declared.reply.Reply.{Reply}
@@ -45,7 +45,7 @@ AnswersAll w i o d w0 w1 i0 i1 o0 o1 d0 d1 place words answer =
 -- ---- over a tree, owners and stats
 
 -- a task asks for both, and this is the reply of the first over a tree
-abbrev pub IsFirstOf : Bool → Names → Owned → Place → Option (List ℕ) → Reply → Task → Type 0
+abbrev pub IsFirstOf : Bool → Names → OwnershipByPath → Place → Option (List ℕ) → Reply → Task → Type 0
 IsFirstOf composes t owned place directory reply (call_of call asked writing) = ⊥
 IsFirstOf composes t owned place directory reply (word_of word asked) = ⊥
 IsFirstOf composes t owned place directory reply (check_of wants asked) = ⊥
@@ -54,7 +54,7 @@ IsFirstOf composes t owned place directory reply (both_of word stat asked) = IsS
 IsFirstOf composes t owned place directory reply (offer_of text) = ⊥
 
 -- it asks for both, and this is what the second says, or is refused for
-abbrev pub IsSecondOf : Names → Owned → Told → Place → Option (List ℕ) → Result Reply HereRefusal → Task → Type 0
+abbrev pub IsSecondOf : Names → OwnershipByPath → Told → Place → Option (List ℕ) → Result Reply HereRefusal → Task → Type 0
 IsSecondOf t owned told place directory answer (call_of call asked writing) = ⊥
 IsSecondOf t owned told place directory answer (word_of word asked) = ⊥
 IsSecondOf t owned told place directory answer (check_of wants asked) = ⊥
@@ -73,7 +73,7 @@ IsJoinedOf reply first second (offer_of text) = ⊥
 
 -- The words ask for both: the reply is the first's over the tree and the owners, and beside it another; where the stats are told, that is
 -- what the second says over all three.
-pub record IsBoth (composes : Bool) (t : Names) (owned : Owned) (stats : Option Told) (place : Place) (words : List (List ℕ)) (reply : Reply) : Type 0 where
+pub record IsBoth (composes : Bool) (t : Names) (owned : OwnershipByPath) (stats : Option Told) (place : Place) (words : List (List ℕ)) (reply : Reply) : Type 0 where
   pub request : Request
   pub asked : IsAsked words request
   pub first : Reply
@@ -84,7 +84,7 @@ pub record IsBoth (composes : Bool) (t : Names) (owned : Owned) (stats : Option 
 
 -- The words ask for both, and the first has a reply over the tree and the owners. Where the stats are told and did not fail, the second is
 -- refused so over all three, or memory was wanted.
-pub record RefusesSecond (composes : Bool) (t : Names) (owned : Owned) (stats : Option Told) (before now : ℕ) (place : Place) (words : List (List ℕ)) (e : HereRefusal) : Type 0 where
+pub record RefusesSecond (composes : Bool) (t : Names) (owned : OwnershipByPath) (stats : Option Told) (before now : ℕ) (place : Place) (words : List (List ℕ)) (e : HereRefusal) : Type 0 where
   pub request : Request
   pub asked : IsAsked words request
   pub first : Reply
@@ -93,18 +93,18 @@ pub record RefusesSecond (composes : Bool) (t : Names) (owned : Owned) (stats : 
       → (e ≡ memory) ⊎ IsSecondOf t owned told place request.directory (Err e) (task_of place.takes_colors request.command)
 
 -- what the second says beside the first reply, as `join` puts them together
-abbrev pub beside : (Reply → Reply → Reply) → Reply → Result Reply HereRefusal → Result Reply HereRefusal
-beside join first (Ok second) = Ok (join first second)
-beside join first (Err e) = Err e
+abbrev pub join_second_reply : (Reply → Reply → Reply) → Reply → Result Reply HereRefusal → Result Reply HereRefusal
+join_second_reply join first (Ok second) = Ok (join first second)
+join_second_reply join first (Err e) = Err e
 
 -- The first can be had and has this reply, and the second says this, or is refused for it.
 pub record SaysBoth (composes : Bool) (t : Names) (found : Result Found HereRefusal) (word : TreeWord) (join : Reply → Reply → Reply) (second wanted : Result Reply HereRefusal) : Type 0 where
   pub first : Reply
   pub first_is : IsSaidOf composes t found word first
   pub ready : IsSayableAt composes t found word
-  pub wanted_is : wanted ≡ beside join first second
+  pub wanted_is : wanted ≡ join_second_reply join first second
 
-abbrev pub IsBothBy : Bool → Names → Owned → Told → Place → Option (List ℕ) → Result Reply HereRefusal → Task → Type 0
+abbrev pub IsBothBy : Bool → Names → OwnershipByPath → Told → Place → Option (List ℕ) → Result Reply HereRefusal → Task → Type 0
 IsBothBy composes t owned told place directory wanted (call_of call asked writing) = ⊥
 IsBothBy composes t owned told place directory wanted (word_of word asked) = ⊥
 IsBothBy composes t owned told place directory wanted (check_of wants asked) = ⊥
@@ -115,7 +115,7 @@ IsBothBy composes t owned told place directory wanted (offer_of text) = ⊥
 
 -- The words ask for both, the first can be had over the tree and the owners, and with the stats this is what both say, or what the second is
 -- refused for.
-pub record IsBothTo (composes : Bool) (t : Names) (owned : Owned) (told : Told) (place : Place) (words : List (List ℕ)) (wanted : Result Reply HereRefusal) : Type 0 where
+pub record IsBothTo (composes : Bool) (t : Names) (owned : OwnershipByPath) (told : Told) (place : Place) (words : List (List ℕ)) (wanted : Result Reply HereRefusal) : Type 0 where
   pub directory : Option (List ℕ)
   pub command : Command
   pub words_are : request_in words ≡ asks directory command

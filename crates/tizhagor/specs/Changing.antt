@@ -22,7 +22,7 @@ use Rattle.ls_files.specs.declared.options.NamedSpec.{NamedSpec}
 use Rattle.ls_files.specs.declared.standings.Standings.{Standings}
 use Rattle.ls_files.specs.declared.wrong.WrongListing.{WrongListing}
 use Rattle.ls_files.specs.declared.wrong.WrongListing.TheVariants as wrong
-use Rattle.worktree_fs.specs.Owners.{Owned}
+use Rattle.worktree_fs.specs.Owners.{OwnershipByPath}
 use Rattle.worktree_fs.specs.Tree.{Names}
 use Rattle.tizhagor.specs.declared.compare.Placed.{Placed}
 use Rattle.tizhagor.specs.declared.refusal.HereRefusal.{HereRefusal}
@@ -93,6 +93,6 @@ listed_at t told placed asked wants standings =
     and_then (λ (time : ℕ). listed_read t told placed asked wants standings time) (index_time t told placed.places.git)
 
 -- what is said of the work tree around a directory, or the first refusal
-abbrev pub listed_in : Names → Owned → Told → List ℕ → List Variable → Option (List ℕ) → Asked → FilesAsked → Standings → Result Reply HereRefusal
+abbrev pub listed_in : Names → OwnershipByPath → Told → List ℕ → List Variable → Option (List ℕ) → Asked → FilesAsked → Standings → Result Reply HereRefusal
 listed_in t owned told current variables directory asked wants standings =
     and_then (λ (placed : Placed). listed_at t told placed asked wants standings) (placed_in t owned current variables directory)

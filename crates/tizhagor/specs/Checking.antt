@@ -17,7 +17,7 @@ use Rattle.git_setup.specs.declared.asked.Asked.{Asked}
 use Rattle.git_setup.specs.declared.checked.Checked.{Checked}
 use Rattle.git_setup.specs.declared.checked.NamedFile.{NamedFile}
 use Rattle.git_setup.specs.declared.checked.OuterFiles.{OuterFiles}
-use Rattle.worktree_fs.specs.Owners.{Owned}
+use Rattle.worktree_fs.specs.Owners.{OwnershipByPath}
 use Rattle.worktree_fs.specs.Tree.{Names}
 use Rattle.tizhagor.specs.declared.compare.Placed.{Placed}
 use Rattle.tizhagor.specs.declared.refusal.HereRefusal.{HereRefusal}
@@ -67,6 +67,6 @@ answered_unless t placed asked wants input = wrong_or t placed asked wants input
 
 -- What is said in the work tree around a directory, or the first refusal: of the work tree, of the words, of what is read, and then of
 -- the paths.
-abbrev pub answered_in : Names → Owned → List ℕ → List Variable → Option (List ℕ) → Asked → CheckAsked → List ℕ → Result Reply HereRefusal
+abbrev pub answered_in : Names → OwnershipByPath → List ℕ → List Variable → Option (List ℕ) → Asked → CheckAsked → List ℕ → Result Reply HereRefusal
 answered_in t owned current variables directory asked wants input =
     and_then (λ (placed : Placed). answered_unless t placed asked wants input) (placed_in t owned current variables directory)

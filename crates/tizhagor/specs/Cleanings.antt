@@ -2,7 +2,7 @@
 use Rattle.std.specs.Prelude.{ℕ, List, [], Bool, true, false, ◌||◌, codes, Option, Some, None, Result, Ok, Err, if◌then◌else◌}
 use Rattle.gitbase_core.specs.Steps.{and_then}
 use Rattle.git_clean.specs.Cleaned.{TellsCleaning, cleaned_in}
-use Rattle.git_clean.specs.Walking.{walking}
+use Rattle.git_clean.specs.Walking.{options_for_cleaning_walk}
 use Rattle.git_clean.specs.Wrong.{wrong_in}
 use Rattle.git_clean.specs.declared.options.Cleaning.{Cleaning}
 use Rattle.git_clean.specs.declared.wrong.WrongCleaning.{WrongCleaning}
@@ -16,7 +16,7 @@ use Rattle.command_line.specs.declared.clean_options.Force.{Force}
 use Rattle.command_line.specs.declared.command.CleanAsked.{CleanAsked}
 use Rattle.worktree_fs.specs.declared.interrupt.Interrupt.{Ghosts as InterruptOf}
 use Rattle.worktree_fs.specs.declared.worktree.Worktree.{Ghosts as WorktreeOf}
-use Rattle.worktree_fs.specs.Owners.{Owned}
+use Rattle.worktree_fs.specs.Owners.{OwnershipByPath}
 use Rattle.worktree_fs.specs.Tree.{Names}
 use Rattle.worktree_report.specs.Asked.{read_in, IsValidAt}
 use Rattle.worktree_report.specs.declared.refusal.Refusal.{Refusal}
@@ -43,14 +43,14 @@ abbrev pub required_in : List Section → Required
 required_in sections = required_as (boolean (codes "clean") None (codes "requireforce") sections)
 
 -- where it is false that counts for one `-f`
-abbrev pub is_lax : Required → Bool
-is_lax required.Unsaid = false
-is_lax required.Yes = false
-is_lax required.No = true
-is_lax required.Unread = false
+abbrev pub is_require_force_false : Required → Bool
+is_require_force_false required.Unsaid = false
+is_require_force_false required.Yes = false
+is_require_force_false required.No = true
+is_require_force_false required.Unread = false
 
-abbrev pub is_lax_here : Found → Bool
-is_lax_here here = is_lax (required_in here.config.sections)
+abbrev pub is_require_force_off : Found → Bool
+is_require_force_off here = is_require_force_false (required_in here.config.sections)
 
 -- git refuses to remove, and to say what it would remove
 abbrev pub unforced : Bool → Force → Required → Option WrongClean
@@ -75,7 +75,7 @@ cleaning_said wants = with_patterns wants.cleaning (is_any wants.patterns.items)
 
 -- the options with which a work tree is found
 abbrev pub clean_asked : CleanAsked → Asked → Asked
-clean_asked wants asked = record asked { options = walking (cleaning_said wants) asked.options }
+clean_asked wants asked = record asked { options = options_for_cleaning_walk (cleaning_said wants) asked.options }
 
 abbrev pub of_wrong : Option WrongCleaning → Option WrongClean
 of_wrong None = None
@@ -94,7 +94,7 @@ abbrev pub unless_unclean : CleanAsked → Found → Result Found HereRefusal
 unless_unclean wants here = wrong_or here (first_wrong (unforced_here wants here) (of_wrong (wrong_in (cleaning_said wants) here.setup)))
 
 -- The work tree around a directory and its setup, or the first refusal: as for any command, and then of the cleaning.
-abbrev pub cleanable_in : Names → Owned → List ℕ → List Variable → Option (List ℕ) → CleanAsked → Asked → Result Found HereRefusal
+abbrev pub cleanable_in : Names → OwnershipByPath → List ℕ → List Variable → Option (List ℕ) → CleanAsked → Asked → Result Found HereRefusal
 cleanable_in t owned current variables directory wants asked =
     and_then (unless_unclean wants) (around_in t owned current variables directory (clean_asked wants asked))
 
@@ -105,7 +105,7 @@ abbrev pub cleaning_with : Cleaning → Bool → Bool → Cleaning
 cleaning_with cleaning repositories quote_path = record cleaning { repositories = repositories; quote_path = quote_path }
 
 abbrev pub cleaning_for : CleanAsked → Found → Cleaning
-cleaning_for wants here = cleaning_with (cleaning_said wants) (is_forced_twice wants.force (is_lax_here here)) here.quote_path
+cleaning_for wants here = cleaning_with (cleaning_said wants) (is_forced_twice wants.force (is_require_force_off here)) here.quote_path
 
 -- the setup with the patterns before all other rules, and the whole of the work tree to look at
 abbrev pub setup_with : List ℕ → Setup → Setup

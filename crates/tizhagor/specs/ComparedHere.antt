@@ -9,7 +9,7 @@ use Rattle.worktree_fs.specs.declared.interrupt.Interrupt.{Ghosts as InterruptOf
 use Rattle.worktree_fs.specs.declared.owners.Owners.{Ghosts as OwnersOf}
 use Rattle.worktree_fs.specs.declared.worktree.Worktree.{Ghosts as WorktreeOf}
 use Rattle.worktree_fs.specs.Causes.{NotIncreased}
-use Rattle.worktree_fs.specs.Owners.{Owned}
+use Rattle.worktree_fs.specs.Owners.{OwnershipByPath}
 use Rattle.worktree_fs.specs.Tree.{Names}
 use Rattle.tizhagor.specs.declared.refusal.HereRefusal.{HereRefusal}
 use Rattle.tizhagor.specs.declared.reply.Reply.{Reply}
@@ -21,7 +21,7 @@ use Rattle.tizhagor.specs.Refusals.{memory}
 use Rattle.tizhagor.specs.StatWords.{StatWord, told_in}
 
 -- what is said of the work tree around a directory
-abbrev pub replied_at : Place → Option (List ℕ) → Asked → StatWord → Names → Owned → Told → Result Reply HereRefusal
+abbrev pub replied_at : Place → Option (List ℕ) → Asked → StatWord → Names → OwnershipByPath → Told → Result Reply HereRefusal
 replied_at place directory asked comparing t owned told = told_in t owned told place.current place.variables directory asked comparing
 
 -- ---- an answer
@@ -54,7 +54,7 @@ Answers w i o d w0 w1 i0 i1 o0 o1 d0 d1 place words answer =
 -- ---- over a tree, owners and stats
 
 -- a task is told by stats alone, and this is what it says
-abbrev pub IsSaidBy : Names → Owned → Told → Place → Option (List ℕ) → Result Reply HereRefusal → Task → Type 0
+abbrev pub IsSaidBy : Names → OwnershipByPath → Told → Place → Option (List ℕ) → Result Reply HereRefusal → Task → Type 0
 IsSaidBy t owned told place directory answer (call_of call asked writing) = ⊥
 IsSaidBy t owned told place directory answer (word_of word asked) = ⊥
 IsSaidBy t owned told place directory answer (check_of wants asked) = ⊥
@@ -71,14 +71,14 @@ IsComparing (both_of word stat asked) = ⊥
 IsComparing (offer_of text) = ⊥
 
 -- The words ask for what is told by stats; where the stats are told, this is what it says.
-pub record IsCompared (t : Names) (owned : Owned) (stats : Option Told) (place : Place) (words : List (List ℕ)) (reply : Reply) : Type 0 where
+pub record IsCompared (t : Names) (owned : OwnershipByPath) (stats : Option Told) (place : Place) (words : List (List ℕ)) (reply : Reply) : Type 0 where
   pub request : Request
   pub asked : IsAsked words request
   pub compares : IsComparing (task_of place.takes_colors request.command)
   pub is : (told : Told) → stats ≡ Some told → IsSaidBy t owned told place request.directory (Ok reply) (task_of place.takes_colors request.command)
 
 -- The words ask for what is told by stats; where the stats are told and did not fail, it is refused so, or for want of memory.
-pub record RefusesCompared (t : Names) (owned : Owned) (stats : Option Told) (before now : ℕ) (place : Place) (words : List (List ℕ)) (e : HereRefusal) : Type 0 where
+pub record RefusesCompared (t : Names) (owned : OwnershipByPath) (stats : Option Told) (before now : ℕ) (place : Place) (words : List (List ℕ)) (e : HereRefusal) : Type 0 where
   pub request : Request
   pub asked : IsAsked words request
   pub compares : IsComparing (task_of place.takes_colors request.command)
@@ -86,7 +86,7 @@ pub record RefusesCompared (t : Names) (owned : Owned) (stats : Option Told) (be
       → (e ≡ memory) ⊎ IsSaidBy t owned told place request.directory (Err e) (task_of place.takes_colors request.command)
 
 -- The words ask for what is told by stats, and over the tree, the owners and the stats this is what it says, or is refused for.
-pub record ComparesTo (t : Names) (owned : Owned) (told : Told) (place : Place) (words : List (List ℕ)) (answer : Result Reply HereRefusal) : Type 0 where
+pub record ComparesTo (t : Names) (owned : OwnershipByPath) (told : Told) (place : Place) (words : List (List ℕ)) (answer : Result Reply HereRefusal) : Type 0 where
   pub directory : Option (List ℕ)
   pub command : Command
   pub words_are : request_in words ≡ asks directory command

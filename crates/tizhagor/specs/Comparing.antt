@@ -26,7 +26,7 @@ use Rattle.git_setup.specs.declared.compared.Compared.{Compared}
 use Rattle.git_setup.specs.declared.error.GitRefusal.{GitRefusal}
 use Rattle.git_setup.specs.declared.settings.Settings.{Settings}
 use Rattle.worktree_fs.specs.Changes.{real_path}
-use Rattle.worktree_fs.specs.Owners.{Owned}
+use Rattle.worktree_fs.specs.Owners.{OwnershipByPath}
 use Rattle.worktree_fs.specs.Tree.{Names}
 use Rattle.tizhagor.specs.declared.compare.ChangeLines.{ChangeLines}
 use Rattle.tizhagor.specs.declared.compare.ChangeLines.TheVariants as lines
@@ -49,12 +49,12 @@ as_placed answer = as_git answer
 abbrev pub placed_with : Surroundings → Layout → Result Placed HereRefusal
 placed_with around places = Ok (record { around = around; places = places })
 
-abbrev pub placed_from : Names → Owned → List Variable → List ℕ → Result Placed HereRefusal
+abbrev pub placed_from : Names → OwnershipByPath → List Variable → List ℕ → Result Placed HereRefusal
 placed_from t owned variables directory =
     and_then (placed_with (surroundings_of directory variables)) (as_placed (setups.places_in t owned (surroundings_of directory variables)))
 
 -- the work tree around a directory, and where its repository lies
-unfoldable pub placed_in : Names → Owned → List ℕ → List Variable → Option (List ℕ) → Result Placed HereRefusal
+unfoldable pub placed_in : Names → OwnershipByPath → List ℕ → List Variable → Option (List ℕ) → Result Placed HereRefusal
 placed_in t owned current variables directory = and_then (placed_from t owned variables) (directory_in t current directory)
 
 -- ---- when the index was written
@@ -142,8 +142,8 @@ abbrev pub as_stated : Result (List ℕ) Unanswered → Result Reply HereRefusal
 as_stated (Ok text) = Ok (plain text)
 as_stated (Err refused) = Err (errors.Uncompared (reasons.Form refused))
 
-abbrev pub stated : Names → Told → Writing → Compared → ℕ → Result Reply HereRefusal
-stated t told writing compared time =
+abbrev pub state_reply : Names → Told → Writing → Compared → ℕ → Result Reply HereRefusal
+state_reply t told writing compared time =
     as_stated
     (stated_in (record { tree = t; stats = told }) compared.root compared.index compared.details (comparison_of state_comparing compared.settings time)
     compared.specs writing)
@@ -152,7 +152,7 @@ stated t told writing compared time =
 
 abbrev pub replied_with : Names → Told → ChangeLines → Compared → ℕ → Result Reply HereRefusal
 replied_with t told (lines.Differences comparing) compared time = replied t told comparing compared time
-replied_with t told (lines.States writing) compared time = stated t told writing compared time
+replied_with t told (lines.States writing) compared time = state_reply t told writing compared time
 
 abbrev pub replied_by : Names → Told → Placed → Asked → ChangeLines → ℕ → Result Reply HereRefusal
 replied_by t told placed asked wanted time =
@@ -172,6 +172,6 @@ replied_unless t told placed asked wanted =
     if is_exclusive wanted then Err (errors.Uncompared reasons.Exclusive) else replied_at t told placed asked wanted
 
 -- what is said of the work tree around a directory, or the first refusal
-abbrev pub replied_in : Names → Owned → Told → List ℕ → List Variable → Option (List ℕ) → Asked → ChangeLines → Result Reply HereRefusal
+abbrev pub replied_in : Names → OwnershipByPath → Told → List ℕ → List Variable → Option (List ℕ) → Asked → ChangeLines → Result Reply HereRefusal
 replied_in t owned told current variables directory asked wanted =
     and_then (λ (placed : Placed). replied_unless t told placed asked wanted) (placed_in t owned current variables directory)

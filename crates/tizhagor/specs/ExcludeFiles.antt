@@ -5,8 +5,8 @@
 use Rattle.std.specs.Prelude.{◌≡◌, ℕ, List, [], ◌∷◌, ◌++◌, Bool, true, bytes_eq, codes, Result, Ok, Err, if◌then◌else◌}
 use Rattle.gitbase_core.specs.Steps.{and_then}
 use Rattle.gitbase_core.specs.Text.{without_mark}
-use Rattle.git_places.specs.Answers.{DecidesBy}
-use Rattle.git_setup.specs.BelowTop.{rules_below_top}
+use Rattle.git_places.specs.Answers.{IsFoundOrOutOfMemory}
+use Rattle.git_setup.specs.BelowTop.{exempt_top_from_star_rules}
 use Rattle.git_setup.specs.declared.found.Found.{Found}
 use Rattle.command_line.specs.declared.command.FilesAsked.{FilesAsked}
 use Rattle.worktree_fs.specs.Changes.{from_directory}
@@ -42,13 +42,13 @@ rules_named t root name = rules_by name (from_directory name root) (look t (from
 
 -- ---- files
 
-abbrev pub with_rules : List ℕ → List ℕ → List ℕ
-with_rules text rules = (text ++ 10 ∷ []) ++ rules
+abbrev pub append_rules_text : List ℕ → List ℕ → List ℕ
+append_rules_text text rules = (text ++ 10 ∷ []) ++ rules
 
 -- the rules of files in their order, behind a text, each behind a line feed; or the first that is refused
 unfoldable pub rules_after : Names → List ℕ → List ℕ → List (List ℕ) → Result (List ℕ) HereRefusal
 rules_after t root text [] = Ok text
-rules_after t root text (name ∷ names) = and_then (λ (rules : List ℕ). rules_after t root (with_rules text rules) names) (rules_named t root name)
+rules_after t root text (name ∷ names) = and_then (λ (rules : List ℕ). rules_after t root (append_rules_text text rules) names) (rules_named t root name)
 
 -- ---- the rules outside the directories
 
@@ -58,7 +58,7 @@ standard_rules is_standard rules = if is_standard then without_mark rules else [
 -- weaker files, the standard rules where they are asked for, and stronger files; each line is whole, and all leave the top alone
 abbrev pub rules_joined : Bool → List ℕ → List ℕ → List ℕ → List ℕ
 rules_joined is_standard weaker standard stronger =
-    rules_below_top ((((weaker ++ 10 ∷ []) ++ standard_rules is_standard standard) ++ stronger) ++ 10 ∷ [])
+    exempt_top_from_star_rules ((((weaker ++ 10 ∷ []) ++ standard_rules is_standard standard) ++ stronger) ++ 10 ∷ [])
 
 abbrev pub ruled : Found → List ℕ → Found
 ruled here rules = record here { setup = record here.setup { globals = rules } }
@@ -75,4 +75,4 @@ ruled_in t wants here =
 -- ---- an answer of the code that asks no worktree is the one that is defined, unless memory was wanting
 
 abbrev pub Decides : {A : Type 0} → Result A HereRefusal → Result A HereRefusal → Type 0
-Decides answer wanted = DecidesBy fault memory answer wanted
+Decides answer wanted = IsFoundOrOutOfMemory fault memory answer wanted

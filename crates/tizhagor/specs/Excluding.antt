@@ -10,7 +10,7 @@ use Rattle.ls_files.specs.declared.excluded_error.ExcludedError.{ExcludedError}
 use Rattle.ls_files.specs.declared.excluded_error.ExcludedError.TheVariants as excluding
 use Rattle.ls_files.specs.declared.listed.Listed.{Listed}
 use Rattle.ls_files.specs.declared.wrong.WrongListing.TheVariants as wrong
-use Rattle.worktree_fs.specs.Owners.{Owned}
+use Rattle.worktree_fs.specs.Owners.{OwnershipByPath}
 use Rattle.worktree_fs.specs.Tree.{Names}
 use Rattle.tizhagor.specs.declared.refusal.HereRefusal.{HereRefusal}
 use Rattle.tizhagor.specs.declared.refusal.HereRefusal.TheVariants as errors
@@ -26,7 +26,7 @@ unless_wrong wants here = wrong_or here (wrong_excluded (listing_said wants) her
 
 -- the work tree around a directory and its setup, with the rules of the files that are named, or the first refusal: as for any listing, and
 -- then of this one
-abbrev pub excludable_in : Names → Owned → List ℕ → List Variable → Option (List ℕ) → FilesAsked → Asked → Result Found HereRefusal
+abbrev pub excludable_in : Names → OwnershipByPath → List ℕ → List Variable → Option (List ℕ) → FilesAsked → Asked → Result Found HereRefusal
 excludable_in t owned current variables directory wants asked =
     and_then (unless_wrong wants) (ruled_around t owned current variables directory wants asked)
 
@@ -47,6 +47,6 @@ said_by t wants here =
     as_reply (listed_excluded t here.root (setup_for wants here) (listing_for wants here) here.prefix (all_named here))
 
 -- what is said of the work tree around a directory, or the first refusal
-abbrev pub excluded_in : Names → Owned → List ℕ → List Variable → Option (List ℕ) → FilesAsked → Asked → Result Reply HereRefusal
+abbrev pub excluded_in : Names → OwnershipByPath → List ℕ → List Variable → Option (List ℕ) → FilesAsked → Asked → Result Reply HereRefusal
 excluded_in t owned current variables directory wants asked =
     and_then (λ (here : Found). said_by t wants here) (excludable_in t owned current variables directory wants asked)

@@ -2,7 +2,7 @@
 use Rattle.std.specs.Prelude.{ℕ, List, codes}
 use Rattle.git_config_files.specs.declared.error.FilesError.{FilesError}
 use Rattle.git_config_files.specs.declared.error.FilesError.TheVariants as errors
-use Rattle.tizhagor.specs.Parts.{config_line, fault_line, foreign_line, memory_line, value_line, with_file, with_path}
+use Rattle.tizhagor.specs.Parts.{config_line, elsewhere_line, fault_line, foreign_line, memory_line, value_line, with_file, with_path}
 
 abbrev pub files_line : FilesError → List ℕ
 files_line (errors.Config path line) = config_line path line
@@ -13,7 +13,7 @@ files_line (errors.UserDir path value) = with_file (codes "fatal: failed to expa
 files_line (errors.Condition path) = with_path (codes "fatal: includeIf 'hasconfig:' is not read in file ") path (codes "\n")
 files_line (errors.Depth path) = with_path (codes "fatal: exceeded maximum include depth (10) at file ") path (codes "\n")
 files_line (errors.Value path key) = value_line path key
-files_line (errors.Elsewhere name) = with_path (codes "fatal: ") name (codes " is set, which is not heeded; unset it\n")
+files_line (errors.Elsewhere name) = elsewhere_line name
 files_line (errors.Foreign path) = foreign_line path
 files_line errors.Fault = fault_line
 files_line errors.OutOfMemory = memory_line

@@ -2,7 +2,7 @@
 use Rattle.std.specs.Prelude.{Result}
 use Rattle.worktree_fs.specs.declared.owners.Owners.{Ghosts as OwnersOf}
 use Rattle.worktree_fs.specs.declared.worktree.Worktree.{Ghosts as WorktreeOf}
-use Rattle.worktree_fs.specs.Owners.{Owned}
+use Rattle.worktree_fs.specs.Owners.{OwnershipByPath}
 use Rattle.worktree_fs.specs.Tree.{Names}
 use Rattle.git_places.specs.Finds.{FindsBy, FindsWithBy}
 use Rattle.tizhagor.specs.declared.refusal.HereRefusal.{HereRefusal}
@@ -13,5 +13,5 @@ abbrev pub FindsHere : {W A : Type 0} → WorktreeOf W → W → W → (Names �
 FindsHere w before now found result = FindsBy w before now fault memory found result
 
 -- the same over told owners too
-abbrev pub FindsHereWith : {W O A : Type 0} → WorktreeOf W → OwnersOf O → W → W → O → O → (Names → Owned → Result A HereRefusal) → Result A HereRefusal → Type 0
+abbrev pub FindsHereWith : {W O A : Type 0} → WorktreeOf W → OwnersOf O → W → W → O → O → (Names → OwnershipByPath → Result A HereRefusal) → Result A HereRefusal → Type 0
 FindsHereWith w o w0 w1 o0 o1 found result = FindsWithBy w o w0 w1 o0 o1 fault memory found result

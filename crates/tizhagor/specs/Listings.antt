@@ -12,7 +12,7 @@ use Rattle.command_line.specs.RulesGiven.{RulesGiven}
 use Rattle.command_line.specs.declared.command.FilesAsked.{FilesAsked}
 use Rattle.ls_files.specs.Choices.{walks}
 use Rattle.ls_files.specs.Listed.{ListsFiles, listed, listed_in}
-use Rattle.ls_files.specs.Walking.{walking}
+use Rattle.ls_files.specs.Walking.{walk_options_for_listing}
 use Rattle.ls_files.specs.Wrong.{wrong_in, wrong_within}
 use Rattle.ls_files.specs.declared.listed.Listed.{Listed}
 use Rattle.ls_files.specs.declared.options.Listing.{Listing}
@@ -20,7 +20,7 @@ use Rattle.ls_files.specs.declared.options.NamedSpec.{NamedSpec}
 use Rattle.ls_files.specs.declared.wrong.WrongListing.{WrongListing}
 use Rattle.worktree_fs.specs.declared.interrupt.Interrupt.{Ghosts as InterruptOf}
 use Rattle.worktree_fs.specs.declared.worktree.Worktree.{Ghosts as WorktreeOf}
-use Rattle.worktree_fs.specs.Owners.{Owned}
+use Rattle.worktree_fs.specs.Owners.{OwnershipByPath}
 use Rattle.worktree_fs.specs.Tree.{Names}
 use Rattle.worktree_report.specs.Asked.{read_in, IsValidAt}
 use Rattle.worktree_report.specs.declared.refusal.Refusal.{Refusal}
@@ -65,12 +65,12 @@ unless_wrong wants asked here = wrong_or here (why_wrong wants asked here)
 
 -- The work tree around a directory and its setup, with the rules of the files that are named, or the first refusal: as for any command, and
 -- then of these files.
-unfoldable pub ruled_around : Names → Owned → List ℕ → List Variable → Option (List ℕ) → FilesAsked → Asked → Result Found HereRefusal
+unfoldable pub ruled_around : Names → OwnershipByPath → List ℕ → List Variable → Option (List ℕ) → FilesAsked → Asked → Result Found HereRefusal
 ruled_around t owned current variables directory wants asked =
     and_then (ruled_in t wants) (here_in t owned current variables directory asked)
 
 -- the same, or the first refusal: as there, and then of the listing
-abbrev pub listable_in : Names → Owned → List ℕ → List Variable → Option (List ℕ) → FilesAsked → Asked → Result Found HereRefusal
+abbrev pub listable_in : Names → OwnershipByPath → List ℕ → List Variable → Option (List ℕ) → FilesAsked → Asked → Result Found HereRefusal
 listable_in t owned current variables directory wants asked =
     and_then (unless_wrong wants asked) (ruled_around t owned current variables directory wants asked)
 
@@ -86,7 +86,7 @@ listing_for wants here = listing_with (listing_said wants) here.quote_path
 -- the setup with the options that a listing needs, and with patterns before all other rules
 abbrev pub setup_with : Listing → List ℕ → Setup → Setup
 setup_with listing rules setup =
-    record setup { options = walking listing setup.options; overrides = rules }
+    record setup { options = walk_options_for_listing listing setup.options; overrides = rules }
 
 abbrev pub setup_for : FilesAsked → Found → Setup
 setup_for wants here = setup_with (listing_said wants) (rules_of wants.rules.patterns) here.setup

@@ -3,7 +3,7 @@ use Rattle.std.specs.Prelude.{◌≡◌, ◌⊎◌, ℕ, List, Bool, true, Optio
 use Rattle.command_line.specs.Requests.{Command, asks, request_in}
 use Rattle.command_line.specs.declared.command.Request.{Request}
 use Rattle.git_setup.specs.declared.found.Found.{Found}
-use Rattle.worktree_fs.specs.Owners.{Owned}
+use Rattle.worktree_fs.specs.Owners.{OwnershipByPath}
 use Rattle.worktree_fs.specs.Tree.{Names, look}
 use Rattle.worktree_report.specs.SetupAt.{setup_at}
 use Rattle.worktree_report.specs.declared.refusal.Refusal.{Refusal}
@@ -38,7 +38,7 @@ pub record IsSaidOf (composes : Bool) (t : Names) (found : Result Found HereRefu
   pub reply_is : said_for composes t here word ≡ Some reply
 
 -- the reply is the one that is asked for over the tree; what is told by stats too is told beside these
-abbrev pub IsReplyFor : Bool → Names → Owned → Place → Option (List ℕ) → Reply → Task → Type 0
+abbrev pub IsReplyFor : Bool → Names → OwnershipByPath → Place → Option (List ℕ) → Reply → Task → Type 0
 IsReplyFor composes t owned place directory reply (call_of call asked writing) = IsBytesOf composes t (found_at place directory asked t owned) call writing reply.out × IsPlain reply
 IsReplyFor composes t owned place directory reply (word_of word asked) = IsSaidOf composes t (word_at place directory word asked t owned) word reply
 IsReplyFor composes t owned place directory reply (check_of wants asked) = answered_at place directory wants asked t owned ≡ Ok reply
@@ -71,7 +71,7 @@ pub record IsUnfaultedHere (place : Place) (words : List (List ℕ)) (before now
   pub unfaulted : IsUnfaultedFor before now (task_of place.takes_colors request.command)
 
 -- The words ask for something, and the reply is the one that it gives over the tree; for a report, where no fault was counted.
-pub record IsOutputHere (composes : Bool) (t : Names) (owned : Owned) (place : Place) (words : List (List ℕ)) (before now : ℕ) (reply : Reply) : Type 0 where
+pub record IsOutputHere (composes : Bool) (t : Names) (owned : OwnershipByPath) (place : Place) (words : List (List ℕ)) (before now : ℕ) (reply : Reply) : Type 0 where
   pub request : Request
   pub asked : IsAsked words request
   pub reply_is : IsQuietWith before now (task_of place.takes_colors request.command) → IsReplyFor composes t owned place request.directory reply (task_of place.takes_colors request.command)
@@ -103,7 +103,7 @@ abbrev pub RefusesWordOf : Bool → Names → Result Found HereRefusal → TreeW
 RefusesWordOf composes t found word e = (found ≡ Err e) ⊎ RefusesSaid composes t found word e
 
 -- of two words the first; what the second is refused for stands beside these
-abbrev pub RefusesFor : Bool → Names → Owned → Place → Option (List ℕ) → HereRefusal → Task → Type 0
+abbrev pub RefusesFor : Bool → Names → OwnershipByPath → Place → Option (List ℕ) → HereRefusal → Task → Type 0
 RefusesFor composes t owned place directory e (call_of call asked writing) = RefusesCall composes t (found_at place directory asked t owned) call e
 RefusesFor composes t owned place directory e (word_of word asked) = RefusesWordOf composes t (word_at place directory word asked t owned) word e
 RefusesFor composes t owned place directory e (check_of wants asked) = answered_at place directory wants asked t owned ≡ Err e
@@ -112,13 +112,13 @@ RefusesFor composes t owned place directory e (both_of word stat asked) = Refuse
 RefusesFor composes t owned place directory e (offer_of text) = ⊥
 
 -- The words ask for something, and it is refused so over the tree.
-pub record RefusesHere (composes : Bool) (t : Names) (owned : Owned) (place : Place) (words : List (List ℕ)) (e : HereRefusal) : Type 0 where
+pub record RefusesHere (composes : Bool) (t : Names) (owned : OwnershipByPath) (place : Place) (words : List (List ℕ)) (e : HereRefusal) : Type 0 where
   pub request : Request
   pub asked : IsAsked words request
   pub refused : RefusesFor composes t owned place request.directory e (task_of place.takes_colors request.command)
 
 -- no root and no setup is found; or `check-ignore` is refused, whatever for
-abbrev pub IsNotFoundFor : Names → Owned → Place → Option (List ℕ) → HereRefusal → Task → Type 0
+abbrev pub IsNotFoundFor : Names → OwnershipByPath → Place → Option (List ℕ) → HereRefusal → Task → Type 0
 IsNotFoundFor t owned place directory e (call_of call asked writing) = found_at place directory asked t owned ≡ Err e
 IsNotFoundFor t owned place directory e (word_of word asked) = word_at place directory word asked t owned ≡ Err e
 IsNotFoundFor t owned place directory e (check_of wants asked) = answered_at place directory wants asked t owned ≡ Err e
@@ -127,7 +127,7 @@ IsNotFoundFor t owned place directory e (both_of word stat asked) = word_at plac
 IsNotFoundFor t owned place directory e (offer_of text) = ⊥
 
 -- No word is wrong, and no root and no setup is found for what they ask for.
-pub record IsNotFoundHere (t : Names) (owned : Owned) (place : Place) (words : List (List ℕ)) (e : HereRefusal) : Type 0 where
+pub record IsNotFoundHere (t : Names) (owned : OwnershipByPath) (place : Place) (words : List (List ℕ)) (e : HereRefusal) : Type 0 where
   pub directory : Option (List ℕ)
   pub command : Command
   pub words_are : request_in words ≡ asks directory command
@@ -147,7 +147,7 @@ pub record IsSayableAt (composes : Bool) (t : Names) (found : Result Found HereR
   pub found_is : found ≡ Ok here
   pub ready : IsSayable composes t here word
 
-abbrev pub IsReadyWith : Bool → Names → Owned → Place → Option (List ℕ) → Task → Type 0
+abbrev pub IsReadyWith : Bool → Names → OwnershipByPath → Place → Option (List ℕ) → Task → Type 0
 IsReadyWith composes t owned place directory (call_of call asked writing) = IsReadyAt composes t (found_at place directory asked t owned) call
 IsReadyWith composes t owned place directory (word_of word asked) = IsSayableAt composes t (word_at place directory word asked t owned) word
 IsReadyWith composes t owned place directory (check_of wants asked) = IsReply (answered_at place directory wants asked t owned)
@@ -156,7 +156,7 @@ IsReadyWith composes t owned place directory (both_of word stat asked) = ⊥
 IsReadyWith composes t owned place directory (offer_of text) = Unit {0}
 
 -- No word is wrong, and what the words ask for can be had.
-pub record IsValidHere (composes : Bool) (t : Names) (owned : Owned) (place : Place) (words : List (List ℕ)) : Type 0 where
+pub record IsValidHere (composes : Bool) (t : Names) (owned : OwnershipByPath) (place : Place) (words : List (List ℕ)) : Type 0 where
   pub directory : Option (List ℕ)
   pub command : Command
   pub words_are : request_in words ≡ asks directory command

@@ -38,6 +38,10 @@ abbrev pub foreign_line : List ℕ → List ℕ
 foreign_line path =
     with_path (codes "fatal: detected dubious ownership in repository at '") path (codes "'; to add an exception, call 'git config --global --add safe.directory DIRECTORY'\n")
 
+-- a variable of the environment points git elsewhere
+abbrev pub elsewhere_line : List ℕ → List ℕ
+elsewhere_line name = with_path (codes "fatal: ") name (codes " is set, which is not heeded; unset it\n")
+
 -- the worktree, the owners or the stats failed, and no path is named
 abbrev pub fault_line : List ℕ
 fault_line = codes "fatal: a file or directory could not be read\n"

@@ -1,7 +1,7 @@
 -- Patterns that stand before all other ignore rules.
 use Rattle.std.specs.Prelude.{ℕ, List, [], ◌∷◌, Bool, true, false, nat_eq, codes, if◌then◌else◌}
 use Rattle.std.specs.List.{flat_map, starts_with}
-use Rattle.git_setup.specs.BelowTop.{rules_below_top}
+use Rattle.git_setup.specs.BelowTop.{exempt_top_from_star_rules}
 
 -- there are some
 abbrev pub is_any : List (List ℕ) → Bool
@@ -18,4 +18,4 @@ rule_line pattern = 10 ∷ pattern_line pattern
 
 -- as they leave the top of the work tree alone
 abbrev pub rules_of : List (List ℕ) → List ℕ
-rules_of patterns = rules_below_top (flat_map rule_line patterns)
+rules_of patterns = exempt_top_from_star_rules (flat_map rule_line patterns)

@@ -29,7 +29,7 @@ use Rattle.diff_files.specs.declared.error.Unanswered.{Unanswered}
 use Rattle.tizhagor.specs.CleanLines.{clean_text}
 use Rattle.tizhagor.specs.FilesLines.{files_line}
 use Rattle.tizhagor.specs.IndexLines.{entry_reason, file_reason}
-use Rattle.tizhagor.specs.Parts.{fault_at, fault_line, foreign_line, memory_line, value_line, with_path}
+use Rattle.tizhagor.specs.Parts.{elsewhere_line, fault_at, fault_line, foreign_line, memory_line, value_line, with_path}
 use Rattle.tizhagor.specs.PlacesLines.{places_line}
 use Rattle.tizhagor.specs.ProgramLines.{program_line, program_status}
 
@@ -143,7 +143,7 @@ status_of (errors.Program refusal) = program_status refusal
 -- ---- lines
 
 abbrev pub git_line : GitRefusal → List ℕ
-git_line (git.Elsewhere name) = with_path (codes "fatal: ") name (codes " is set, which is not heeded; unset it\n")
+git_line (git.Elsewhere name) = elsewhere_line name
 git_line (git.Places e) = places_line e
 git_line (git.Foreign path) = foreign_line path
 git_line (git.IndexNode path) = with_path (codes "fatal: '") path (codes "' is no file\n")
@@ -165,12 +165,12 @@ git_line git.Fault = fault_line
 git_line git.OutOfMemory = memory_line
 
 -- a form is not answered, at the path of an entry
-abbrev pub form_line : Unanswered → List ℕ
-form_line refused = with_path ((codes "fatal: " ++ unsupported_text refused.form) ++ codes ": '") refused.path (codes "'\n")
+abbrev pub unsupported_form_line : Unanswered → List ℕ
+unsupported_form_line refused = with_path ((codes "fatal: " ++ unsupported_text refused.form) ++ codes ": '") refused.path (codes "'\n")
 
 abbrev pub uncompared_line : Uncompared → List ℕ
 uncompared_line reasons.Exclusive = codes "fatal: options '--name-only', '--name-status', '--check', and '-s' cannot be used together\n"
-uncompared_line (reasons.Form refused) = form_line refused
+uncompared_line (reasons.Form refused) = unsupported_form_line refused
 
 abbrev pub unchecked_text : Unchecked → List ℕ
 unchecked_text (unchecked.Wrong wrong) = checks.wrong_text wrong

@@ -4,7 +4,7 @@ use Rattle.command_line.specs.declared.check_options.CheckAsked.{CheckAsked}
 use Rattle.command_line.specs.declared.command.FilesAsked.{FilesAsked}
 use Rattle.git_places.specs.Variables.{Variable}
 use Rattle.git_setup.specs.declared.asked.Asked.{Asked}
-use Rattle.worktree_fs.specs.Owners.{Owned}
+use Rattle.worktree_fs.specs.Owners.{OwnershipByPath}
 use Rattle.worktree_fs.specs.Tree.{Names}
 use Rattle.tizhagor.specs.declared.refusal.HereRefusal.{HereRefusal}
 use Rattle.tizhagor.specs.declared.reply.Reply.{Reply}
@@ -17,6 +17,6 @@ pub data RuleWord : Type 0 where
   excluding_of : FilesAsked → RuleWord
 
 -- what is said of the work tree around a directory, or the first refusal
-abbrev pub word_said : Names → Owned → List ℕ → List Variable → Option (List ℕ) → Asked → List ℕ → RuleWord → Result Reply HereRefusal
+abbrev pub word_said : Names → OwnershipByPath → List ℕ → List Variable → Option (List ℕ) → Asked → List ℕ → RuleWord → Result Reply HereRefusal
 word_said t owned current variables directory asked input (checking_of wants) = answered_in t owned current variables directory asked wants input
 word_said t owned current variables directory asked input (excluding_of wants) = excluded_in t owned current variables directory wants asked

@@ -7,7 +7,7 @@ use Rattle.command_line.specs.Comparings.{default_comparing}
 use Rattle.command_line.specs.declared.compare_options.Comparing.{Comparing}
 use Rattle.command_line.specs.declared.compare_options.Ignoring.TheVariants as ignorings
 use Rattle.diff_files.specs.Differences.{Answers, UnlessFault, changes_in}
-use Rattle.diff_files.specs.KeptStats.{AsksStats, Fails, FailsNot, Outside, Tells}
+use Rattle.diff_files.specs.KeptStats.{AsksStats, Fails, KeepsFaultCounts, TreeAndStats, Tells}
 use Rattle.diff_files.specs.Rows.{Row}
 use Rattle.diff_files.specs.States.{is_merged}
 use Rattle.diff_files.specs.declared.change.PathChange.{PathChange}
@@ -59,16 +59,16 @@ abbrev pub state_comparing : Comparing
 state_comparing = record default_comparing { ignoring = ignorings.All }
 
 -- The bytes that are written for them, or the first form that is not answered.
-abbrev pub stated_in : Outside → List ℕ → List IndexEntry → List Detail → Comparison → List PathSpec → Writing → Result (List ℕ) Unanswered
+abbrev pub stated_in : TreeAndStats → List ℕ → List IndexEntry → List Detail → Comparison → List PathSpec → Writing → Result (List ℕ) Unanswered
 stated_in s root entries details o specs writing =
     and_then (λ (rows : List Row). Ok (written writing (states_text rows))) (changes_in s root entries details o specs)
 
 -- What is answered of a work tree, where it was `w0` and is `w1`, and what is asked for stats was `s0` and is `s1`.
 pub record FindsStates {W S : Type 0} (w : WorktreeOf W) (s : StatsOf S) (w0 w1 : W) (s0 s1 : S) (root : List ℕ) (entries : List IndexEntry)
     (details : List Detail) (o : Comparison) (specs : List PathSpec) (writing : Writing) (answer : Result (List ℕ) DiffError) : Type 0 where
-  pub gives : (outside : Outside) → Tells (w.told w0) (s.told s0) outside → Answers (stated_in outside root entries details o specs writing) answer
+  pub gives : (outside : TreeAndStats) → Tells (w.told w0) (s.told s0) outside → Answers (stated_in outside root entries details o specs writing) answer
   -- a fault is told only where one was counted, and none was counted that is not told
   pub cause : IsErrOf answer errors.Fault → Fails w s w0 w1 s0 s1
-  pub unfaulted : UnlessFault answer (FailsNot w s w0 w1 s0 s1)
+  pub unfaulted : UnlessFault answer (KeepsFaultCounts w s w0 w1 s0 s1)
   pub worktree : Asks w w0 w1
   pub stats : AsksStats s s0 s1

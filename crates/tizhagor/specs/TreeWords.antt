@@ -9,7 +9,7 @@ use Rattle.command_line.specs.declared.command.CleanAsked.{CleanAsked}
 use Rattle.command_line.specs.declared.command.FilesAsked.{FilesAsked}
 use Rattle.worktree_fs.specs.declared.interrupt.Interrupt.{Ghosts as InterruptOf}
 use Rattle.worktree_fs.specs.declared.worktree.Worktree.{Ghosts as WorktreeOf}
-use Rattle.worktree_fs.specs.Owners.{Owned}
+use Rattle.worktree_fs.specs.Owners.{OwnershipByPath}
 use Rattle.worktree_fs.specs.Tree.{Names}
 use Rattle.worktree_report.specs.declared.refusal.Refusal.{Refusal}
 use Rattle.tizhagor.specs.declared.refusal.HereRefusal.{HereRefusal}
@@ -31,7 +31,7 @@ pub data TreeWord : Type 0 where
   report_of : Writing → TreeWord
 
 -- the work tree around a directory and its setup, or the first refusal
-abbrev pub word_in : Names → Owned → List ℕ → List Variable → Option (List ℕ) → Asked → TreeWord → Result Found HereRefusal
+abbrev pub word_in : Names → OwnershipByPath → List ℕ → List Variable → Option (List ℕ) → Asked → TreeWord → Result Found HereRefusal
 word_in t owned current variables directory asked (listing_of wants) = listable_in t owned current variables directory wants asked
 word_in t owned current variables directory asked (cleaning_of wants) = cleanable_in t owned current variables directory wants asked
 word_in t owned current variables directory asked (report_of writing) = here_in t owned current variables directory asked

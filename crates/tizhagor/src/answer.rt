@@ -1,7 +1,7 @@
 //! The top call.
 ghost use Rattle.std.specs.Prelude.{[], ◌≡◌, ◌≤◌, ◌⊎◌, true, Some, IfOk, IfErr};
 ghost use Rattle.worktree_fs.specs.Causes.{Increased, NotIncreased};
-ghost use Rattle.worktree_fs.specs.Owners.{Owned};
+ghost use Rattle.worktree_fs.specs.Owners.{OwnershipByPath};
 ghost use Rattle.worktree_fs.specs.Tree.{Names};
 ghost use Rattle.diff_files.specs.Stats.{Told};
 ghost use Rattle.std.specs.Prelude.{Result as ResultOf};
@@ -33,20 +33,25 @@ use crate::refusal::HereRefusal;
 use crate::reply::{Reply, plainly};
 use crate::texts::text_here;
 use crate::written::{Writing, written};
-use command_line::{Command, help_of, request_of, styled, version};
+use command_line::{
+    CheckAsked, CleanAsked, Command, Comparing, FilesAsked, Topic, help_of, request_of, styled,
+    version,
+};
 use diff_files::Stats;
 use git_places::Variable;
 use git_setup::Asked;
 use gitbase_core::Bytes;
-use ls_files::{lists_excluded, walks};
+use ls_files::{Standings, lists_excluded, walks};
 use std::alloc::Global;
 use worktree_fs::{Interrupt, Owners, Sink};
 use worktree_report::CountsFaults;
 
-/// What a call comes with: the current directory, an absolute path without links; the variables of
-/// the environment; whether the output takes colours; and the standard input.
+/// What a call comes with: the words behind the program's name; the current directory, an absolute
+/// path without links; the variables of the environment; whether the output takes colours; and the
+/// standard input.
 #[derive(Drop)]
 pub struct Called<'a> {
+    pub words: &'a [Bytes],
     pub current: &'a [u8],
     pub variables: &'a [Variable],
     pub takes_colors: bool,
@@ -113,6 +118,130 @@ fn offered(alloc: Global, text: &[u8]) -> Result<Reply, HereRefusal>
     plainly(alloc, answer)
 }
 
+/// What a command demands. The variants go by how it is answered.
+#[derive(Drop)]
+pub enum Demand {
+    /// What a call says by a setup: `report`, `plan`, `modules` and `state`; and how it is written.
+    Call(Call, Asked, Writing),
+    /// What `state` says with `--by-stat`, and how it is written.
+    State(Asked, Writing),
+    /// What `ls-files` prints, with neither `-d` nor `-m`.
+    Files(Asked, FilesAsked),
+    /// What `ls-files` prints with `-d` or `-m`.
+    Changed(Asked, FilesAsked, Standings),
+    /// What `clean` prints.
+    Clean(Asked, CleanAsked),
+    /// What `check-ignore` prints.
+    Check(Asked, CheckAsked),
+    /// What `diff-files` prints.
+    Compare(Asked, Comparing),
+    /// A help text.
+    Help(Topic),
+    /// The version of the program.
+    Version,
+}
+
+/// What a command demands, where the output takes colours or not.
+fn demand_of(command: Command, takes_colors: bool) -> Demand
+    ensures { answers.task_for result ≡ answers.task_of takes_colors command }
+{
+    match command {
+        Command::Report { asked, form } => {
+            let writing = Writing::Lines(styled(form, takes_colors));
+            Demand::Call(Call::Report, asked, writing)
+        }
+        Command::Plan {
+            asked,
+            what,
+            finding,
+            form,
+        } => {
+            let call = Call::Plan { what, finding };
+            Demand::Call(call, asked, Writing::Paths(form.end))
+        }
+        Command::Modules { asked } => Demand::Call(Call::Modules, asked, Writing::AsItIs),
+        Command::State {
+            asked,
+            form,
+            by_stat,
+        } => {
+            let writing = Writing::Lines(styled(form, takes_colors));
+            if by_stat {
+                return Demand::State(asked, writing);
+            }
+            Demand::Call(Call::State, asked, writing)
+        }
+        Command::Files { asked, files } => Demand::Files(asked, files),
+        Command::Changed {
+            asked,
+            files,
+            standings,
+        } => Demand::Changed(asked, files, standings),
+        Command::Clean { asked, clean } => Demand::Clean(asked, clean),
+        Command::Check { asked, checking } => Demand::Check(asked, checking),
+        Command::Compare { asked, comparing } => Demand::Compare(asked, comparing),
+        Command::Help(topic) => Demand::Help(topic),
+        Command::Version => Demand::Version,
+    }
+}
+
+/// What is said of a demand, or why nothing is.
+fn reply_by<W: CountsFaults, O: Owners, D: Stats, I: Interrupt>(
+    alloc: Global,
+    worktree: &mut W,
+    owners: &mut O,
+    stats: &mut D,
+    interrupt: &mut I,
+    here: &Here<'_>,
+    called: &Called<'_>,
+    demand: Demand,
+) -> Result<Reply, HereRefusal>
+    ensures { compared.AnswersAny W.Worktree I.Interrupt O.Owners D.Stats worktree.old worktree.new
+        interrupt.old interrupt.new owners.old owners.new stats.old stats.new
+        (answers.placed here.now.current.now here.now.variables.now called.now.takes_colors
+        called.now.input.now) here.now.directory.now result (answers.task_for demand) }
+{
+    match demand {
+        Demand::Call(call, asked, writing) => reply_for(
+            alloc, worktree, owners, interrupt, here, call, asked, writing,
+        ),
+        Demand::State(asked, writing) => state_here(
+            alloc, worktree, owners, stats, interrupt, here, &asked, writing,
+        ),
+        Demand::Files(asked, files) => {
+            if lists_excluded(&files.listing) {
+                excluded_here(alloc, worktree, owners, here, &files, &asked)
+            } else {
+                files_here(alloc, worktree, owners, interrupt, here, &files, &asked)
+            }
+        }
+        Demand::Changed(asked, files, standings) => {
+            if walks(&files.listing) {
+                both_here(
+                    alloc, worktree, owners, stats, interrupt, here, &asked, files, standings,
+                )
+            } else {
+                changed_here(
+                    alloc, worktree, owners, stats, here, &asked, &files, standings,
+                )
+            }
+        }
+        Demand::Clean(asked, clean) => {
+            clean_here(alloc, worktree, owners, interrupt, here, &clean, asked)
+        }
+        Demand::Check(asked, checking) => {
+            let input = called.input;
+            check_here(alloc, worktree, owners, here, &asked, &checking, input)
+        }
+        Demand::Compare(asked, comparing) => {
+            let lines = ChangeLines::Differences(comparing);
+            compare_here(alloc, worktree, owners, stats, here, &asked, lines)
+        }
+        Demand::Help(topic) => offered(alloc, help_of(topic)),
+        Demand::Version => offered(alloc, version()),
+    }
+}
+
 /// What is said of a command, or why nothing is.
 fn reply_of<W: CountsFaults, O: Owners, D: Stats, I: Interrupt>(
     alloc: Global,
@@ -134,97 +263,15 @@ fn reply_of<W: CountsFaults, O: Owners, D: Stats, I: Interrupt>(
         variables: called.variables,
         directory,
     };
-    match command {
-        Command::Report { asked, form } => {
-            let writing = Writing::Lines(styled(form, called.takes_colors));
-            let call = Call::Report;
-            reply_for(
-                alloc, worktree, owners, interrupt, here, call, asked, writing,
-            )
-        }
-        Command::Plan {
-            asked,
-            what,
-            finding,
-            form,
-        } => {
-            let writing = Writing::Paths(form.end);
-            let call = Call::Plan { what, finding };
-            reply_for(
-                alloc, worktree, owners, interrupt, here, call, asked, writing,
-            )
-        }
-        Command::Modules { asked } => {
-            let writing = Writing::AsItIs;
-            let call = Call::Modules;
-            reply_for(
-                alloc, worktree, owners, interrupt, here, call, asked, writing,
-            )
-        }
-        Command::State {
-            asked,
-            form,
-            by_stat,
-        } => {
-            let writing = Writing::Lines(styled(form, called.takes_colors));
-            if by_stat {
-                state_here(
-                    alloc, worktree, owners, stats, interrupt, here, &asked, writing,
-                )
-            } else {
-                let call = Call::State;
-                reply_for(
-                    alloc, worktree, owners, interrupt, here, call, asked, writing,
-                )
-            }
-        }
-        Command::Files { asked, files } => {
-            if lists_excluded(&files.listing) {
-                excluded_here(alloc, worktree, owners, here, &files, &asked)
-            } else {
-                files_here(alloc, worktree, owners, interrupt, here, &files, &asked)
-            }
-        }
-        Command::Changed {
-            asked,
-            files,
-            standings,
-        } => {
-            if walks(&files.listing) {
-                both_here(
-                    alloc, worktree, owners, stats, interrupt, here, &asked, files, standings,
-                )
-            } else {
-                changed_here(
-                    alloc, worktree, owners, stats, here, &asked, &files, standings,
-                )
-            }
-        }
-        Command::Clean { asked, clean } => clean_here(
-            alloc, worktree, owners, interrupt, here, &clean, asked,
-        ),
-        Command::Check { asked, checking } => check_here(
-            alloc,
-            worktree,
-            owners,
-            here,
-            &asked,
-            &checking,
-            called.input,
-        ),
-        Command::Compare { asked, comparing } => {
-            let lines = ChangeLines::Differences(comparing);
-            compare_here(alloc, worktree, owners, stats, here, &asked, lines)
-        }
-        Command::Help(topic) => offered(alloc, help_of(topic)),
-        Command::Version => offered(alloc, version()),
-    }
+    let demand = demand_of(command, called.takes_colors);
+    reply_by(
+        alloc, worktree, owners, stats, interrupt, here, called, demand,
+    )
 }
 
 /// What is said of what the words ask for, or why nothing is.
 fn reply_asked<W: CountsFaults, O: Owners, D: Stats, I: Interrupt>(
     alloc: Global,
-    words: &[Bytes],
     worktree: &mut W,
     owners: &mut O,
     stats: &mut D,
@@ -233,9 +280,9 @@ fn reply_asked<W: CountsFaults, O: Owners, D: Stats, I: Interrupt>(
 ) -> Result<Reply, HereRefusal>
     ensures { both.AnswersAll W.Worktree I.Interrupt O.Owners D.Stats worktree.old worktree.new
         interrupt.old interrupt.new owners.old owners.new stats.old stats.new
-        (answers.place_of called.now) words.now result }
+        (answers.place_of called.now) called.now.words.now result }
 {
-    let request = request_of(alloc, words)?;
+    let request = request_of(alloc, called.words)?;
     let directory = request.directory;
     reply_of(
         alloc,
@@ -281,7 +328,6 @@ fn reply_asked<W: CountsFaults, O: Owners, D: Stats, I: Interrupt>(
 /// See docs/DECISIONS.md#status-of-an-interrupt.
 pub fn answer_here<W: NamesFault, O: Owners, D: Stats, I: Interrupt, S: Sink, E: Sink>(
     alloc: Global,
-    words: &[Bytes],
     called: &Called<'_>,
     worktree: &mut W,
     owners: &mut O,
@@ -295,11 +341,11 @@ pub fn answer_here<W: NamesFault, O: Owners, D: Stats, I: Interrupt, S: Sink, E:
     ensures runs { RunsHere S.Sink E.Sink out.old out.new err.old err.new
         (W.first_fault worktree.new) (both.AnswersAll W.Worktree I.Interrupt O.Owners D.Stats
         worktree.old worktree.new interrupt.old interrupt.new owners.old owners.new
-        stats.old stats.new (answers.place_of called.now) words.now) result }
+        stats.old stats.new (answers.place_of called.now) called.now.words.now) result }
 
     // Status 0 or 1, but for a report: no fault was counted.
     ensures unfaulted { result ≤ 1 → output.IsUnfaultedHere (answers.place_of called.now)
-        words.now (W.faults worktree.old) (W.faults worktree.new) }
+        called.now.words.now (W.faults worktree.old) (W.faults worktree.new) }
 
     // Status 0 or 1: the owners failed at nothing.
     ensures owners_unfaulted { result ≤ 1 → O.faults owners.new ≡ O.faults owners.old }
@@ -311,27 +357,27 @@ pub fn answer_here<W: NamesFault, O: Owners, D: Stats, I: Interrupt, S: Sink, E:
     // there is the reply to what the words ask for, from the bytes of `.git` on. What `out` has is
     // what it had, and the reply's bytes; `err` gained its lines; and the status is its own. Where
     // a setup text means the setup that was found, the text of a command is the one by that.
-    ensures output { (t : Names) (owned : Owned)
+    ensures output { (t : Names) (owned : OwnershipByPath)
         → W.told worktree.old ≡ Some t → O.told owners.old ≡ Some owned → result ≤ 1
         → (reply : ReplyOf) × (output.IsOutputHere (W.precomposes worktree.old) t owned
-        (answers.place_of called.now) words.now
+        (answers.place_of called.now) called.now.words.now
         (W.faults worktree.old) (W.faults worktree.new) reply
         ⊎ (compared.IsCompared t owned (D.told stats.old)
-        (answers.place_of called.now) words.now reply
+        (answers.place_of called.now) called.now.words.now reply
         ⊎ both.IsBoth (W.precomposes worktree.old) t owned (D.told stats.old)
-        (answers.place_of called.now) words.now reply))
+        (answers.place_of called.now) called.now.words.now reply))
         × IsReplied S.Sink E.Sink out.old out.new err.old err.new reply result }
 
     // Status 129: a word is wrong. And where one is, that is the status, unless memory was wanted,
     // which is told.
-    ensures misuse { result ≡ 129 → answers.IsMisuse words.now }
-    ensures usage { answers.IsMisuse words.now
+    ensures misuse { result ≡ 129 → answers.IsMisuse called.now.words.now }
+    ensures usage { answers.IsMisuse called.now.words.now
         → (result ≡ 129) ⊎ IsToldOf E.Sink err.old err.new memory_line 128 result }
 
     // Status 128, over a told tree and told owners with no fault counted and no output refused:
     // want of memory is told, or what is refused over them: no work tree and no setup is found
     // there, or a report by them is refused, or what tells of submodules is misread.
-    ensures fatal { (t : Names) (owned : Owned)
+    ensures fatal { (t : Names) (owned : OwnershipByPath)
         → W.told worktree.old ≡ Some t → O.told owners.old ≡ Some owned → result ≡ 128
         → NotIncreased (W.faults worktree.old) (W.faults worktree.new)
         → NotIncreased (O.faults owners.old) (O.faults owners.new)
@@ -339,18 +385,18 @@ pub fn answer_here<W: NamesFault, O: Owners, D: Stats, I: Interrupt, S: Sink, E:
         → IsToldOf E.Sink err.old err.new memory_line 128 result
         ⊎ IsFatal E.Sink err.old err.new (W.first_fault worktree.new)
         (λ refusal. output.RefusesHere (W.precomposes worktree.old) t owned
-        (answers.place_of called.now) words.now refusal
+        (answers.place_of called.now) called.now.words.now refusal
         ⊎ (compared.RefusesCompared t owned (D.told stats.old) (D.faults stats.old)
-        (D.faults stats.new) (answers.place_of called.now) words.now refusal
+        (D.faults stats.new) (answers.place_of called.now) called.now.words.now refusal
         ⊎ both.RefusesSecond (W.precomposes worktree.old) t owned (D.told stats.old)
         (D.faults stats.old) (D.faults stats.new)
-        (answers.place_of called.now) words.now refusal)) }
+        (answers.place_of called.now) called.now.words.now refusal)) }
 
     // And the other way: where no work tree and no setup is found over them, and no fault was
     // counted, the line says why, or that memory was wanted, with its status.
-    ensures refused { (t : Names) (owned : Owned) (e : HereRefusal)
+    ensures refused { (t : Names) (owned : OwnershipByPath) (e : HereRefusal)
         → W.told worktree.old ≡ Some t → O.told owners.old ≡ Some owned
-        → output.IsNotFoundHere t owned (answers.place_of called.now) words.now e
+        → output.IsNotFoundHere t owned (answers.place_of called.now) called.now.words.now e
         → NotIncreased (W.faults worktree.old) (W.faults worktree.new)
         → NotIncreased (O.faults owners.old) (O.faults owners.new)
         → IsTold E.Sink err.old err.new (W.first_fault worktree.new) e result }
@@ -361,10 +407,10 @@ pub fn answer_here<W: NamesFault, O: Owners, D: Stats, I: Interrupt, S: Sink, E:
 
     // Valid input, over a told tree and told owners and with nothing counted: 0 or 1, or want of
     // memory is told.
-    ensures complete { (t : Names) (owned : Owned)
+    ensures complete { (t : Names) (owned : OwnershipByPath)
         → W.told worktree.old ≡ Some t → O.told owners.old ≡ Some owned
         → output.IsValidHere (W.precomposes worktree.old) t owned
-        (answers.place_of called.now) words.now
+        (answers.place_of called.now) called.now.words.now
         → NotIncreased (W.faults worktree.old) (W.faults worktree.new)
         → NotIncreased (O.faults owners.old) (O.faults owners.new)
         → NotIncreased (I.raised interrupt.old) (I.raised interrupt.new)
@@ -375,14 +421,15 @@ pub fn answer_here<W: NamesFault, O: Owners, D: Stats, I: Interrupt, S: Sink, E:
     // it ends as what is found over them does, with its reply or with the line of its refusal; or
     // want of memory is told. So does what is told by a walk and by stats, where the walk can be
     // had and no interrupt was raised.
-    ensures compared { (t : Names) (owned : Owned) (told : Told)
+    ensures compared { (t : Names) (owned : OwnershipByPath) (told : Told)
         (wanted : ResultOf ReplyOf HereRefusal)
         → W.told worktree.old ≡ Some t → O.told owners.old ≡ Some owned
         → D.told stats.old ≡ Some told
-        → compared.ComparesTo t owned told (answers.place_of called.now) words.now wanted
+        → compared.ComparesTo t owned told (answers.place_of called.now) called.now.words.now
+        wanted
         ⊎ (NotIncreased (I.raised interrupt.old) (I.raised interrupt.new)
         × both.IsBothTo (W.precomposes worktree.old) t owned told
-        (answers.place_of called.now) words.now wanted)
+        (answers.place_of called.now) called.now.words.now wanted)
         → NotIncreased (W.faults worktree.old) (W.faults worktree.new)
         → NotIncreased (O.faults owners.old) (O.faults owners.new)
         → NotIncreased (D.faults stats.old) (D.faults stats.new)
@@ -390,6 +437,6 @@ pub fn answer_here<W: NamesFault, O: Owners, D: Stats, I: Interrupt, S: Sink, E:
         ⊎ EndsHere S.Sink E.Sink out.old out.new err.old err.new (W.first_fault worktree.new)
         wanted result }
 {
-    let answer = reply_asked(alloc, words, worktree, owners, stats, interrupt, called);
+    let answer = reply_asked(alloc, worktree, owners, stats, interrupt, called);
     finish_here(alloc, answer, worktree.first_fault(), out, err)
 }

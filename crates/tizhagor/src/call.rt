@@ -31,7 +31,7 @@ fn prepared(options: &SetupOptions, finding: Finding) -> SetupOptions
     options
 }
 
-fn asking(options: &SetupOptions) -> SetupOptions
+fn options_with_submodules(options: &SetupOptions) -> SetupOptions
     ensures { result ≡ words.options_for Call.Modules options.now }
 {
     let mut options = *options;
@@ -47,6 +47,6 @@ pub fn options_for(call: Call, options: &SetupOptions) -> SetupOptions
     match call {
         Call::Report | Call::State => *options,
         Call::Plan { what: _, finding } => prepared(options, finding),
-        Call::Modules => asking(options),
+        Call::Modules => options_with_submodules(options),
     }
 }

@@ -112,6 +112,15 @@ fn as_reply(answer: Result<Listed, ChangedError>) -> Result<Reply, HereRefusal>
     }
 }
 
+/// What is asked of what changed: a listing, of which of the two it is, and when the index was last
+/// written, in seconds.
+#[derive(Clone, Copy)]
+struct ChangedAsked<'a> {
+    wants: &'a FilesAsked,
+    standings: Standings,
+    index_time: u32,
+}
+
 /// What is listed of a work tree and its index, in the directory `prefix`, with path specs.
 fn list_by<W: Worktree, D: Stats>(
     alloc: Global,
@@ -120,21 +129,19 @@ fn list_by<W: Worktree, D: Stats>(
     compared: &Compared,
     prefix: &[u8],
     named: &[NamedSpec],
-    wants: &FilesAsked,
-    standings: Standings,
-    index_time: u32,
+    asked: &ChangedAsked<'_>,
 ) -> Result<Reply, HereRefusal>
     ensures finds { Beside W.Worktree D.Stats worktree.old worktree.new stats.old stats.new
-        (λ t told. words.listed_by t told wants.now standings compared.now prefix.now named.now
-        index_time) result }
+        (λ t told. words.listed_by t told asked.now.wants.now asked.now.standings compared.now
+        prefix.now named.now asked.now.index_time) result }
     ensures of { IfErr result IsOfFinding }
 {
-    let comparison = comparison_by(&compared.settings, index_time);
-    let listing = listing_by(wants, &compared.settings);
+    let comparison = comparison_by(&compared.settings, asked.index_time);
+    let listing = listing_by(asked.wants, &compared.settings);
     let query = ChangeQuery {
         root: compared.root.as_bytes(),
         comparison: &comparison,
-        standings,
+        standings: asked.standings,
         listing: &listing,
         named,
         specs: &compared.specs,
@@ -158,12 +165,11 @@ fn list_with<W: Worktree, D: Stats>(
     worktree: &mut W,
     stats: &mut D,
     compared: ComparedFrom,
-    wants: &FilesAsked,
-    standings: Standings,
-    index_time: u32,
+    asked: &ChangedAsked<'_>,
 ) -> Result<Reply, HereRefusal>
     ensures finds { Beside W.Worktree D.Stats worktree.old worktree.new stats.old stats.new
-        (λ t told. words.listed_from t told wants.now standings compared index_time) result }
+        (λ t told. words.listed_from t told asked.now.wants.now asked.now.standings compared
+        asked.now.index_time) result }
     ensures of { IfErr result IsOfFinding }
 {
     let ComparedFrom {
@@ -173,31 +179,25 @@ fn list_with<W: Worktree, D: Stats>(
     } = compared;
     let named = all_named(alloc, each)?;
     let prefix = prefix.as_bytes();
-    list_by(
-        alloc, worktree, stats, &compared, prefix, &named, wants, standings, index_time,
-    )
+    list_by(alloc, worktree, stats, &compared, prefix, &named, asked)
 }
 
-/// What is listed of the work tree at a place, where its index was last written at a time.
+/// What is listed of the work tree at a place, with what `by` asks of it besides.
 fn list_read<W: Worktree, D: Stats>(
     alloc: Global,
     worktree: &mut W,
     stats: &mut D,
     placed: &Placed,
-    asked: &Asked,
-    wants: &FilesAsked,
-    standings: Standings,
-    index_time: u32,
+    by: &Asked,
+    asked: &ChangedAsked<'_>,
 ) -> Result<Reply, HereRefusal>
     ensures finds { Beside W.Worktree D.Stats worktree.old worktree.new stats.old stats.new
-        (λ t told. words.listed_read t told placed.now asked.now wants.now standings index_time)
-        result }
+        (λ t told. words.listed_read t told placed.now by.now asked.now.wants.now
+        asked.now.standings asked.now.index_time) result }
     ensures of { IfErr result IsOfFinding }
 {
-    let compared = listable_here(alloc, worktree, placed, asked, wants)?;
-    list_with(
-        alloc, worktree, stats, compared, wants, standings, index_time,
-    )
+    let compared = listable_here(alloc, worktree, placed, by, asked.wants)?;
+    list_with(alloc, worktree, stats, compared, asked)
 }
 
 /// What is listed of the work tree at a place. When the index was written is asked for before it is
@@ -216,9 +216,12 @@ fn list_at<W: Worktree, D: Stats>(
     ensures of { IfErr result IsOfFinding }
 {
     let time = time_of_index(alloc, worktree, stats, &placed.places)?;
-    list_read(
-        alloc, worktree, stats, placed, asked, wants, standings, time,
-    )
+    let changed = ChangedAsked {
+        wants,
+        standings,
+        index_time: time,
+    };
+    list_read(alloc, worktree, stats, placed, asked, &changed)
 }
 
 /// What `ls-files -d` and `-m` say of the work tree around the directory that is asked for, or why

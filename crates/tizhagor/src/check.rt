@@ -9,7 +9,9 @@ use crate::compare::{Placed, placed_here};
 use crate::directory::Here;
 use crate::refusal::{HereRefusal, Unchecked};
 use crate::reply::Reply;
-use check_ignore::{Answered, Checking, NamedRules, OuterRules, Stop, check_asked, wrong_in};
+use check_ignore::{
+    Answered, CheckContext, Checking, NamedRules, OuterRules, Stop, check_asked, wrong_in,
+};
 use command_line::CheckAsked;
 use git_setup::{Asked, Checked, NamedFile, OuterFiles, checked_at};
 use gitbase_core::{Bytes, PathText};
@@ -104,9 +106,14 @@ fn check_with<W: Worktree>(
     let outer = outer_of(outer);
     let top = root.as_bytes();
     let place = prefix.as_bytes();
-    let answer = check_asked(
-        alloc, worktree, top, place, &index, &outer, &checking, paths, input,
-    );
+    let context = CheckContext {
+        root: top,
+        prefix: place,
+        index: &index,
+        outer: &outer,
+        checking: &checking,
+    };
+    let answer = check_asked(alloc, worktree, &context, paths, input);
     as_reply(alloc, root, answer)
 }
 

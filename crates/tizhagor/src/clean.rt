@@ -13,7 +13,7 @@ use crate::found::around_here;
 use crate::patterns::{is_any, rules_of};
 use crate::refusal::HereRefusal;
 use crate::reply::{Reply, of_text, replied};
-use crate::require_force::{WrongClean, is_lax, required_in, unforced_here};
+use crate::require_force::{WrongClean, is_require_force_false, required_in, unforced_here};
 use command_line::CleanAsked;
 use git_clean::{Cleaning, dry_clean, walk_options, wrong_in};
 use git_setup::{Asked, Found};
@@ -115,7 +115,9 @@ fn clean_in<W: CountsFaults, I: Interrupt>(
         quote_path,
         config,
     } = found;
-    let repositories = wants.force.is_twice(is_lax(required_in(&config)));
+    let repositories = wants
+        .force
+        .is_twice(is_require_force_false(required_in(&config)));
     let cleaning = cleaning_with(&cleaning_said(wants), repositories, quote_path);
     let named = all_named(alloc, each)?;
     let rules = rules_of(alloc, &wants.patterns)?;

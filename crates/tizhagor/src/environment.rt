@@ -88,7 +88,8 @@ fn add_variable(
     variables: &mut Vec<Variable>,
     entry: &[u8],
 ) -> Result<(), OutOfMemory>
-    ensures { OnOk result (variables.new.items ≡ variables.old.items ++ words.variable_of entry.now) }
+    ensures { OnOk result (variables.new.items ≡ variables.old.items ++ words.variable_of
+        entry.now) }
 {
     if let Some(place) = first_equals(entry) {
         let (name, _) = entry.split_at(place);

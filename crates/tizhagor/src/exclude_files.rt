@@ -7,7 +7,7 @@ ghost use Rattle.tizhagor.specs.Refusals.{IsOfFinding};
 
 use crate::refusal::HereRefusal;
 use command_line::FilesAsked;
-use git_setup::{Found, rules_below_top};
+use git_setup::{Found, exempt_top_from_star_rules};
 use gitbase_core::{Bytes, OutOfMemory, without_mark};
 use std::alloc::Global;
 use worktree_fs::{ReadAnswer, Worktree, from_directory};
@@ -81,8 +81,8 @@ fn rules_named<W: Worktree>(
 }
 
 /// A text with the rules of one more file, behind a line feed.
-fn with_rules(alloc: Global, text: Bytes, rules: &[u8]) -> Result<Bytes, OutOfMemory>
-    ensures { IfOk result (λ longer. longer ≡ words.with_rules text rules.now) }
+fn append_rules_text(alloc: Global, text: Bytes, rules: &[u8]) -> Result<Bytes, OutOfMemory>
+    ensures { IfOk result (λ longer. longer ≡ words.append_rules_text text rules.now) }
 {
     let mut text = text;
     text.extend(alloc, b"\n")?;
@@ -105,7 +105,7 @@ fn all_rules<W: Worktree>(
     let mut text = Bytes::new(alloc);
     for name in names {
         let rules = rules_named(alloc, worktree, root, name.as_bytes())?;
-        text = with_rules(alloc, text, rules.as_bytes())?;
+        text = append_rules_text(alloc, text, rules.as_bytes())?;
     }
     Ok(text)
 }
@@ -128,7 +128,7 @@ fn rules_joined(
     text.extend_from_slice(standard_rules(is_standard, standard))?;
     text.extend_from_slice(stronger)?;
     text.push(b'\n')?;
-    rules_below_top(alloc, &text)
+    exempt_top_from_star_rules(alloc, &text)
 }
 
 /// The standard rules, where they are asked for.

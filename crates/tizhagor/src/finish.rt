@@ -9,7 +9,7 @@ use crate::reply::{Reply, answer_status};
 use gitbase_core::OutOfMemory;
 use std::alloc::Global;
 use worktree_fs::{Fault, Sink};
-use worktree_report::{finish, say};
+use worktree_report::{say, write_answer};
 
 /// A sink that takes all and keeps nothing.
 #[derive(Drop)]
@@ -49,7 +49,7 @@ fn deliver<S: Sink, E: Sink>(alloc: Global, reply: Reply, out: &mut S, err: &mut
         err: lines,
         is_no,
     } = reply;
-    if finish(alloc, b"", Ok(text), out, &mut Unheard) == 0 {
+    if write_answer(alloc, b"", Ok(text), out, &mut Unheard) == 0 {
         say_any(err, lines.as_bytes());
         return answer_status(is_no);
     }

@@ -97,6 +97,18 @@ pub fn foreign_line(alloc: Global, path: &[u8]) -> Result<Bytes, OutOfMemory>
     )
 }
 
+/// A variable of the environment points git elsewhere.
+pub fn elsewhere_line(alloc: Global, name: &[u8]) -> Result<Bytes, OutOfMemory>
+    ensures { IfOk result (λ line. line ≡ words.elsewhere_line name.now) }
+{
+    with_path(
+        alloc,
+        b"fatal: ",
+        name,
+        b" is set, which is not heeded; unset it\n",
+    )
+}
+
 /// The line of a worktree, owners or stats that failed, with the path that the worktree names as
 /// that of its first fault.
 pub fn fault_line(alloc: Global, first: &[u8]) -> Result<Bytes, OutOfMemory>

@@ -57,13 +57,14 @@ fn line_of(refused: NotGiven) -> &'static [u8] {
 /// Answers the words over the real disk.
 fn answered(rt: &HostRuntime, alloc: Global, given: &Handed) -> Result<u8, NotGiven> {
     let input = input_for(rt, alloc, &given.words)?;
-    let mut worktree = DiskWorktree::beside(rt, false, given.beside.as_str());
+    let mut worktree = DiskWorktree::new_with_current_dir(rt, false, given.beside.as_str());
     let mut owners = DiskOwners::new(rt);
     let mut stats = DiskStats::new(rt);
     let mut progress = Progress::new(rt, alloc, &given.variables)?;
     let mut out = progress.out()?;
     let mut err = progress.err()?;
     let called = Called {
+        words: &given.words,
         current: given.current.as_bytes(),
         variables: &given.variables,
         takes_colors: rt.stdout().is_terminal(),
@@ -71,7 +72,6 @@ fn answered(rt: &HostRuntime, alloc: Global, given: &Handed) -> Result<u8, NotGi
     };
     let status = answer_here(
         alloc,
-        &given.words,
         &called,
         &mut worktree,
         &mut owners,

@@ -2,7 +2,7 @@
 ghost use Rattle.std.specs.Prelude.{◌≡◌, ◌++◌, IfOk, OnOk};
 ghost use Rattle.tizhagor.specs.Patterns as words;
 
-use git_setup::rules_below_top;
+use git_setup::exempt_top_from_star_rules;
 use gitbase_core::{Bytes, OutOfMemory};
 use std::alloc::Global;
 
@@ -36,5 +36,5 @@ pub fn rules_of(alloc: Global, patterns: &[Bytes]) -> Result<Bytes, OutOfMemory>
     for pattern in patterns {
         add_rule(&mut text, pattern.as_bytes())?;
     }
-    rules_below_top(alloc, &text)
+    exempt_top_from_star_rules(alloc, &text)
 }

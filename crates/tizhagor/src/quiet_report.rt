@@ -17,7 +17,7 @@ use worktree_fs::{Interrupt, Owners};
 use worktree_report::{CountsFaults, Refusal, has_failed_since, walked_text};
 
 /// The bytes of a text, unless the worktree failed since its count of faults was `before`.
-fn quietly<W: CountsFaults>(
+fn bytes_unless_new_fault<W: CountsFaults>(
     alloc: Global,
     worktree: &W,
     before: u64,
@@ -48,7 +48,7 @@ fn report_in<W: CountsFaults, I: Interrupt>(
     let before = worktree.fault_count();
     let Found { root, setup, .. } = found;
     let answer = walked_text(alloc, worktree, interrupt, root.as_bytes(), setup);
-    quietly(alloc, worktree, before, writing, answer)
+    bytes_unless_new_fault(alloc, worktree, before, writing, answer)
 }
 
 /// The report of the work tree around the directory that is asked for, or why there is none.

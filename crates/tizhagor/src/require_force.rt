@@ -66,8 +66,8 @@ pub fn required_in(config: &File) -> Required
 }
 
 /// Whether what it says counts for one `-f`.
-pub fn is_lax(required: Required) -> bool
-    ensures { result ≡ words.is_lax required }
+pub fn is_require_force_false(required: Required) -> bool
+    ensures { result ≡ words.is_require_force_false required }
 {
     matches!(required, Required::No)
 }

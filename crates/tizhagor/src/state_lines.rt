@@ -152,7 +152,7 @@ pub fn state_with<W: Worktree, D: Stats>(
     index_time: u32,
 ) -> Result<Reply, HereRefusal>
     ensures finds { Beside W.Worktree D.Stats worktree.old worktree.new stats.old stats.new
-        (λ t told. comparing.stated t told writing compared.now index_time) result }
+        (λ t told. comparing.state_reply t told writing compared.now index_time) result }
     ensures of { IfErr result IsOfFinding }
 {
     let comparison = comparison_of(&state_comparing(), &compared.settings, index_time);

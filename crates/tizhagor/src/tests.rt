@@ -219,6 +219,7 @@ fn answer_of(
     out.fail_from(nth);
     let mut err = MemorySink::new(alloc, ROOM).ok()?;
     let called = Called {
+        words,
         current,
         variables,
         takes_colors: false,
@@ -226,7 +227,6 @@ fn answer_of(
     };
     let status = answer_here(
         alloc,
-        words,
         &called,
         tree,
         owners,
@@ -345,7 +345,7 @@ fn refuses_with_the_output(rt: HostRuntime) {
 #[test]
 fn stops_with_the_interrupt(rt: HostRuntime) {
     let row = b"report^/w^^^130^^fatal: interrupted~";
-    let is = holds_for(rt.alloc(), row, PlannedInterrupt::at(1), u64::MAX);
+    let is = holds_for(rt.alloc(), row, PlannedInterrupt::raised_from(1), u64::MAX);
     assert!(rt; is == Some(true));
 }
 
@@ -398,7 +398,7 @@ const FAILING_EACH: u64 = 40;
 fn failing(alloc: Global, row: &[u8], call: CallKind, nth: u64) -> Option<(u8, u64, bool)> {
     let row = row_of(row)?;
     let mut tree = tree_of(alloc, row.steps)?;
-    tree.fail(alloc, call, nth).ok()?;
+    tree.plan_fault(alloc, call, nth).ok()?;
     let never = PlannedInterrupt::never();
     let answer = said_in(alloc, row, &mut tree, never, u64::MAX)?;
     let tells = !answer.out.written().is_empty();

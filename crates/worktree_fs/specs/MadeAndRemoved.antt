@@ -7,7 +7,7 @@ use Rattle.worktree_fs.specs.Composed.{as_kept}
 use Rattle.worktree_fs.specs.declared.answers.MakeAnswer.{MakeAnswer}
 use Rattle.worktree_fs.specs.declared.answers.MakeAnswer.TheVariants as makes
 use Rattle.worktree_fs.specs.ByNames.{node_at}
-use Rattle.worktree_fs.specs.Outlines.{LeadsAlike, Apart}
+use Rattle.worktree_fs.specs.Outlines.{LeadsAlike, AgreeExceptAt}
 
 -- A directory was made at a path. Its last name was missing in a directory that is there, and a directory without names
 -- is there now, a last link not followed. By its names, which lead from the root without links, nothing stood there, and
@@ -18,7 +18,7 @@ pub record Makes (path : List ℕ) (before now : Names) : Type 0 where
   pub is : spot now path false ≡ reached names (directory none)
   pub free : node_at (reverse names) (Some (directory before)) ≡ None
   pub there : node_at (reverse names) (Some (directory now)) ≡ Some (directory none)
-  pub apart : Apart names before now
+  pub apart : AgreeExceptAt names before now
   pub alike : (other : List ℕ) (follow : Bool) → LeadsAlike follow names (directory none) (spot before other follow) (spot now other follow)
 
 -- The node at a path was removed, which is no directory, a last link not followed: nothing is there now. By its names, which
@@ -32,7 +32,7 @@ pub record Removes (path : List ℕ) (before now : Names) : Type 0 where
   pub is : look now path false ≡ absent
   pub stood : node_at (reverse names) (Some (directory before)) ≡ Some node
   pub gone : node_at (reverse names) (Some (directory now)) ≡ None
-  pub apart : Apart names now before
+  pub apart : AgreeExceptAt names now before
   pub alike : (other : List ℕ) (follow : Bool) → LeadsAlike follow names node (spot now other follow) (spot before other follow)
 
 -- what is answered to the making of a directory under a name, by what has the name

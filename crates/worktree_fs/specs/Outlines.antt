@@ -30,7 +30,7 @@ abbrev pub LeadsAlike : Bool → List (List ℕ) → Node → Spot → Spot → 
 LeadsAlike follow names node without beside = ComesTo follow names node without beside ⊎ (outlined without ≡ outlined beside)
 
 -- at all names but these, the last one first, there stands in both trees the same node, by its outline, or none in both
-abbrev pub Apart : List (List ℕ) → Names → Names → Type 0
-Apart at without beside =
+abbrev pub AgreeExceptAt : List (List ℕ) → Names → Names → Type 0
+AgreeExceptAt at without beside =
     (names : List (List ℕ))
     → (names ≡ at) ⊎ (option_map outline (node_at (reverse names) (Some (directory without))) ≡ option_map outline (node_at (reverse names) (Some (directory beside))))

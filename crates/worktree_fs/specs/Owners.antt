@@ -3,8 +3,8 @@ use Rattle.std.specs.Prelude.{ℕ, Bool, true, false, List, Option, Some, None, 
 use Rattle.worktree_fs.specs.declared.owners.ownership.Ownership.{Ownership}
 
 -- what is told of the node at a path, by whether a last link is followed; none where nothing is there
-abbrev pub Owned : Type 0
-Owned = List ℕ → Bool → Option Ownership
+abbrev pub OwnershipByPath : Type 0
+OwnershipByPath = List ℕ → Bool → Option Ownership
 
 -- the count of one that asks the system
 pub record Asked : Type 0 where
@@ -25,6 +25,6 @@ told_of ownership (Some link) true = ownership
 told_of ownership (Some link) false = link
 
 -- what nodes tell: each of the path at which it is listed, and the first of those at one path
-abbrev pub owned_in : List OwnedNode → Owned
+abbrev pub owned_in : List OwnedNode → OwnershipByPath
 owned_in nodes path follow =
     option_map (λ (node : OwnedNode). told_of node.ownership node.link follow) (find (λ (node : OwnedNode). bytes_eq node.path path) nodes)

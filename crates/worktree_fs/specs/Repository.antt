@@ -96,14 +96,14 @@ abbrev pub common_of : Names → List ℕ → List ℕ
 common_of t git = common_by git (file_at (look t (from_directory (codes "commondir") git) true))
 
 -- whether the path that a file names is that of a git directory, by its own common directory
-abbrev pub is_git_below : Names → List ℕ → Bool
-is_git_below t git = is_git_directory t git (common_of t git)
+abbrev pub is_git_directory_by_commondir : Names → List ℕ → Bool
+is_git_directory_by_commondir t git = is_git_directory t git (common_of t git)
 
 -- whether a file leads to a repository, by the path that it names, which is taken from what stands before the last slash of its own
 -- path, as that is spelled
 abbrev pub is_git_file : Names → List ℕ → Option (List ℕ) → Bool
 is_git_file t q None = false
-is_git_file t q (Some path) = is_git_below t (from_directory path (unwrap_or (parent q) []))
+is_git_file t q (Some path) = is_git_directory_by_commondir t (from_directory path (unwrap_or (parent q) []))
 
 -- whether a path leads to a repository, by what it leads to: a directory that is a git directory by itself, or a file that names
 -- one

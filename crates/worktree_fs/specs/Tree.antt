@@ -113,12 +113,12 @@ walking go jump follow = record { go = go; jump = jump; follow = follow }
 
 -- from the node of a component on: into a directory, behind a link unless it is the last and not to be followed,
 -- and no further than a file or another node
-abbrev pub onward : Walking → Place → List (List ℕ) → List ℕ → Option Node → Spot
-onward on place rest name None = missing (name ∷ trail place) rest
-onward on place rest name (Some (directory names)) = on.go (enter place name names)
-onward on place rest name (Some (link target)) = if on.follow || not (is_nil rest) then on.jump place target rest else reached (name ∷ trail place) (link target)
-onward on place rest name (Some (file bytes)) = if is_nil rest then reached (name ∷ trail place) (file bytes) else nowhere
-onward on place rest name (Some other) = if is_nil rest then reached (name ∷ trail place) other else nowhere
+abbrev pub resolve_from_node : Walking → Place → List (List ℕ) → List ℕ → Option Node → Spot
+resolve_from_node on place rest name None = missing (name ∷ trail place) rest
+resolve_from_node on place rest name (Some (directory names)) = on.go (enter place name names)
+resolve_from_node on place rest name (Some (link target)) = if on.follow || not (is_nil rest) then on.jump place target rest else reached (name ∷ trail place) (link target)
+resolve_from_node on place rest name (Some (file bytes)) = if is_nil rest then reached (name ∷ trail place) (file bytes) else nowhere
+resolve_from_node on place rest name (Some other) = if is_nil rest then reached (name ∷ trail place) other else nowhere
 
 -- along the components from a place, by `jump` behind each link on the way
 abbrev pub along : Jump → Bool → Place → List (List ℕ) → Spot
@@ -126,7 +126,7 @@ along jump follow place [] = reached (trail place) (directory place.here)
 along jump follow place (component ∷ rest) =
     if is_dot component then along jump follow place rest
     else if is_dot_dot component then along jump follow (parent_place place) rest
-    else onward (walking (λ p. along jump follow p rest) jump follow) place rest component (child place.here component)
+    else resolve_from_node (walking (λ p. along jump follow p rest) jump follow) place rest component (child place.here component)
 
 -- behind a link, where so many links may still be followed; a target that is no text leads nowhere
 unfoldable pub behind : ℕ → Bool → Jump

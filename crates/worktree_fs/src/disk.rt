@@ -17,8 +17,8 @@ use crate::{
     ListError, MakeAnswer, NameList, NodeKind, ReadAnswer, ReadError, RemoveAnswer, Worktree,
 };
 use gitbase_core::{Bytes, OutOfMemory, PathText};
-use listed::listed;
-use node::{look, make_dir, read_into, real_path, remove_node};
+use listed::list_directory;
+use node::{kind_at_path, make_dir, read_into, real_path, remove_node};
 use std::alloc::Global;
 use std::marker::Model;
 use std::rt::HostRuntime;
@@ -77,7 +77,7 @@ impl<'a> DiskWorktree<'a> {
           first_fault = [];
         } }
     {
-        DiskWorktree::beside(rt, composes, "")
+        DiskWorktree::new_with_current_dir(rt, composes, "")
     }
 
     /// The same, which asks the system for a path beneath the current directory as it leads from there,
@@ -86,7 +86,11 @@ impl<'a> DiskWorktree<'a> {
     ///
     /// What is asked for is the same node as long as no directory on the way to the current one is renamed
     /// or removed meanwhile; then it is one in the directory that was the current one from the start.
-    pub fn beside(rt: &'a HostRuntime, composes: bool, current: &'a str) -> DiskWorktree<'a>
+    pub fn new_with_current_dir(
+        rt: &'a HostRuntime,
+        composes: bool,
+        current: &'a str,
+    ) -> DiskWorktree<'a>
         ensures { result ≡ record {
           composes = composes;
           faults = 0;
@@ -131,7 +135,7 @@ impl<'a> DiskWorktree<'a> {
     }
 
     /// Names the path of a call that failed, where it is the first.
-    fn name_first(&mut self, path: &[u8])
+    fn keep_first_fault_path(&mut self, path: &[u8])
         ensures state { self.new ≡ naming self.new.first_fault self.old }
         ensures named { NamesFirst true path.now self.old self.new.first_fault }
     {
@@ -156,7 +160,7 @@ impl<'a> DiskWorktree<'a> {
             → Increased self.old.list_faults self.new.list_faults }
     {
         if has_failed {
-            self.name_first(path);
+            self.keep_first_fault_path(path);
             self.faults = self.faults.saturating_add(1);
             if is_listing {
                 self.list_faults = self.list_faults.saturating_add(1);
@@ -197,7 +201,7 @@ impl<'a> Worktree for DiskWorktree<'a> {
         ensures unaskable { IsTrue (is_unaskable path.now) → IsErrOf result ReadError.Fault }
         ensures nowhere { IsTrue (has_nul path.now) → result ≡ Ok None }
     {
-        let found = look(self.rt, self.current, path, false);
+        let found = kind_at_path(self.rt, self.current, path, false);
         self.count(path, is_fault(&found), false);
         found
     }
@@ -215,7 +219,7 @@ impl<'a> Worktree for DiskWorktree<'a> {
         ensures unaskable { IsTrue (is_unaskable path.now) → IsErrOf result ReadError.Fault }
         ensures nowhere { IsTrue (has_nul path.now) → result ≡ Ok None }
     {
-        let found = look(self.rt, self.current, path, true);
+        let found = kind_at_path(self.rt, self.current, path, true);
         self.count(path, is_fault(&found), false);
         found
     }
@@ -245,7 +249,7 @@ impl<'a> Worktree for DiskWorktree<'a> {
         ensures nowhere { IsTrue (has_nul path.now) → IsErrOf result ListError.Absent }
     {
         self.lists = self.lists.saturating_add(1);
-        let names = listed(
+        let names = list_directory(
             self.rt,
             alloc,
             self.composes,
@@ -365,7 +369,7 @@ impl<'a> Worktree for DiskWorktree<'a> {
 
     fn absorb(&mut self, other: DiskWorktree<'a>) {
         if other.faults > 0 {
-            self.name_first(other.first_fault.as_bytes());
+            self.keep_first_fault_path(other.first_fault.as_bytes());
         }
         self.faults = self.faults.saturating_add(other.faults);
         self.list_faults = self.list_faults.saturating_add(other.list_faults);

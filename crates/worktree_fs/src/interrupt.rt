@@ -80,7 +80,7 @@ impl PlannedInterrupt {
     }
 
     /// One that is raised from the `nth` question on, counted from 1.
-    pub fn at(nth: u64) -> PlannedInterrupt
+    pub fn raised_from(nth: u64) -> PlannedInterrupt
         ensures { result ≡ record { first = Some nth; questions = 0; raised = 0 } }
     {
         PlannedInterrupt {

@@ -33,8 +33,8 @@ pub use path_stack::PathStack;
 pub use path_stack::delegate::{PathDelegate, PathStackError};
 pub use path_stack::steps::{NextComponent, is_normal, next_component};
 pub use repository::{
-    beside, common_of, is_git, is_git_below, is_git_directory, is_repository, read_file,
-    real_path_is,
+    common_of, is_git, is_git_directory, is_git_directory_by_commondir, is_repository, read_file,
+    real_path_is, resolve_from_file_parent,
 };
 pub use sink::{MemorySink, Sink};
 pub use streams::StdSink;

@@ -11,7 +11,7 @@ ghost use Rattle.worktree_fs.specs.Changes.{real_path, make_answer, after_make, 
 ghost use Rattle.worktree_fs.specs.MadeAndRemoved.{AnswersInside, Removes};
 ghost use Rattle.worktree_fs.specs.Composed.{as_kept, IsKept};
 ghost use Rattle.worktree_fs.specs.Grow.{grown, is_full_path, add_refusal, IsRefusedBy, node_of_new};
-ghost use Rattle.worktree_fs.specs.Memory.{no_calls, fails, with_call, listed, told_by, ListsInOrder, AreSortedBy};
+ghost use Rattle.worktree_fs.specs.Memory.{no_calls, count_call_and_check_fault, with_call, listed, told_by, ListsInOrder, AreSortedBy};
 
 mod found;
 mod grow;
@@ -34,7 +34,7 @@ use gitbase_core::{Bytes, OutOfMemory, PathText, is_absolute};
 use grow::stored_of;
 pub use grow::{AddError, NewNode};
 pub use plan::CallKind;
-use plan::{CallCounts, Plan, is_named};
+use plan::{CallCounts, Plan, is_call_planned};
 use root::Root;
 use std::alloc::Global;
 use std::marker::Model;
@@ -148,7 +148,7 @@ impl MemoryWorktree {
         };
         let node = stored_of(alloc, node)?;
         self.root.add(alloc, below, node)?;
-        self.is_told();
+        self.assert_tree_told();
         Ok(())
     }
 
@@ -157,7 +157,12 @@ impl MemoryWorktree {
     /// # Errors
     ///
     /// - `OutOfMemory` for want of memory; what was planned stays.
-    pub fn fail(&mut self, _alloc: Global, call: CallKind, nth: u64) -> Result<(), OutOfMemory>
+    pub fn plan_fault(
+        &mut self,
+        _alloc: Global,
+        call: CallKind,
+        nth: u64,
+    ) -> Result<(), OutOfMemory>
         ensures planned { OnOk result (self.new
             ≡ record self.old {
               plans = self.old.plans ++
@@ -181,12 +186,12 @@ impl MemoryWorktree {
         ensures count { result ≡ self.now.faults }
         ensures told { told_by self.now.tree ≡ Some self.now.tree }
     {
-        self.is_told();
+        self.assert_tree_told();
         self.faults
     }
 
     /// That the tree is told, whatever was done to it.
-    fn is_told(&self)
+    fn assert_tree_told(&self)
         ensures { told_by self.now.tree ≡ Some self.now.tree }
     {
         let _entries = self.root.entries();
@@ -200,8 +205,12 @@ impl MemoryWorktree {
     }
 
     /// Makes a directory, unless that is planned to fail.
-    fn made(&mut self, alloc: Global, path: &[u8]) -> Result<MakeAnswer, ReadError>
-        ensures fault { IsErrOf result ReadError.Fault ↔ IsTrue (fails self.old CallKind.MakeDir) }
+    fn make_dir_unless_planned_fault(
+        &mut self,
+        alloc: Global,
+        path: &[u8],
+    ) -> Result<MakeAnswer, ReadError>
+        ensures fault { IsErrOf result ReadError.Fault ↔ IsTrue (count_call_and_check_fault self.old CallKind.MakeDir) }
         ensures answer { IfOk result (λ answer. answer
             ≡ make_answer self.old.composes self.old.tree (spot self.old.tree path.now false)) }
         ensures made { OnOk result (self.new.tree
@@ -211,39 +220,39 @@ impl MemoryWorktree {
             ≡ record (with_call self.old CallKind.MakeDir) { tree = self.new.tree } }
         ensures later { self.old.faults ≤ self.new.faults }
     {
-        if self.fails(CallKind::MakeDir) {
+        if self.count_call_and_check_fault(CallKind::MakeDir) {
             return Err(ReadError::Fault);
         }
-        self.is_told();
+        self.assert_tree_told();
         Ok(self.root.make_dir(alloc, self.composes, path)?)
     }
 
     /// Removes a node, unless that is planned to fail.
-    fn removed(&mut self, path: &[u8]) -> Result<RemoveAnswer, ReadError>
+    fn remove_unless_planned_fault(&mut self, path: &[u8]) -> Result<RemoveAnswer, ReadError>
         ensures answer { result
-            ≡ (if fails self.old CallKind.RemoveNode then Err ReadError.Fault else Ok
+            ≡ (if count_call_and_check_fault self.old CallKind.RemoveNode then Err ReadError.Fault else Ok
             (remove_answer (spot self.old.tree path.now false))) }
         ensures tree { self.new.tree
-            ≡ (if fails self.old CallKind.RemoveNode then self.old.tree
+            ≡ (if count_call_and_check_fault self.old CallKind.RemoveNode then self.old.tree
             else after_remove self.old.tree (spot self.old.tree path.now false)) }
         ensures rest { self.new
             ≡ record (with_call self.old CallKind.RemoveNode) { tree = self.new.tree } }
         ensures later { self.old.faults ≤ self.new.faults }
     {
-        if self.fails(CallKind::RemoveNode) {
+        if self.count_call_and_check_fault(CallKind::RemoveNode) {
             return Err(ReadError::Fault);
         }
         Ok(self.root.remove(path))
     }
 
     /// Counts a call, and whether it is planned to fail, which is counted too.
-    fn fails(&mut self, call: CallKind) -> bool
-        ensures planned { result ≡ fails self.old call }
+    fn count_call_and_check_fault(&mut self, call: CallKind) -> bool
+        ensures planned { result ≡ count_call_and_check_fault self.old call }
         ensures state { self.new ≡ with_call self.old call }
         ensures later { self.old.faults ≤ self.new.faults }
     {
         let nth = self.calls.count(call);
-        let fails = is_named(&self.plans, call, nth);
+        let fails = is_call_planned(&self.plans, call, nth);
         if fails {
             self.faults = self.faults.saturating_add(1);
         }
@@ -275,12 +284,12 @@ impl Worktree for MemoryWorktree {
     /// Never answers `OutOfMemory`.
     fn kind(&mut self, _alloc: Global, path: &[u8]) -> Result<Option<NodeKind>, ReadError>
         ensures answer { result
-            ≡ (if fails self.old CallKind.Kind then Err ReadError.Fault else Ok (kind_of
+            ≡ (if count_call_and_check_fault self.old CallKind.Kind then Err ReadError.Fault else Ok (kind_of
             (look self.old.tree path.now false))) }
         ensures state { self.new ≡ with_call self.old CallKind.Kind }
         ensures later { self.old.faults ≤ self.new.faults }
     {
-        if self.fails(CallKind::Kind) {
+        if self.count_call_and_check_fault(CallKind::Kind) {
             return Err(ReadError::Fault);
         }
         Ok(self.root.kind(path, false))
@@ -289,12 +298,12 @@ impl Worktree for MemoryWorktree {
     /// Never answers `OutOfMemory`.
     fn kind_following(&mut self, _alloc: Global, path: &[u8]) -> Result<Option<NodeKind>, ReadError>
         ensures answer { result
-            ≡ (if fails self.old CallKind.KindFollowing then Err ReadError.Fault else Ok (kind_of
+            ≡ (if count_call_and_check_fault self.old CallKind.KindFollowing then Err ReadError.Fault else Ok (kind_of
             (look self.old.tree path.now true))) }
         ensures state { self.new ≡ with_call self.old CallKind.KindFollowing }
         ensures later { self.old.faults ≤ self.new.faults }
     {
-        if self.fails(CallKind::KindFollowing) {
+        if self.count_call_and_check_fault(CallKind::KindFollowing) {
             return Err(ReadError::Fault);
         }
         Ok(self.root.kind(path, true))
@@ -304,9 +313,9 @@ impl Worktree for MemoryWorktree {
     /// `make_dir` put each name before the first greater one.
     fn list(&mut self, alloc: Global, path: &[u8], follow: bool) -> Result<NameList, ListError>
         ensures opened { IsErrOf result ListError.OpenFault ↔ IsTrue
-            (fails self.old CallKind.ListOpen) }
+            (count_call_and_check_fault self.old CallKind.ListOpen) }
         ensures read { IsErrOf result ListError.EntryFault ↔ IsTrue (not
-            (fails self.old CallKind.ListOpen) && fails self.old CallKind.ListEntry) }
+            (count_call_and_check_fault self.old CallKind.ListOpen) && count_call_and_check_fault self.old CallKind.ListEntry) }
         ensures answer { MatchResult result (ListsInOrder self.old.is_reversed
             (look self.old.tree path.now follow)) (ListRefuses
             (look self.old.tree path.now follow)) }
@@ -325,11 +334,11 @@ impl Worktree for MemoryWorktree {
         ensures lists_later { self.old.lists ≤ self.new.lists }
     {
         self.lists = self.lists.saturating_add(1);
-        if self.fails(CallKind::ListOpen) {
+        if self.count_call_and_check_fault(CallKind::ListOpen) {
             self.list_faults = self.list_faults.saturating_add(1);
             return Err(ListError::OpenFault);
         }
-        if self.fails(CallKind::ListEntry) {
+        if self.count_call_and_check_fault(CallKind::ListEntry) {
             self.list_faults = self.list_faults.saturating_add(1);
             return Err(ListError::EntryFault);
         }
@@ -343,7 +352,7 @@ impl Worktree for MemoryWorktree {
         follow: bool,
         into: &mut Bytes,
     ) -> Result<ReadAnswer, ReadError>
-        ensures fault { IsErrOf result ReadError.Fault ↔ IsTrue (fails self.old CallKind.Read) }
+        ensures fault { IsErrOf result ReadError.Fault ↔ IsTrue (count_call_and_check_fault self.old CallKind.Read) }
         ensures answer { IfOk result (λ answer. answer
             ≡ read_of (look self.old.tree path.now follow)) }
         ensures bytes { result ≡ Ok ReadAnswer.Read → look self.old.tree path.now follow
@@ -356,7 +365,7 @@ impl Worktree for MemoryWorktree {
         ensures reads_later { self.old.reads ≤ self.new.reads }
     {
         self.reads = self.reads.saturating_add(1);
-        if self.fails(CallKind::Read) {
+        if self.count_call_and_check_fault(CallKind::Read) {
             return Err(ReadError::Fault);
         }
         self.root.read(alloc, path, follow, into)
@@ -368,12 +377,12 @@ impl Worktree for MemoryWorktree {
         path: &[u8],
         cwd: &[u8],
     ) -> Result<Option<PathText>, ReadError>
-        ensures fault { IsErrOf result ReadError.Fault ↔ IsTrue (fails self.old CallKind.RealPath) }
+        ensures fault { IsErrOf result ReadError.Fault ↔ IsTrue (count_call_and_check_fault self.old CallKind.RealPath) }
         ensures answer { IfOk result (λ real. real ≡ real_path self.old.tree path.now cwd.now) }
         ensures state { self.new ≡ with_call self.old CallKind.RealPath }
         ensures later { self.old.faults ≤ self.new.faults }
     {
-        if self.fails(CallKind::RealPath) {
+        if self.count_call_and_check_fault(CallKind::RealPath) {
             return Err(ReadError::Fault);
         }
         let full = from_directory(alloc, path, cwd)?;
@@ -381,7 +390,7 @@ impl Worktree for MemoryWorktree {
     }
 
     fn make_dir(&mut self, alloc: Global, path: &[u8]) -> Result<MakeAnswer, ReadError>
-        ensures fault { IsErrOf result ReadError.Fault ↔ IsTrue (fails self.old CallKind.MakeDir) }
+        ensures fault { IsErrOf result ReadError.Fault ↔ IsTrue (count_call_and_check_fault self.old CallKind.MakeDir) }
         ensures answer { IfOk result (λ answer. answer
             ≡ make_answer self.old.composes self.old.tree (spot self.old.tree path.now false)) }
         ensures inside { IfOk result (AnswersInside self.old.composes self.old.tree path.now) }
@@ -394,19 +403,19 @@ impl Worktree for MemoryWorktree {
         ensures told { told_by self.new.tree ≡ Some self.new.tree }
         ensures later { self.old.faults ≤ self.new.faults }
     {
-        self.is_told();
-        let answer = self.made(alloc, path);
-        self.is_told();
+        self.assert_tree_told();
+        let answer = self.make_dir_unless_planned_fault(alloc, path);
+        self.assert_tree_told();
         answer
     }
 
     /// Never answers `OutOfMemory`.
     fn remove_node(&mut self, _alloc: Global, path: &[u8]) -> Result<RemoveAnswer, ReadError>
         ensures answer { result
-            ≡ (if fails self.old CallKind.RemoveNode then Err ReadError.Fault else Ok
+            ≡ (if count_call_and_check_fault self.old CallKind.RemoveNode then Err ReadError.Fault else Ok
             (remove_answer (spot self.old.tree path.now false))) }
         ensures tree { self.new.tree
-            ≡ (if fails self.old CallKind.RemoveNode then self.old.tree
+            ≡ (if count_call_and_check_fault self.old CallKind.RemoveNode then self.old.tree
             else after_remove self.old.tree (spot self.old.tree path.now false)) }
         ensures gone { result ≡ Ok RemoveAnswer.Removed
             → Removes path.now self.old.tree self.new.tree }
@@ -416,9 +425,9 @@ impl Worktree for MemoryWorktree {
         ensures told { told_by self.new.tree ≡ Some self.new.tree }
         ensures later { self.old.faults ≤ self.new.faults }
     {
-        self.is_told();
-        let answer = self.removed(path);
-        self.is_told();
+        self.assert_tree_told();
+        let answer = self.remove_unless_planned_fault(path);
+        self.assert_tree_told();
         answer
     }
 

@@ -2,7 +2,7 @@
 ghost use Rattle.std.specs.Prelude.{◌≡◌, ◌≤◌, ℕ, Option, Some, IfOk, IsErrOf};
 ghost use Rattle.worktree_fs.specs.Answers.{UnlessFault};
 ghost use Rattle.worktree_fs.specs.Causes.{Increased};
-ghost use Rattle.worktree_fs.specs.Owners.{Owned};
+ghost use Rattle.worktree_fs.specs.Owners.{OwnershipByPath};
 
 pub mod disk;
 pub mod memory;
@@ -16,7 +16,7 @@ use ownership::Ownership;
 /// Contracts speak of what is told, where it is, and of the count of faults always.
 pub trait Owners {
     /// What is told of each path, where the owners tell it.
-    ghost told: { Self → Option Owned };
+    ghost told: { Self → Option OwnershipByPath };
 
     /// At most so many calls failed, since one that fails raises it by one or more, and it stands at its type's end; it never falls.
     ghost faults: { Self → ℕ };
@@ -28,7 +28,7 @@ pub trait Owners {
     /// - `Fault` only where it was counted.
     /// - `OutOfMemory` for want of memory.
     fn ownership(&mut self, path: &[u8], follow: bool) -> Result<Option<Ownership>, ReadError>
-        ensures answer { (owned : Owned) → told self.old ≡ Some owned
+        ensures answer { (owned : OwnershipByPath) → told self.old ≡ Some owned
             → IfOk result (λ found. found ≡ owned path.now follow) }
         ensures kept { told self.new ≡ told self.old }
         ensures cause { IsErrOf result ReadError.Fault

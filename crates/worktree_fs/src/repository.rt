@@ -6,7 +6,7 @@ ghost use Rattle.worktree_fs.specs.Answers.{kind_of, UnlessFault};
 ghost use Rattle.worktree_fs.specs.Causes.{NotIncreased, Increased};
 ghost use Rattle.worktree_fs.specs.Kept.{Asks};
 ghost use Rattle.worktree_fs.specs.Changes.{real_path, from_directory};
-ghost use Rattle.worktree_fs.specs.Repository.{is_path, is_git, is_git_directory, is_git_file, is_git_below, gitdir_path, is_directory_at, file_at, is_head_at, common_of};
+ghost use Rattle.worktree_fs.specs.Repository.{is_path, is_git, is_git_directory, is_git_file, is_git_directory_by_commondir, gitdir_path, is_directory_at, file_at, is_head_at, common_of};
 
 use crate::git_texts::{gitdir_path, is_head, trimmed};
 use crate::names::from_directory;
@@ -126,8 +126,8 @@ fn is_git_file<W: Worktree>(alloc: Global, worktree: &mut W, path: &[u8]) -> Res
     }
     match gitdir_path(bytes.as_bytes()) {
         Some(git) => {
-            let git = beside(alloc, git, path)?;
-            is_git_below(alloc, worktree, git.as_bytes())
+            let git = resolve_from_file_parent(alloc, git, path)?;
+            is_git_directory_by_commondir(alloc, worktree, git.as_bytes())
         }
         None => Ok(false),
     }
@@ -139,13 +139,13 @@ fn is_git_file<W: Worktree>(alloc: Global, worktree: &mut W, path: &[u8]) -> Res
 ///
 /// - `Fault`: the worktree failed, which it counted.
 /// - `OutOfMemory` for want of memory.
-pub fn is_git_below<W: Worktree>(
+pub fn is_git_directory_by_commondir<W: Worktree>(
     alloc: Global,
     worktree: &mut W,
     git: &[u8],
 ) -> Result<bool, ReadError>
     ensures answer { (t : Names) → W.told worktree.old ≡ Some t
-        → IfOk result (λ is. is ≡ is_git_below t git.now) }
+        → IfOk result (λ is. is ≡ is_git_directory_by_commondir t git.now) }
     ensures kept { Asks W.Worktree worktree.old worktree.new }
     ensures cause { IsErrOf result ReadError.Fault
         → Increased (W.faults worktree.old) (W.faults worktree.new) }
@@ -286,7 +286,11 @@ pub fn read_file<W: Worktree>(
 /// # Errors
 ///
 /// - `OutOfMemory` for want of memory.
-pub fn beside(alloc: Global, path: &[u8], file: &[u8]) -> Result<Bytes, OutOfMemory>
+pub fn resolve_from_file_parent(
+    alloc: Global,
+    path: &[u8],
+    file: &[u8],
+) -> Result<Bytes, OutOfMemory>
     ensures { IfOk result (λ full. full
         ≡ from_directory path.now (unwrap_or (parent file.now) [])) }
 {

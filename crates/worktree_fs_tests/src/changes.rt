@@ -1,6 +1,7 @@
 //! What changes a tree in memory.
-use crate::rows::{add, kind_word, parted, sample};
+use crate::rows::{add, kind_word, sample};
 use std::alloc::Global;
+use test_cases::split_at_byte;
 use worktree_fs::{
     AddError, CallKind, MakeAnswer, MemoryWorktree, NewNode, ReadError, RemoveAnswer, Worktree,
 };
@@ -63,8 +64,8 @@ fn holds(alloc: Global, script: &[u8]) -> bool {
     let mut tree = sample(alloc, script.starts_with(b"composed"));
     let mut all = true;
     for row in script.split(|byte| *byte == b';') {
-        let (call, rest) = parted(row);
-        let (path, want) = parted(rest);
+        let (call, rest) = split_at_byte(row, b'`');
+        let (path, want) = split_at_byte(rest, b'`');
         all &= step(alloc, &mut tree, call, path, want);
     }
     all
@@ -80,9 +81,9 @@ fn trees_change(rt: HostRuntime) {
 /// The calls that change a tree fail as planned, and leave it.
 fn fails_as_planned(alloc: Global) -> bool {
     let mut tree = sample(alloc, false);
-    let is_planned = tree.fail(alloc, CallKind::MakeDir, 1).is_ok()
-        && tree.fail(alloc, CallKind::RemoveNode, 1).is_ok()
-        && tree.fail(alloc, CallKind::RealPath, 1).is_ok();
+    let is_planned = tree.plan_fault(alloc, CallKind::MakeDir, 1).is_ok()
+        && tree.plan_fault(alloc, CallKind::RemoveNode, 1).is_ok()
+        && tree.plan_fault(alloc, CallKind::RealPath, 1).is_ok();
     let is_refused = tree.make_dir(alloc, b"/w/m") == Err(ReadError::Fault)
         && tree.remove_node(alloc, b"/w/f") == Err(ReadError::Fault)
         && tree.real_path(alloc, b"/w/f", b"/").is_err();

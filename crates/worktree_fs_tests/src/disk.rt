@@ -1,12 +1,13 @@
 //! The files of the system. Root may open every directory, so none that may not be opened is among
 //! them, and no name that is not UTF-8 can be made through the paths of the standard library: such
 //! a path is asked for, and refused.
-use crate::rows::{kind_word, parted};
+use crate::rows::kind_word;
 use gitbase_core::Bytes;
 use std::alloc::Global;
 use std::rt::Files;
 use std::test::Fail;
 use std::{env, fs, io, process};
+use test_cases::split_at_byte;
 use worktree_fs::{
     DiskWorktree, ListError, MakeAnswer, NameList, ReadAnswer, ReadError, RemoveAnswer, Worktree,
 };
@@ -169,11 +170,11 @@ fn names_first(disk: &DiskWorktree<'_>, path: &[u8]) -> bool {
 }
 
 fn holds(rt: &HostRuntime, current: &str, folder: &[u8], row: &[u8]) -> bool {
-    let (question, rest) = parted(row);
-    let (name, rest) = parted(rest);
-    let (want, faults) = parted(rest);
+    let (question, rest) = split_at_byte(row, b'`');
+    let (name, rest) = split_at_byte(rest, b'`');
+    let (want, faults) = split_at_byte(rest, b'`');
     let composes = matches!(question, b"composed" | b"make composed");
-    let mut disk = DiskWorktree::beside(rt, composes, current);
+    let mut disk = DiskWorktree::new_with_current_dir(rt, composes, current);
     match inside(rt.alloc(), folder, name) {
         Some(path) => {
             answers(rt.alloc(), &mut disk, question, &path, want)

@@ -26,7 +26,7 @@ fn fork_says<I: Interrupt>(alloc: Global, interrupt: &mut I, wants: &[bool]) -> 
 
 fn plans(alloc: Global) -> bool {
     let mut never = PlannedInterrupt::never();
-    let mut third = PlannedInterrupt::at(3);
+    let mut third = PlannedInterrupt::raised_from(3);
     says(&mut never, &[false, false, false])
         && says(&mut third, &[false, false, true, true])
         && fork_says(alloc, &mut third, &[false, false, true])

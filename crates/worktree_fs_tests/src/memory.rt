@@ -1,7 +1,8 @@
 //! What a tree in memory answers.
-use crate::rows::{kind_word, parted, sample};
+use crate::rows::{kind_word, sample};
 use gitbase_core::Bytes;
 use std::alloc::Global;
+use test_cases::split_at_byte;
 use worktree_fs::{
     CallKind, ListError, MemoryWorktree, NameList, NewNode, ReadAnswer, ReadError, Worktree,
     is_git, real_path_is,
@@ -116,8 +117,8 @@ fn answers(alloc: Global, question: &[u8], path: &[u8], want: &[u8]) -> bool {
 }
 
 fn holds(alloc: Global, row: &[u8]) -> bool {
-    let (question, rest) = parted(row);
-    let (path, want) = parted(rest);
+    let (question, rest) = split_at_byte(row, b'`');
+    let (path, want) = split_at_byte(rest, b'`');
     answers(alloc, question, path, want)
 }
 
@@ -152,7 +153,7 @@ fn a_resolution_follows_32_links(rt: HostRuntime) {
 /// itself.
 fn counts_faults(alloc: Global) -> bool {
     let mut tree = sample(alloc, false);
-    let is_planned = tree.fail(alloc, CallKind::Kind, 2).is_ok();
+    let is_planned = tree.plan_fault(alloc, CallKind::Kind, 2).is_ok();
     match tree.fork(alloc) {
         Ok(other) => {
             let mut fork = other;
@@ -211,9 +212,9 @@ fn fails_to_list(alloc: Global, tree: &mut MemoryWorktree) -> bool {
 /// The calls that ask fail where that is planned of their own kind, the first time alone.
 fn asks_fail_as_planned(alloc: Global) -> bool {
     let mut tree = sample(alloc, false);
-    let is_planned = tree.fail(alloc, CallKind::KindFollowing, 1).is_ok()
-        && tree.fail(alloc, CallKind::ListEntry, 1).is_ok()
-        && tree.fail(alloc, CallKind::Read, 1).is_ok();
+    let is_planned = tree.plan_fault(alloc, CallKind::KindFollowing, 1).is_ok()
+        && tree.plan_fault(alloc, CallKind::ListEntry, 1).is_ok()
+        && tree.plan_fault(alloc, CallKind::Read, 1).is_ok();
     is_planned
         && has_kind(alloc, &mut tree, b"/w/f", false, b"file")
         && tree.kind_following(alloc, b"/w/f") == Err(ReadError::Fault)

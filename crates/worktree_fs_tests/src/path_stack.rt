@@ -2,10 +2,10 @@
 ghost use Rattle.std.specs.Prelude.{◌≡◌, ◌+◌, ◌-◌, ◌^◌, ◌<◌, ◌≤◌, ◌++◌, ◌∷◌, [], min, if◌then◌else◌, length, map, take};
 ghost use Rattle.worktree_fs.specs.PathStack.{push_directory, push, pop_directory, called};
 
-use crate::rows::parted;
 use gitbase_core::{OutOfMemory, PathText};
 use std::alloc::Global;
 use std::process::Abort;
+use test_cases::split_at_byte;
 use worktree_fs::{PathDelegate, PathStack, PathStackError, next_component};
 
 /// A call that a recorder was given.
@@ -192,11 +192,11 @@ fn looks_up<A: Abort>(
 }
 
 fn holds<A: Abort>(rt: &A, alloc: Global, stack: &mut PathStack, row: &[u8]) -> bool {
-    let (path, rest) = parted(row);
-    let (refused, rest) = parted(rest);
-    let (want, rest) = parted(rest);
-    let (calls, rest) = parted(rest);
-    let (pushed, current) = parted(rest);
+    let (path, rest) = split_at_byte(row, b'`');
+    let (refused, rest) = split_at_byte(rest, b'`');
+    let (want, rest) = split_at_byte(rest, b'`');
+    let (calls, rest) = split_at_byte(rest, b'`');
+    let (pushed, current) = split_at_byte(rest, b'`');
     looks_up(rt, alloc, stack, path, refused.len(), want, calls)
         && stack.pushed() == pushed.len()
         && stack.current() == current
@@ -248,13 +248,13 @@ fn stands(stack: &PathStack) -> bool {
         && stack.current() == b"/a/b/c".as_slice()
         && stack.current_relative() == b"a/b/c".as_slice()
         && stack.deepest() == b"a/b".as_slice()
-        && stack.surplus(b"a/c") == 1
+        && stack.count_directories_to_pop(b"a/c") == 1
 }
 
 fn goes_up(stack: &mut PathStack) -> bool {
-    stack.leave();
+    stack.make_deepest_current();
     let is_left = stack.current() == b"/a/b".as_slice();
-    let is_popped = stack.pop() && stack.rest(b"a/b/c") == b"/b/c".as_slice();
+    let is_popped = stack.pop() && stack.components_to_push(b"a/b/c") == b"/b/c".as_slice();
     let is_root = stack.pop() && stack.pop() && !stack.pop();
     is_left && is_popped && is_root && stack.pushed() == 0 && stack.current() == b"/".as_slice()
 }

@@ -1,6 +1,7 @@
 //! Rows of tests, and the tree that they speak of.
 use bstr::ByteSlice;
 use std::alloc::Global;
+use test_cases::split_at_byte;
 use worktree_fs::{MemoryWorktree, NewNode, NodeKind};
 
 /// The nodes of the sample, parted by bars: what each is, its path, and its bytes or its target,
@@ -12,11 +13,6 @@ file`/r/.git/HEAD`ref: refs/heads/main\n|directory`/r/.git/objects`|directory`/r
 file`/h/.git`gitdir: ../r/.git\n|link`/y`h/.git|link`/deep/er/y`/h/.git|file`/no/.git`gitdir: ../w/d\n|\
 file`/v/.git`gitdir: /v/git\r\n|file`/v/git/HEAD`0123456789abcdef0123456789ABCDEF01234567|\
 file`/v/git/commondir`../../r/.git\n|directory`/b/objects`|directory`/b/refs`|file`/b/HEAD`ref: \n";
-
-/// What stands before the first backquote, and behind it.
-pub fn parted(row: &[u8]) -> (&[u8], &[u8]) {
-    row.split_once_str(b"`").unwrap_or((row, b""))
-}
 
 fn node<'a>(what: &[u8], bytes: &'a [u8]) -> NewNode<'a> {
     match what {
@@ -39,8 +35,8 @@ pub fn add(
 }
 
 fn add_row(alloc: Global, tree: &mut MemoryWorktree, row: &[u8]) -> bool {
-    let (what, rest) = parted(row);
-    let (path, bytes) = parted(rest);
+    let (what, rest) = split_at_byte(row, b'`');
+    let (path, bytes) = split_at_byte(rest, b'`');
     add(alloc, tree, what, path, bytes)
 }
 

@@ -17,7 +17,7 @@ fn shows_reads(alloc: Global) -> bool {
         && shows(alloc, &ReadError::OutOfMemory, "OutOfMemory")
 }
 
-fn shows_lists(alloc: Global) -> bool {
+fn shows_list_errors(alloc: Global) -> bool {
     shows(alloc, &ListError::Absent, "Absent")
         && shows(alloc, &ListError::NotADirectory, "NotADirectory")
         && shows(alloc, &ListError::OpenFault, "OpenFault")
@@ -41,6 +41,6 @@ fn shows_lookups(alloc: Global) -> bool {
 #[test]
 fn errors_are_shown_by_their_names(rt: HostRuntime) {
     let alloc = rt.alloc();
-    assert!(rt; shows_reads(alloc) && shows_lists(alloc));
+    assert!(rt; shows_reads(alloc) && shows_list_errors(alloc));
     assert!(rt; shows_adds(alloc) && shows_lookups(alloc));
 }

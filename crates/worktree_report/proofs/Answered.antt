@@ -12,7 +12,7 @@ use Rattle.worktree_stack.specs.declared.error.AtPathError.TheVariants as inner
 use Rattle.worktree_stack.specs.declared.error.BlobWhy.TheVariants as blobs
 use Rattle.worktree_stack.specs.declared.error.RulesWhy.TheVariants as rules
 use Rattle.worktree_stack.specs.Refused as lookups
-use Rattle.worktree_stack.specs.Setup.{Made}
+use Rattle.worktree_stack.specs.Setup.{StackSetup}
 use Rattle.dir_classify.specs.declared.error.Error.{Error}
 use Rattle.dir_classify.specs.declared.error.Error.TheVariants as walk
 use Rattle.dir_classify.specs.declared.error.MetadataWhy.TheVariants as metadata
@@ -34,9 +34,9 @@ use Rattle.worktree_report.specs.declared.report.Report.{Report}
 use Rattle.worktree_report.specs.declared.setup.Setup.{Setup}
 use Rattle.worktree_report.specs.declared.refusal.Refusal.{Refusal}
 use Rattle.worktree_report.specs.declared.refusal.Refusal.TheVariants as refusals
-use Rattle.worktree_report.specs.Asked.{asked_of, read_in, report_of, About, Found, IsAboutWalkAt, ListsAt, ReadsWithin, Refuses, RefusesWalkAt}
+use Rattle.worktree_report.specs.Asked.{asked_of, read_in, report_of, ErrorAgreesWithInput, ErrorAgreesWithTree, IsAboutWalkAt, ListsAt, ReadsWithin, Refuses, RefusesWalkAt}
 use Rattle.worktree_report.specs.Excluding.{excludes_of}
-use Rattle.worktree_report.specs.Converted.{of_lookup, of_report, of_walk, IsOfWalking}
+use Rattle.worktree_report.specs.Converted.{of_lookup, refusal_of_report_error, refusal_of_walk_error, IsOfWalking}
 use Rattle.worktree_report.specs.Loading.{files_if, known_in, IsKnown}
 use Rattle.worktree_report.specs.Outside.{files_to, FailsLoading, IsOutside, LoadsAlone, MisreadsAt, OnMisread, OnReading, Stops}
 use Rattle.worktree_report.specs.Lines.{text_with}
@@ -60,7 +60,7 @@ fault-of_lookup Failed Stored never (inner.Blob id blobs.Fault) h is = absurd (n
 fault-of_lookup Failed Stored never inner.OutOfMemory h is = absurd cc
 
 -- a fault is told where the worktree failed, as the store never does
-fault-of_walk : (Failed Stored : Type 0) → (Stored → ⊥) → (e : Error) → OnFault Failed Stored e → of_walk e ≡ refusals.Fault → Failed
+fault-of_walk : (Failed Stored : Type 0) → (Stored → ⊥) → (e : Error) → OnFault Failed Stored e → refusal_of_walk_error e ≡ refusals.Fault → Failed
 fault-of_walk Failed Stored never walk.Interrupted h is = absurd cc
 fault-of_walk Failed Stored never (walk.NormalizeRoot root) h is = absurd cc
 fault-of_walk Failed Stored never (walk.SymlinkInRoot root worktree_root index) h is = absurd cc
@@ -90,7 +90,7 @@ is_no_interrupt (inner.Blob id blobs.Fault) is = absurd cc
 is_no_interrupt inner.OutOfMemory is = absurd cc
 
 -- and an interrupt where that was raised
-interrupt-of_walk : (Raised : Type 0) (e : Error) → OnInterrupt Raised e → of_walk e ≡ refusals.Interrupted → Raised
+interrupt-of_walk : (Raised : Type 0) (e : Error) → OnInterrupt Raised e → refusal_of_walk_error e ≡ refusals.Interrupted → Raised
 interrupt-of_walk Raised walk.Interrupted h is = h
 interrupt-of_walk Raised (walk.NormalizeRoot root) h is = absurd cc
 interrupt-of_walk Raised (walk.SymlinkInRoot root worktree_root index) h is = absurd cc
@@ -120,7 +120,7 @@ lookup_no_misread which (inner.Blob id blobs.Fault) is = absurd cc
 lookup_no_misread which inner.OutOfMemory is = absurd cc
 
 -- no walk says that a text is outside its grammar
-is_no_misread : (which : Misread) (e : Error) → of_walk e ≡ refusals.Misread which → ⊥
+is_no_misread : (which : Misread) (e : Error) → refusal_of_walk_error e ≡ refusals.Misread which → ⊥
 is_no_misread which walk.Interrupted is = absurd cc
 is_no_misread which (walk.NormalizeRoot root) is = absurd cc
 is_no_misread which (walk.SymlinkInRoot root worktree_root index) is = absurd cc
@@ -149,7 +149,7 @@ lookup_of_walking (inner.Blob id blobs.NotABlob) = tt
 lookup_of_walking (inner.Blob id blobs.Fault) = tt
 lookup_of_walking inner.OutOfMemory = tt
 
-of_walking : (e : Error) → IsOfWalking (of_walk e)
+of_walking : (e : Error) → IsOfWalking (refusal_of_walk_error e)
 of_walking walk.Interrupted = tt
 of_walking (walk.NormalizeRoot root) = tt
 of_walking (walk.SymlinkInRoot root worktree_root index) = tt
@@ -187,7 +187,7 @@ misreads_at w w0 w1 o0 o1 i0 i1 root setup which from outside alone stops is =
       interrupt = alone.interrupt;
     }
 
-fault-of_report : (Failed Stored : Type 0) → (Stored → ⊥) → (e : ReportError) → OnReportFault Failed Stored e → of_report e ≡ refusals.Fault → Failed
+fault-of_report : (Failed Stored : Type 0) → (Stored → ⊥) → (e : ReportError) → OnReportFault Failed Stored e → refusal_of_report_error e ≡ refusals.Fault → Failed
 fault-of_report Failed Stored never (errors.Config at line) h is = absurd cc
 fault-of_report Failed Stored never (errors.Modules line) h is = absurd cc
 fault-of_report Failed Stored never (errors.ActiveSpec at) h is = absurd cc
@@ -195,7 +195,7 @@ fault-of_report Failed Stored never errors.ReadFault h is = h
 fault-of_report Failed Stored never (errors.Walk e) h is = fault-of_walk Failed Stored never e h is
 fault-of_report Failed Stored never errors.OutOfMemory h is = absurd cc
 
-interrupt-of_report : (Raised : Type 0) (e : ReportError) → OnWalk (OnInterrupt Raised) e → of_report e ≡ refusals.Interrupted → Raised
+interrupt-of_report : (Raised : Type 0) (e : ReportError) → OnWalk (OnInterrupt Raised) e → refusal_of_report_error e ≡ refusals.Interrupted → Raised
 interrupt-of_report Raised (errors.Config at line) h is = absurd cc
 interrupt-of_report Raised (errors.Modules line) h is = absurd cc
 interrupt-of_report Raised (errors.ActiveSpec at) h is = absurd cc
@@ -203,7 +203,7 @@ interrupt-of_report Raised errors.ReadFault h is = absurd cc
 interrupt-of_report Raised (errors.Walk e) h is = interrupt-of_walk Raised e h is
 interrupt-of_report Raised errors.OutOfMemory h is = absurd cc
 
-of_reporting : (e : ReportError) → IsOfWalking (of_report e)
+of_reporting : (e : ReportError) → IsOfWalking (refusal_of_report_error e)
 of_reporting (errors.Config at line) = tt
 of_reporting (errors.Modules line) = tt
 of_reporting (errors.ActiveSpec at) = tt
@@ -213,7 +213,7 @@ of_reporting errors.OutOfMemory = tt
 
 -- what is outside its grammar is said of the same
 outside-of_report : {W F I : Type 0} (w : WorktreeOf W) (w0 w1 : W) (o0 o1 : F) (i0 i1 : I) (root : List ℕ) (setup : Setup) (which : Misread) (e : ReportError)
-    → OnMisread (IsOutside root setup) e → OnReading (LoadsAlone w w0 w1 o0 o1 i0 i1 setup) e → Stops w w0 w1 setup e → of_report e ≡ refusals.Misread which → MisreadsAt w w0 w1 i0 i1 root setup which
+    → OnMisread (IsOutside root setup) e → OnReading (LoadsAlone w w0 w1 o0 o1 i0 i1 setup) e → Stops w w0 w1 setup e → refusal_of_report_error e ≡ refusals.Misread which → MisreadsAt w w0 w1 i0 i1 root setup which
 outside-of_report w w0 w1 o0 o1 i0 i1 root setup which (errors.Config at line) outside alone stops is = misreads_at w w0 w1 o0 o1 i0 i1 root setup which _ outside alone stops is
 outside-of_report w w0 w1 o0 o1 i0 i1 root setup which (errors.Modules line) outside alone stops is = misreads_at w w0 w1 o0 o1 i0 i1 root setup which _ outside alone stops is
 outside-of_report w w0 w1 o0 o1 i0 i1 root setup which (errors.ActiveSpec at) outside alone stops is = misreads_at w w0 w1 o0 o1 i0 i1 root setup which _ outside alone stops is
@@ -222,7 +222,7 @@ outside-of_report w w0 w1 o0 o1 i0 i1 root setup which (errors.Walk e) outside a
 outside-of_report w w0 w1 o0 o1 i0 i1 root setup which errors.OutOfMemory outside alone stops is = absurd cc
 
 -- the interrupt is asked once all that tells of submodules is known
-known-of_report : (given : Result (Option Known) Misread) (e : ReportError) → Misreads given e → of_report e ≡ refusals.Interrupted → IsKnown given
+known-of_report : (given : Result (Option Known) Misread) (e : ReportError) → Misreads given e → refusal_of_report_error e ≡ refusals.Interrupted → IsKnown given
 known-of_report given (errors.Config at line) h is = absurd cc
 known-of_report given (errors.Modules line) h is = absurd cc
 known-of_report given (errors.ActiveSpec at) h is = absurd cc
@@ -230,7 +230,7 @@ known-of_report given errors.ReadFault h is = absurd cc
 known-of_report given (errors.Walk e) h is = h
 known-of_report given errors.OutOfMemory h is = absurd cc
 
-misread-of_report : (given : Result (Option Known) Misread) (which : Misread) (e : ReportError) → Misreads given e → of_report e ≡ refusals.Misread which → given ≡ Err which
+misread-of_report : (given : Result (Option Known) Misread) (which : Misread) (e : ReportError) → Misreads given e → refusal_of_report_error e ≡ refusals.Misread which → given ≡ Err which
 misread-of_report given which (errors.Config at line) h is = cc
 misread-of_report given which (errors.Modules line) h is = cc
 misread-of_report given which (errors.ActiveSpec at) h is = cc
@@ -239,8 +239,8 @@ misread-of_report given which (errors.Walk e) h is = absurd (is_no_misread which
 misread-of_report given which errors.OutOfMemory h is = absurd cc
 
 refused-of_report : (Stored : Type 0) → (Stored → ⊥) → (composes : Bool) (t : Names) (root : List ℕ) (setup : Setup) (word : WalkWord) (path : List ℕ) (e : ReportError)
-    → OnWalk (About composes root setup) e → OnWalk (Refuses composes (read_in t setup) root setup Stored) e → Misreads (known_in t root setup) e
-    → of_report e ≡ refusals.Walk word path → RefusesWalkAt composes t root setup word path
+    → OnWalk (ErrorAgreesWithInput composes root setup) e → OnWalk (Refuses composes (read_in t setup) root setup Stored) e → Misreads (known_in t root setup) e
+    → refusal_of_report_error e ≡ refusals.Walk word path → RefusesWalkAt composes t root setup word path
 refused-of_report Stored never composes t root setup word path (errors.Config at line) about cause known is = absurd cc
 refused-of_report Stored never composes t root setup word path (errors.Modules line) about cause known is = absurd cc
 refused-of_report Stored never composes t root setup word path (errors.ActiveSpec at) about cause known is = absurd cc
@@ -256,8 +256,8 @@ refused-of_report Stored never composes t root setup word path (errors.Walk e) a
 refused-of_report Stored never composes t root setup word path errors.OutOfMemory about cause known is = absurd cc
 
 about-of_report : (composes : Bool) (told : Option Names) (root : List ℕ) (setup : Setup) (word : WalkWord) (path : List ℕ) (e : ReportError)
-    → OnWalk (About composes root setup) e → ((t : Names) → told ≡ Some t → OnWalk (Found composes root setup (Some setup.blobs) (read_in t setup)) e)
-    → ((t : Names) → told ≡ Some t → Misreads (known_in t root setup) e) → of_report e ≡ refusals.Walk word path → IsAboutWalkAt composes told root setup word path
+    → OnWalk (ErrorAgreesWithInput composes root setup) e → ((t : Names) → told ≡ Some t → OnWalk (ErrorAgreesWithTree composes root setup (Some setup.blobs) (read_in t setup)) e)
+    → ((t : Names) → told ≡ Some t → Misreads (known_in t root setup) e) → refusal_of_report_error e ≡ refusals.Walk word path → IsAboutWalkAt composes told root setup word path
 about-of_report composes told root setup word path (errors.Config at line) about found known is = absurd cc
 about-of_report composes told root setup word path (errors.Modules line) about found known is = absurd cc
 about-of_report composes told root setup word path (errors.ActiveSpec at) about found known is = absurd cc
@@ -276,17 +276,17 @@ on-walking Holds refusals.Output h = tt
 on-walking Holds refusals.OutOfMemory h = tt
 
 -- what holds of a refused walk holds where its refusal is told
-loaded-of_report : (Holds : Type 0) (e : ReportError) → OnWalk (λ x. Holds) e → OnWalking Holds (of_report e)
+loaded-of_report : (Holds : Type 0) (e : ReportError) → OnWalk (λ x. Holds) e → OnWalking Holds (refusal_of_report_error e)
 loaded-of_report Holds (errors.Config at line) h = tt
 loaded-of_report Holds (errors.Modules line) h = tt
 loaded-of_report Holds (errors.ActiveSpec at) h = tt
 loaded-of_report Holds errors.ReadFault h = tt
-loaded-of_report Holds (errors.Walk e) h = on-walking Holds (of_walk e) h
+loaded-of_report Holds (errors.Walk e) h = on-walking Holds (refusal_of_walk_error e) h
 loaded-of_report Holds errors.OutOfMemory h = tt
 
 -- a fault comes before the walk, or where all that tells of submodules is in its grammar
 late-of_report : {W F I : Type 0} (w : WorktreeOf W) (w0 w1 : W) (o0 o1 : F) (i0 i1 : I) (root : List ℕ) (setup : Setup) (e : ReportError)
-    → OnReading (LoadsAlone w w0 w1 o0 o1 i0 i1 setup) e → Stops w w0 w1 setup e → ((t : Names) → w.told w0 ≡ Some t → Misreads (known_in t root setup) e) → of_report e ≡ refusals.Fault
+    → OnReading (LoadsAlone w w0 w1 o0 o1 i0 i1 setup) e → Stops w w0 w1 setup e → ((t : Names) → w.told w0 ≡ Some t → Misreads (known_in t root setup) e) → refusal_of_report_error e ≡ refusals.Fault
     → FailsLoading w w0 w1 i0 i1 setup ⊎ ((t : Names) → w.told w0 ≡ Some t → IsKnown (known_in t root setup))
 late-of_report w w0 w1 o0 o1 i0 i1 root setup (errors.Config at line) alone stops known is = absurd cc
 late-of_report w w0 w1 o0 o1 i0 i1 root setup (errors.Modules line) alone stops known is = absurd cc
@@ -303,7 +303,7 @@ answered : {from which : Refusal} → IsErrOf {T = List ℕ} (Err from) which �
 answered is = cc
 
 -- a worktree tells its tree, and the store of a setup what it holds
-pub told-blobs : {told : Option Names} {holds : Option Objects} {made : Option Made} {t : Names} (setup : Setup) → holds ≡ Some setup.blobs → told ≡ Some t → TellsIf told holds made (read_in t setup)
+pub told-blobs : {told : Option Names} {holds : Option Objects} {made : Option StackSetup} {t : Names} (setup : Setup) → holds ≡ Some setup.blobs → told ≡ Some t → TellsIf told holds made (read_in t setup)
 told-blobs setup held tree = record { tree_is = tree; objects_are = λ some. held }
 
 -- what is read once for each of some directories is for more of them
@@ -414,7 +414,7 @@ module _ {W F I : Type 0} {w : WorktreeOf W} {f : FindOf F} {i : InterruptOf I} 
       }
 
   -- the refusal that stands for that of a report
-  pub Texts-refused : (e : ReportError) (refusal : Refusal) → MakesReport w f i w0 w1 o0 o1 i0 i1 root setup (Err e) → f.holds o0 ≡ Some setup.blobs → NotIncreased (f.faults o0) (f.faults o1) → refusal ≡ of_report e
+  pub Texts-refused : (e : ReportError) (refusal : Refusal) → MakesReport w f i w0 w1 o0 o1 i0 i1 root setup (Err e) → f.holds o0 ≡ Some setup.blobs → NotIncreased (f.faults o0) (f.faults o1) → refusal ≡ refusal_of_report_error e
       → Texts w i (w.precomposes w0) w0 w1 i0 i1 root setup (Err refusal)
   Texts-refused e refusal reports held kept same =
       rw same
@@ -431,7 +431,7 @@ module _ {W F I : Type 0} {w : WorktreeOf W} {f : FindOf F} {i : InterruptOf I} 
         outside = λ which is. outside-of_report w w0 w1 o0 o1 i0 i1 root setup which e reports.outside reports.alone reports.stops (answered is);
         about = λ word path is.
             about-of_report (w.precomposes w0) (w.told w0) root setup word path e reports.about
-            (λ t told. subst (λ (holds : Option Objects). OnWalk (Found (w.precomposes w0) root setup holds (read_in t setup)) e) held (reports.found (read_in t setup) told)) reports.misread (answered is);
+            (λ t told. subst (λ (holds : Option Objects). OnWalk (ErrorAgreesWithTree (w.precomposes w0) root setup holds (read_in t setup)) e) held (reports.found (read_in t setup) told)) reports.misread (answered is);
         cause = λ is. fault-of_report _ _ (λ stored. omega (arith, stored, kept)) e reports.cause (answered is);
         fault_late = λ is. late-of_report w w0 w1 o0 o1 i0 i1 root setup e reports.alone reports.stops reports.misread (answered is);
         interrupted = λ is. interrupt-of_report _ e reports.interrupted (answered is);
@@ -453,7 +453,7 @@ module _ {W F I : Type 0} {w : WorktreeOf W} {f : FindOf F} {i : InterruptOf I} 
                     reads = reports.opens.reads;
                   };
             });
-        complete = λ t told quiet calm valid. ap of_report (reports.complete (read_in t setup) (told-blobs setup held told) quiet kept calm valid);
+        complete = λ t told quiet calm valid. ap refusal_of_report_error (reports.complete (read_in t setup) (told-blobs setup held told) quiet kept calm valid);
         worktree = reports.worktree;
         interrupt = reports.interrupt;
         listed = tt;

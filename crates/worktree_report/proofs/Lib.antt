@@ -9,6 +9,7 @@ pub mod Generated
 pub mod Numbers
 pub mod Walks
 pub mod Stopping
+pub mod WalkRefused
 pub mod ReportMade
 pub mod Answered
 pub mod Texted

@@ -13,11 +13,11 @@ use Rattle.worktree_report.specs.declared.setup.line.SetupLine.TheVariants.{Conf
 use Rattle.worktree_report.specs.declared.setup.option.SetupOption.{SetupOption}
 use Rattle.worktree_report.specs.ConfigFiles.{ConfigFile}
 use Rattle.worktree_report.specs.SetupFiles.{stored_after}
-use Rattle.worktree_report.specs.SetupMeant.{depth_meant, emit_untracked_of, emit_ignored_of, emit_collapsed_of, meant, options_meant, ordered_after, permissions_of, reporting_of, value_of}
+use Rattle.worktree_report.specs.SetupMeant.{depth_meant, emit_untracked_of, emit_ignored_of, emit_collapsed_of, setup_from_draft, options_meant, ordered_after, permissions_of, reporting_of, value_of}
 use Rattle.worktree_report.specs.SetupSpecs.{specs_in}
 use Rattle.worktree_report.specs.SetupOptions.{is_set_to}
 use Rattle.worktree_report.specs.SetupSaid.{Said}
-use Rattle.worktree_report.specs.SetupText.{taken}
+use Rattle.worktree_report.specs.SetupText.{add_setup_line}
 
 pub reporting-is : (options : List SetupOption) (pruned tracked empty origins submodules outcome : Bool) (untracked : EmissionMode) (ignored : Option EmissionMode)
     (collapsed : Option CollapsedEntriesEmissionMode) (permissions : Permissions)
@@ -41,14 +41,14 @@ pub reporting-is : (options : List SetupOption) (pruned tracked empty origins su
 unfolding reporting_of
 reporting-is options pruned tracked empty origins submodules outcome untracked ignored collapsed permissions a b c d e f g h i j = rw (a, b, c, d, e, f, g, h, i, j) refl
 
-configures : (draft : Said) (configs : List ConfigFile) (config : ConfigFile) → configs ≡ draft.configs ++ config ∷ [] → Some (record draft { configs = configs }) ≡ taken draft (Some (Configures config))
+configures : (draft : Said) (configs : List ConfigFile) (config : ConfigFile) → configs ≡ draft.configs ++ config ∷ [] → Some (record draft { configs = configs }) ≡ add_setup_line draft (Some (Configures config))
 configures draft configs config e =
     rw (e, append-nil draft.options, append-nil draft.index, append-nil draft.blobs, append-nil draft.overrides, append-nil draft.globals, append-nil draft.specs, append-nil draft.worktrees) refl
 
 pub taken-configures : {view draft : Said} (line : Option SetupLine) (configs : List ConfigFile) (config : ConfigFile) → view ≡ draft → line ≡ Some (Configures config) → configs ≡ view.configs ++ config ∷ []
-    → Some (record view { configs = configs }) ≡ taken draft line
+    → Some (record view { configs = configs }) ≡ add_setup_line draft line
 taken-configures {view = view} {draft = draft} line configs config same is e =
-    configures view configs config e ∙ ap (λ (d : Said). taken d (Some (Configures config))) same ∙ ap (taken draft) (sym is)
+    configures view configs config e ∙ ap (λ (d : Said). add_setup_line d (Some (Configures config))) same ∙ ap (add_setup_line draft) (sym is)
 
 pub meant-is : (d : Said) (git_dir current_dir root : Option (List ℕ)) (depth : ℕ) (index : List IndexEntry) (blobs : Objects) (overrides globals : List ℕ) (specs : List PathSpec) (keys : List (List ℕ))
     (configs : List ConfigFile) (options : SetupOptions)
@@ -68,5 +68,5 @@ pub meant-is : (d : Said) (git_dir current_dir root : Option (List ℕ)) (depth 
       worktrees = record { keys = keys };
       configs = configs;
       options = options;
-    } ≡ meant d
+    } ≡ setup_from_draft d
 meant-is d git_dir current_dir root depth index blobs overrides globals specs keys configs options a b c e f g h i j k l m = rw (a, b, c, e, f, g, h, i, k, j, l, m) refl

@@ -9,20 +9,11 @@ use Rattle.worktree_fs.specs.declared.worktree.Worktree.{Ghosts as WorktreeOf}
 use Rattle.worktree_fs.specs.Causes.{NotIncreased, Increased}
 use Rattle.worktree_fs.specs.Paths.{full_path}
 use Rattle.worktree_fs.specs.Tree.{Names}
-use Rattle.worktree_stack.specs.declared.error.AtPathError.{AtPathError}
-use Rattle.worktree_stack.specs.declared.error.AtPathError.TheVariants as inner
-use Rattle.worktree_stack.specs.declared.error.RulesWhy.TheVariants as rules
-use Rattle.worktree_stack.specs.declared.error.BlobWhy.TheVariants as blobs
 use Rattle.worktree_stack.specs.Lookups.{refused_one}
 use Rattle.worktree_stack.specs.Reading.{Sources}
-use Rattle.worktree_stack.specs.Refused as lookups
-use Rattle.worktree_stack.specs.Setup.{Made}
+use Rattle.worktree_stack.specs.Setup.{StackSetup}
 use Rattle.dir_classify.specs.declared.error.Error.{Error}
-use Rattle.dir_classify.specs.declared.error.Error.TheVariants as walk
-use Rattle.dir_classify.specs.declared.error.MetadataWhy.TheVariants as metadata
-use Rattle.dir_classify.specs.declared.error.ReadWhy.TheVariants as why
 use Rattle.dir_classify.specs.Excludes.{tells_attributes, TellsIf}
-use Rattle.dir_classify.specs.Refused.{OnFault}
 use Rattle.dir_walk.specs.declared.report.Report.{Report as WalkReport}
 use Rattle.dir_walk.specs.Distinct.{Ascends}
 use Rattle.dir_walk.specs.Emissions.{Emission}
@@ -42,22 +33,23 @@ use Rattle.worktree_report.specs.declared.refusal.Misread.TheVariants as misread
 use Rattle.worktree_report.specs.declared.report.Report.{Report}
 use Rattle.worktree_report.specs.declared.report.ReportEntry.{ReportEntry}
 use Rattle.worktree_report.specs.declared.setup.Setup.{Setup}
-use Rattle.worktree_report.specs.Asked.{About, Found, IsReportOf, IsWalkOf, NoRoot, ReadsFrom, Refuses, asked_of, chosen_of, described_by, report_of, walked_of}
+use Rattle.worktree_report.specs.Asked.{ErrorAgreesWithInput, ErrorAgreesWithTree, IsReportOf, IsWalkOf, NoRoot, ReadsFrom, Refuses, asked_of, chosen_of, described_by, report_of, walked_of}
 use Rattle.worktree_report.specs.Excluding.{excludes_of, rules_of}
 use Rattle.worktree_report.specs.Loading.{files_if, known_in}
 use Rattle.worktree_report.specs.Loads.{Gives, HasLoaded, LoadsFiles, OfKnown, of_walk}
 use Rattle.worktree_report.specs.Orderly.{IsOrderly}
 use Rattle.worktree_report.specs.Outside.{IsOutside, LoadsAlone, OnMisread, OnReading, Stops}
 use Rattle.worktree_report.specs.Reported.{Describes, EntersAsAsked, IsNamedRoot, LoadsAndOpens, LoadsFirst, MakesReport, Misreads, OnReportFault, OnWalk, Reports}
-use Rattle.worktree_report.specs.Submodules.{described, emission_in, entry_in, facts_in}
+use Rattle.worktree_report.specs.Submodules.{report_with_submodules, emission_in, entry_in, facts_in}
 use Rattle.worktree_report.specs.Unopened.{deep_report, unlisted_report}
 use Rattle.worktree_report.proofs.Walks.{unlisted_so}
+use Rattle.worktree_report.proofs.WalkRefused.{on_walk, unlisted_so_too, deep_so_too, failed_walk, walk_is_later, walk_is_inside, walk_is_no_reading, walk_stops_nothing}
 
 -- a walk with the submodules is the report
 pub report_is : {composes : Bool} {s : Sources} {root : List ℕ} {setup : Setup} {r : Report} → IsReportOf composes s root setup r → report_of composes s root setup ≡ Some r
 report_is {composes = composes} {s = s} {root = root} {setup = setup} is =
     ap (λ (x : Result (Option Known) Misread). described_by x (walked_of composes s root setup)) is.known_is
-    ∙ ap (option_map (described is.known)) is.walk_is.is ∙ ap (λ (x : Report). Some x) (sym is.same)
+    ∙ ap (option_map (report_with_submodules is.known)) is.walk_is.is ∙ ap (λ (x : Report). Some x) (sym is.same)
 
 -- ---- what tells of submodules is refused
 
@@ -157,121 +149,6 @@ module _ {W F I : Type 0} {w : WorktreeOf W} {f : FindOf F} {i : InterruptOf I} 
             };
       }
 
--- ---- the walk is refused
-
-on_walk : (Holds : Error → Type 0) (e : Error) → Holds e → OnWalk Holds (of_walk e)
-on_walk Holds walk.Interrupted h = h
-on_walk Holds (walk.WorktreeRootIsFile root) h = h
-on_walk Holds (walk.NormalizeRoot root) h = h
-on_walk Holds (walk.SymlinkInRoot root worktree_root index) h = h
-on_walk Holds (walk.SymlinkMetadata path c) h = h
-on_walk Holds (walk.ExcludesAccess e) h = h
-on_walk Holds (walk.ReadDir path c) h = h
-on_walk Holds (walk.DirEntry path) h = h
-on_walk Holds (walk.TooDeep path) h = h
-on_walk Holds walk.OutOfMemory h = tt
-
-unlisted_so_too : (e : Error) → unlisted_answer {T = WalkReport} (Err e) ≤ unlisted_report {T = Report} (Err (of_walk e))
-unlisted_so_too walk.Interrupted = omega arith
-unlisted_so_too (walk.WorktreeRootIsFile root) = omega arith
-unlisted_so_too (walk.NormalizeRoot root) = omega arith
-unlisted_so_too (walk.SymlinkInRoot root worktree_root index) = omega arith
-unlisted_so_too (walk.SymlinkMetadata path c) = omega arith
-unlisted_so_too (walk.ExcludesAccess e) = omega arith
-unlisted_so_too (walk.ReadDir path c) = omega arith
-unlisted_so_too (walk.DirEntry path) = omega arith
-unlisted_so_too (walk.TooDeep path) = omega arith
-unlisted_so_too walk.OutOfMemory = omega arith
-
-deep_so_too : (e : Error) → deep_report {T = Report} (Err (of_walk e)) ≤ deep_answer {T = WalkReport} (Err e)
-deep_so_too walk.Interrupted = omega arith
-deep_so_too (walk.WorktreeRootIsFile root) = omega arith
-deep_so_too (walk.NormalizeRoot root) = omega arith
-deep_so_too (walk.SymlinkInRoot root worktree_root index) = omega arith
-deep_so_too (walk.SymlinkMetadata path c) = omega arith
-deep_so_too (walk.ExcludesAccess e) = omega arith
-deep_so_too (walk.ReadDir path c) = omega arith
-deep_so_too (walk.DirEntry path) = omega arith
-deep_so_too (walk.TooDeep path) = omega arith
-deep_so_too walk.OutOfMemory = omega arith
-
-failed_lookup : (Failed Failed' Stored : Type 0) (e : AtPathError) → (Failed → Failed') → lookups.OnFault Failed Stored e → lookups.OnFault Failed' Stored e
-failed_lookup Failed Failed' Stored inner.NotNormal wide h = tt
-failed_lookup Failed Failed' Stored (inner.Component c) wide h = tt
-failed_lookup Failed Failed' Stored (inner.Collision path) wide h = tt
-failed_lookup Failed Failed' Stored (inner.Directory path c) wide h = tt
-failed_lookup Failed Failed' Stored (inner.RulesFile path rules.Link) wide h = tt
-failed_lookup Failed Failed' Stored (inner.RulesFile path rules.LinkLimit) wide h = tt
-failed_lookup Failed Failed' Stored (inner.RulesFile path rules.Special) wide h = tt
-failed_lookup Failed Failed' Stored (inner.RulesFile path rules.Fault) wide h = wide h
-failed_lookup Failed Failed' Stored (inner.Blob id blobs.Missing) wide h = tt
-failed_lookup Failed Failed' Stored (inner.Blob id blobs.NotABlob) wide h = tt
-failed_lookup Failed Failed' Stored (inner.Blob id blobs.Fault) wide h = h
-failed_lookup Failed Failed' Stored inner.OutOfMemory wide h = tt
-
-failed_walk : (Failed Failed' Stored : Type 0) (e : Error) → (Failed → Failed') → OnFault Failed Stored e → OnReportFault Failed' Stored (of_walk e)
-failed_walk Failed Failed' Stored walk.Interrupted wide h = tt
-failed_walk Failed Failed' Stored (walk.WorktreeRootIsFile root) wide h = tt
-failed_walk Failed Failed' Stored (walk.NormalizeRoot root) wide h = tt
-failed_walk Failed Failed' Stored (walk.SymlinkInRoot root worktree_root index) wide h = tt
-failed_walk Failed Failed' Stored (walk.SymlinkMetadata path metadata.Absent) wide h = tt
-failed_walk Failed Failed' Stored (walk.SymlinkMetadata path metadata.Fault) wide h = wide h
-failed_walk Failed Failed' Stored (walk.ExcludesAccess e) wide h = failed_lookup Failed Failed' Stored e wide h
-failed_walk Failed Failed' Stored (walk.ReadDir path why.Absent) wide h = tt
-failed_walk Failed Failed' Stored (walk.ReadDir path why.NotADirectory) wide h = tt
-failed_walk Failed Failed' Stored (walk.ReadDir path why.Fault) wide h = wide h
-failed_walk Failed Failed' Stored (walk.DirEntry path) wide h = wide h
-failed_walk Failed Failed' Stored (walk.TooDeep path) wide h = tt
-failed_walk Failed Failed' Stored walk.OutOfMemory wide h = tt
-
-walk_is_later : (given : Result (Option Known) Misread) (known : Option Known) → given ≡ Ok known → (e : Error) → Misreads given (of_walk e)
-walk_is_later given known is walk.Interrupted = (known, is)
-walk_is_later given known is (walk.WorktreeRootIsFile root) = (known, is)
-walk_is_later given known is (walk.NormalizeRoot root) = (known, is)
-walk_is_later given known is (walk.SymlinkInRoot root worktree_root index) = (known, is)
-walk_is_later given known is (walk.SymlinkMetadata path c) = (known, is)
-walk_is_later given known is (walk.ExcludesAccess e) = (known, is)
-walk_is_later given known is (walk.ReadDir path c) = (known, is)
-walk_is_later given known is (walk.DirEntry path) = (known, is)
-walk_is_later given known is (walk.TooDeep path) = (known, is)
-walk_is_later given known is walk.OutOfMemory = tt
-
-walk_is_inside : (Holds : Misread → Type 0) (e : Error) → OnMisread Holds (of_walk e)
-walk_is_inside Holds walk.Interrupted = tt
-walk_is_inside Holds (walk.WorktreeRootIsFile root) = tt
-walk_is_inside Holds (walk.NormalizeRoot root) = tt
-walk_is_inside Holds (walk.SymlinkInRoot root worktree_root index) = tt
-walk_is_inside Holds (walk.SymlinkMetadata path c) = tt
-walk_is_inside Holds (walk.ExcludesAccess e) = tt
-walk_is_inside Holds (walk.ReadDir path c) = tt
-walk_is_inside Holds (walk.DirEntry path) = tt
-walk_is_inside Holds (walk.TooDeep path) = tt
-walk_is_inside Holds walk.OutOfMemory = tt
-
-walk_is_no_reading : (Holds : Type 0) (e : Error) → OnReading Holds (of_walk e)
-walk_is_no_reading Holds walk.Interrupted = tt
-walk_is_no_reading Holds (walk.WorktreeRootIsFile root) = tt
-walk_is_no_reading Holds (walk.NormalizeRoot root) = tt
-walk_is_no_reading Holds (walk.SymlinkInRoot root worktree_root index) = tt
-walk_is_no_reading Holds (walk.SymlinkMetadata path c) = tt
-walk_is_no_reading Holds (walk.ExcludesAccess e) = tt
-walk_is_no_reading Holds (walk.ReadDir path c) = tt
-walk_is_no_reading Holds (walk.DirEntry path) = tt
-walk_is_no_reading Holds (walk.TooDeep path) = tt
-walk_is_no_reading Holds walk.OutOfMemory = tt
-
-walk_stops_nothing : {W : Type 0} (w : WorktreeOf W) (w0 w1 : W) (setup : Setup) (e : Error) → Stops w w0 w1 setup (of_walk e)
-walk_stops_nothing w w0 w1 setup walk.Interrupted = tt
-walk_stops_nothing w w0 w1 setup (walk.WorktreeRootIsFile root) = tt
-walk_stops_nothing w w0 w1 setup (walk.NormalizeRoot root) = tt
-walk_stops_nothing w w0 w1 setup (walk.SymlinkInRoot root worktree_root index) = tt
-walk_stops_nothing w w0 w1 setup (walk.SymlinkMetadata path c) = tt
-walk_stops_nothing w w0 w1 setup (walk.ExcludesAccess e) = tt
-walk_stops_nothing w w0 w1 setup (walk.ReadDir path c) = tt
-walk_stops_nothing w w0 w1 setup (walk.DirEntry path) = tt
-walk_stops_nothing w w0 w1 setup (walk.TooDeep path) = tt
-walk_stops_nothing w w0 w1 setup walk.OutOfMemory = tt
-
 -- ---- the entries, with the submodules
 
 emissions-described : (known : Option Known) (xs : List Emission) → map emission_in (map (entry_in known) xs) ≡ xs
@@ -285,7 +162,7 @@ facts-described known (x ∷ xs) = (refl, facts-described known xs)
 described-orderly : (composes : Bool) (told : Option Names) (root : List ℕ) (setup : Setup) (known : Option Known) (walked : WalkReport)
     → ((t : Names) → told ≡ Some t → known_in t root setup ≡ Ok known) → (setup.options.submodules ≡ true → is_some known ≡ true) → (setup.options.submodules ≡ false → known ≡ None)
     → Ascends walked.entries → hidden_in (chosen_of composes setup) walked.entries ≡ 0 → walked.outcome.returned_entries ≡ min (length walked.entries) (2 ^ 64 - 1) → min walked.outcome.returned_entries (2 ^ 32 - 1) ≤ walked.outcome.seen_entries
-    → IsFromRoot (asked_of composes root setup) setup.root walked → IsOrderly composes told root setup (described known walked)
+    → IsFromRoot (asked_of composes root setup) setup.root walked → IsOrderly composes told root setup (report_with_submodules known walked)
 described-orderly composes told root setup known walked known_is asked_for unasked ordered filtered counted seen once =
     record {
       ascends = subst Ascends (sym (emissions-described known walked.entries)) ordered;
@@ -380,7 +257,7 @@ opened_later w f i w0 wl w1 o0 i0 i1 root setup walked result loads more opens c
           };
     }
 
-told_later : {W F : Type 0} (w : WorktreeOf W) (f : FindOf F) (w0 wl : W) (o0 : F) (most : ℕ) (made : Option Made) (s : Sources) → LoadsFiles w w0 wl most
+told_later : {W F : Type 0} (w : WorktreeOf W) (f : FindOf F) (w0 wl : W) (o0 : F) (most : ℕ) (made : Option StackSetup) (s : Sources) → LoadsFiles w w0 wl most
     → TellsIf (w.told w0) (f.holds o0) made s → TellsIf (w.told wl) (f.holds o0) made s
 told_later w f w0 wl o0 most made s loads told = record { tree_is = loads.tree ∙ told.tree_is; objects_are = told.objects_are }
 
@@ -388,7 +265,7 @@ module _ {W F I : Type 0} {w : WorktreeOf W} {f : FindOf F} {i : InterruptOf I} 
   module _ (known : Option Known) (known_is : (t : Names) → w.told w0 ≡ Some t → known_in t root setup ≡ Ok known)
       (asked_for : setup.options.submodules ≡ true → is_some known ≡ true) (unasked : setup.options.submodules ≡ false → known ≡ None) where
     -- the walk gave something, and that is described
-    MakesReport-walked : (walked : WalkReport) (r : Report) → Reports w f i wl w1 o0 o1 i0 i1 root setup (Ok walked) → r ≡ described known walked
+    MakesReport-walked : (walked : WalkReport) (r : Report) → Reports w f i wl w1 o0 o1 i0 i1 root setup (Ok walked) → r ≡ report_with_submodules known walked
         → MakesReport w f i w0 w1 o0 o1 i0 i1 root setup (Ok r)
     MakesReport-walked walked r reports same =
         record {
@@ -473,8 +350,8 @@ module _ {W F I : Type 0} {w : WorktreeOf W} {f : FindOf F} {i : InterruptOf I} 
           stops = walk_stops_nothing w w0 w1 setup e;
           loaded = tt;
           loaded_walk = on_walk (λ x. LoadsFirst w w0 w1 (files_if setup)) e (record { loaded = wl; has = has; behind = reports.worktree });
-          about = on_walk _ e (subst (λ (b : Bool). About b root setup e) has.loads.precomposes reports.about);
-          found = λ s told. on_walk _ e (subst (λ (b : Bool). Found b root setup (f.holds o0) s e) has.loads.precomposes (reports.found s (has.loads.tree ∙ told)));
+          about = on_walk _ e (subst (λ (b : Bool). ErrorAgreesWithInput b root setup e) has.loads.precomposes reports.about);
+          found = λ s told. on_walk _ e (subst (λ (b : Bool). ErrorAgreesWithTree b root setup (f.holds o0) s e) has.loads.precomposes (reports.found s (has.loads.tree ∙ told)));
           cause = failed_walk _ _ _ e (rose_before _ _ _ has.loads.faults) reports.cause;
           interrupted = on_walk _ e reports.interrupted;
           listing = on_walk _ e (subst (λ (n : ℕ). OnListingFault (Increased n (w.list_faults w1)) e) has.loads.list_faults reports.listing);

@@ -13,15 +13,15 @@ use Rattle.worktree_report.specs.declared.refusal.Refusal.{Refusal}
 use Rattle.worktree_report.specs.declared.report.Report.{Report}
 use Rattle.worktree_report.specs.declared.setup.Setup.{Setup}
 use Rattle.worktree_report.specs.declared.setup.SetupOptions.{SetupOptions}
-use Rattle.worktree_report.specs.Converted.{of_report}
+use Rattle.worktree_report.specs.Converted.{refusal_of_report_error}
 use Rattle.worktree_report.specs.Reported.{Describes, MakesReport, Texts}
-use Rattle.worktree_report.specs.Submodules.{described}
+use Rattle.worktree_report.specs.Submodules.{report_with_submodules}
 use Rattle.worktree_report.specs.Texted.{DescribesText, IsTextOf, MakesTextOf}
 use Rattle.worktree_report.proofs.Answered.{Texts-ok, Texts-refused}
 
 -- the report that a text is of, or the refusal that it has
 abbrev pub made_for : Result (List ℕ) ReportError → Option Known → Result WalkReport Error → Result Report ReportError
-made_for (Ok text) known (Ok walked) = Ok (described known walked)
+made_for (Ok text) known (Ok walked) = Ok (report_with_submodules known walked)
 made_for (Ok text) known (Err e) = Err errors.OutOfMemory
 made_for (Err error) known walked = Err error
 
@@ -46,7 +46,7 @@ module _ {W F I : Type 0} {w : WorktreeOf W} {f : FindOf F} {i : InterruptOf I} 
 
   refusal-of : (made : Result Report ReportError) (e : ReportError) (refusal : Refusal) → IsTextOf setup.options made (Err e)
       → MakesReport w f i w0 w1 o0 o1 i0 i1 root setup made → f.holds o0 ≡ Some setup.blobs → NotIncreased (f.faults o0) (f.faults o1)
-      → refusal ≡ of_report e → Texts w i (w.precomposes w0) w0 w1 i0 i1 root setup (Err refusal)
+      → refusal ≡ refusal_of_report_error e → Texts w i (w.precomposes w0) w0 w1 i0 i1 root setup (Err refusal)
   refusal-of (Ok report) e refusal is makes held kept same = absurd is
   refusal-of (Err refused) e refusal is makes held kept same = Texts-refused refused refusal makes held kept (rw (← is) same)
 
@@ -55,5 +55,5 @@ module _ {W F I : Type 0} {w : WorktreeOf W} {f : FindOf F} {i : InterruptOf I} 
   Texts-made text of held = text-of of.made text of.text_is of.makes held
 
   pub Texts-unmade : (e : ReportError) (refusal : Refusal) → MakesTextOf w f i w0 w1 o0 o1 i0 i1 root setup (Err e) → f.holds o0 ≡ Some setup.blobs
-      → NotIncreased (f.faults o0) (f.faults o1) → refusal ≡ of_report e → Texts w i (w.precomposes w0) w0 w1 i0 i1 root setup (Err refusal)
+      → NotIncreased (f.faults o0) (f.faults o1) → refusal ≡ refusal_of_report_error e → Texts w i (w.precomposes w0) w0 w1 i0 i1 root setup (Err refusal)
   Texts-unmade e refusal of held kept same = refusal-of of.made e refusal of.text_is of.makes held kept same

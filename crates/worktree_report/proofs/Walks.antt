@@ -5,7 +5,7 @@ use Rattle.worktree_fs.specs.declared.interrupt.Interrupt.{Ghosts as InterruptOf
 use Rattle.worktree_fs.specs.declared.worktree.Worktree.{Ghosts as WorktreeOf}
 use Rattle.worktree_fs.specs.Causes.{Increased, NotIncreased}
 use Rattle.worktree_stack.specs.Reading.{Sources}
-use Rattle.worktree_stack.specs.Setup.{Made}
+use Rattle.worktree_stack.specs.Setup.{StackSetup}
 use Rattle.worktree_stack.specs.Stacked.{Stacked}
 use Rattle.dir_classify.specs.declared.error.Error.{Error}
 use Rattle.dir_classify.specs.declared.error.Error.TheVariants.{OutOfMemory}
@@ -47,7 +47,7 @@ walks-asked {w = w} {f = f} {i = i} {w0 = w0} {w1 = w1} {o0 = o0} {o1 = o1} {i0 
     subst (λ (x : Setting). WalksWorktree w f i w0 w1 o0 o1 i0 i1 old new strategy x explicit limit recursion outcome_of path_of result) e h
 
 -- what is told is told of the rules of the setup
-tells_of : {W F : Type 0} {w : WorktreeOf W} {f : FindOf F} {w0 : W} {o0 : F} {old : Option Stacked} {m : Option Made} → made_with old ≡ m → ((s : Sources) → InStepIf s old)
+tells_of : {W F : Type 0} {w : WorktreeOf W} {f : FindOf F} {w0 : W} {o0 : F} {old : Option Stacked} {m : Option StackSetup} → made_with old ≡ m → ((s : Sources) → InStepIf s old)
     → (s : Sources) → TellsIf (w.told w0) (f.holds o0) m s → Tells w f w0 o0 old s
 tells_of {w = w} {f = f} {w0 = w0} {o0 = o0} made step s told = record { tells = subst (λ m. TellsIf (w.told w0) (f.holds o0) m s) (sym made) told; in_step = step s }
 

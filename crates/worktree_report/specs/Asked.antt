@@ -32,8 +32,8 @@ use Rattle.worktree_report.specs.declared.refusal.Refusal.TheVariants as refusal
 use Rattle.worktree_report.specs.Excluding.{excludes_of}
 use Rattle.worktree_report.specs.Lines.{text_with}
 use Rattle.worktree_report.specs.Loading.{files_if, known_in, IsKnown}
-use Rattle.worktree_report.specs.Submodules.{described}
-use Rattle.worktree_report.specs.Converted.{of_walk}
+use Rattle.worktree_report.specs.Submodules.{report_with_submodules}
+use Rattle.worktree_report.specs.Converted.{refusal_of_walk_error}
 
 -- the options of a walk over a worktree that composes names or not
 abbrev pub chosen_of : Bool → Setup → Chosen
@@ -95,7 +95,7 @@ abbrev pub walked_of : Bool → Sources → List ℕ → Setup → Option WalkRe
 walked_of composes s root setup = report (asked_of composes root setup) (excludes_of root setup) s setup.root setup.depth
 
 abbrev pub described_by : Result (Option Known) Misread → Option WalkReport → Option Report
-described_by (Ok known) walked = option_map (described known) walked
+described_by (Ok known) walked = option_map (report_with_submodules known) walked
 described_by (Err why) walked = None
 
 -- the report: that with the submodules, where they are asked for; none where what tells of them is outside its grammar
@@ -125,7 +125,7 @@ pub record IsReportOf (composes : Bool) (s : Sources) (root : List ℕ) (setup :
   pub known : Option Known
   pub walk_is : IsWalkOf composes s root setup walked
   pub known_is : known_in s.tree root setup ≡ Ok known
-  pub same : r ≡ described known walked
+  pub same : r ≡ report_with_submodules known walked
 
 -- the report over a tree is safe to act on
 pub record IsSafeAt (composes : Bool) (t : Names) (root : List ℕ) (setup : Setup) : Type 0 where
@@ -173,8 +173,8 @@ abbrev pub Refuses : Bool → Sources → List ℕ → Setup → Type 0 → Erro
 Refuses composes s root setup StoreFailed error = WalkRefuses (asked_of composes root setup) (excludes_of root setup) s setup.root setup.depth StoreFailed error
 
 -- the same of a told tree alone, and, where the store holds these objects, of the rules, whatever failed
-abbrev pub Found : Bool → List ℕ → Setup → Option Objects → Sources → Error → Type 0
-Found composes root setup holds s error = WalkFound (asked_of composes root setup) (excludes_of root setup) setup.root holds s error
+abbrev pub ErrorAgreesWithTree : Bool → List ℕ → Setup → Option Objects → Sources → Error → Type 0
+ErrorAgreesWithTree composes root setup holds s error = WalkFound (asked_of composes root setup) (excludes_of root setup) setup.root holds s error
 
 -- that the worktree root is the traversal root, is not entered and is no directory, where it is refused, without a fault
 abbrev pub NoRoot : Bool → Names → List ℕ → Setup → Error → Type 0
@@ -185,15 +185,15 @@ NoRoot composes t root setup error =
     error
 
 -- and of what was handed in
-abbrev pub About : Bool → List ℕ → Setup → Error → Type 0
-About composes root setup error = WalkAbout (asked_of composes root setup) (excludes_of root setup) setup.root setup.depth error
+abbrev pub ErrorAgreesWithInput : Bool → List ℕ → Setup → Error → Type 0
+ErrorAgreesWithInput composes root setup error = WalkAbout (asked_of composes root setup) (excludes_of root setup) setup.root setup.depth error
 
 -- The walk of the work tree at `root` is refused with a word and a path: all that tells of submodules is in its grammar, and the
 -- error that they stand for is about what was handed in, and has its cause in the tree.
 pub record RefusesWalkAt (composes : Bool) (t : Names) (root : List ℕ) (setup : Setup) (word : WalkWord) (path : List ℕ) : Type 0 where
   pub error : Error
-  pub is : of_walk error ≡ refusals.Walk word path
-  pub about : About composes root setup error
+  pub is : refusal_of_walk_error error ≡ refusals.Walk word path
+  pub about : ErrorAgreesWithInput composes root setup error
   pub cause : Refuses composes (read_in t setup) root setup ⊥ error
   pub known : IsKnown (known_in t root setup)
 
@@ -201,7 +201,7 @@ pub record RefusesWalkAt (composes : Bool) (t : Names) (root : List ℕ) (setup 
 -- Where a tree is told all that tells of submodules is in its grammar, and the error is found in the tree, whatever failed.
 pub record IsAboutWalkAt (composes : Bool) (told : Option Names) (root : List ℕ) (setup : Setup) (word : WalkWord) (path : List ℕ) : Type 0 where
   pub error : Error
-  pub is : of_walk error ≡ refusals.Walk word path
-  pub about : About composes root setup error
+  pub is : refusal_of_walk_error error ≡ refusals.Walk word path
+  pub about : ErrorAgreesWithInput composes root setup error
   pub known : (t : Names) → told ≡ Some t → IsKnown (known_in t root setup)
-  pub found : (t : Names) → told ≡ Some t → Found composes root setup (Some setup.blobs) (read_in t setup) error
+  pub found : (t : Names) → told ≡ Some t → ErrorAgreesWithTree composes root setup (Some setup.blobs) (read_in t setup) error

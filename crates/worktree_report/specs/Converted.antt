@@ -12,7 +12,7 @@ use Rattle.dir_classify.specs.declared.error.Error.{Error}
 use Rattle.dir_classify.specs.declared.error.Error.TheVariants as walk
 use Rattle.dir_classify.specs.declared.error.MetadataWhy.TheVariants as metadata
 use Rattle.dir_classify.specs.declared.error.ReadWhy.TheVariants as why
-use Rattle.worktree_report.specs.Below.{through}
+use Rattle.worktree_report.specs.Below.{join_components_through}
 use Rattle.worktree_report.specs.declared.error.ReportError.{ReportError}
 use Rattle.worktree_report.specs.declared.error.ReportError.TheVariants as errors
 use Rattle.worktree_report.specs.declared.refusal.Misread.TheVariants as misread
@@ -48,32 +48,32 @@ of_lookup inner.OutOfMemory = refusals.OutOfMemory
 
 -- the whole path of the component with a number, from 0, of a traversal root, by the whole path of that and the worktree root
 abbrev pub component_path : List ℕ → List ℕ → ℕ → List ℕ
-component_path whole worktree_root number = through worktree_root number (components (drop (length worktree_root) whole))
+component_path whole worktree_root number = join_components_through worktree_root number (components (drop (length worktree_root) whole))
 
 -- why the walk was refused
-abbrev pub of_walk : Error → Refusal
-of_walk walk.Interrupted = refusals.Interrupted
-of_walk (walk.NormalizeRoot root) = refusals.Walk words.OutsideRoot root
-of_walk (walk.SymlinkInRoot root worktree_root index) = refusals.Walk words.SymlinkInRoot (component_path root worktree_root index)
-of_walk (walk.SymlinkMetadata path metadata.Absent) = refusals.Walk words.MissingRoot path
-of_walk (walk.SymlinkMetadata path metadata.Fault) = refusals.Fault
-of_walk (walk.WorktreeRootIsFile root) = refusals.Walk words.RootIsFile root
-of_walk (walk.ExcludesAccess refused) = of_lookup refused
-of_walk (walk.ReadDir path why.Absent) = refusals.Walk words.AbsentDirectory path
-of_walk (walk.ReadDir path why.NotADirectory) = refusals.Walk words.NotADirectory path
-of_walk (walk.ReadDir path why.Fault) = refusals.Fault
-of_walk (walk.DirEntry path) = refusals.Fault
-of_walk (walk.TooDeep path) = refusals.Walk words.TooDeep path
-of_walk walk.OutOfMemory = refusals.OutOfMemory
+abbrev pub refusal_of_walk_error : Error → Refusal
+refusal_of_walk_error walk.Interrupted = refusals.Interrupted
+refusal_of_walk_error (walk.NormalizeRoot root) = refusals.Walk words.OutsideRoot root
+refusal_of_walk_error (walk.SymlinkInRoot root worktree_root index) = refusals.Walk words.SymlinkInRoot (component_path root worktree_root index)
+refusal_of_walk_error (walk.SymlinkMetadata path metadata.Absent) = refusals.Walk words.MissingRoot path
+refusal_of_walk_error (walk.SymlinkMetadata path metadata.Fault) = refusals.Fault
+refusal_of_walk_error (walk.WorktreeRootIsFile root) = refusals.Walk words.RootIsFile root
+refusal_of_walk_error (walk.ExcludesAccess refused) = of_lookup refused
+refusal_of_walk_error (walk.ReadDir path why.Absent) = refusals.Walk words.AbsentDirectory path
+refusal_of_walk_error (walk.ReadDir path why.NotADirectory) = refusals.Walk words.NotADirectory path
+refusal_of_walk_error (walk.ReadDir path why.Fault) = refusals.Fault
+refusal_of_walk_error (walk.DirEntry path) = refusals.Fault
+refusal_of_walk_error (walk.TooDeep path) = refusals.Walk words.TooDeep path
+refusal_of_walk_error walk.OutOfMemory = refusals.OutOfMemory
 
 -- why there is no report
-abbrev pub of_report : ReportError → Refusal
-of_report (errors.Config at line) = refusals.Misread (misread.Config at line)
-of_report (errors.Modules line) = refusals.Misread (misread.Modules line)
-of_report (errors.ActiveSpec at) = refusals.Misread (misread.ActiveSpec at)
-of_report errors.ReadFault = refusals.Fault
-of_report (errors.Walk e) = of_walk e
-of_report errors.OutOfMemory = refusals.OutOfMemory
+abbrev pub refusal_of_report_error : ReportError → Refusal
+refusal_of_report_error (errors.Config at line) = refusals.Misread (misread.Config at line)
+refusal_of_report_error (errors.Modules line) = refusals.Misread (misread.Modules line)
+refusal_of_report_error (errors.ActiveSpec at) = refusals.Misread (misread.ActiveSpec at)
+refusal_of_report_error errors.ReadFault = refusals.Fault
+refusal_of_report_error (errors.Walk e) = refusal_of_walk_error e
+refusal_of_report_error errors.OutOfMemory = refusals.OutOfMemory
 
 -- a refusal that reading a setup may answer
 abbrev pub IsOfReading : Refusal → Type 0

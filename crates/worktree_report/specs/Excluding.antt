@@ -2,7 +2,7 @@
 use Rattle.std.specs.Prelude.{ℕ, List, [], ◌∷◌, Bool, Option, Some, None, codes, if◌then◌else◌}
 use Rattle.glob_rules.specs.Ignore.{Rules, entries}
 use Rattle.worktree_stack.specs.Mappings.{case_of, mappings_in}
-use Rattle.worktree_stack.specs.Setup.{Setup as Rulings, Made}
+use Rattle.worktree_stack.specs.Setup.{Setup as Rulings, StackSetup}
 use Rattle.worktree_report.specs.declared.setup.Setup.{Setup}
 
 -- the rules in a text that was read from no file; they are for every path
@@ -23,7 +23,7 @@ rules_given setup =
     }
 
 -- what the rules of the work tree at `root` are made with; rules files are mapped to the blobs that the index has for them
-abbrev pub rules_of : List ℕ → Setup → Made
+abbrev pub rules_of : List ℕ → Setup → StackSetup
 rules_of root setup =
     record {
       root = root;
@@ -35,5 +35,5 @@ rules_of root setup =
     }
 
 -- they are asked where the options say so
-abbrev pub excludes_of : List ℕ → Setup → Option Made
+abbrev pub excludes_of : List ℕ → Setup → Option StackSetup
 excludes_of root setup = if setup.options.excludes then Some (rules_of root setup) else None

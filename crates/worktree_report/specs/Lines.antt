@@ -22,7 +22,7 @@ use Rattle.worktree_report.specs.declared.facts.Facts.{Facts}
 use Rattle.worktree_report.specs.declared.report.Report.{Report}
 use Rattle.worktree_report.specs.declared.report.ReportEntry.{ReportEntry}
 use Rattle.worktree_report.specs.declared.setup.SetupOptions.{SetupOptions}
-use Rattle.worktree_report.specs.Below.{below}
+use Rattle.worktree_report.specs.Below.{join_first_components}
 use Rattle.worktree_report.specs.Escapes.{escaped, escaped_in_word}
 
 -- an ignored path that is worth keeping is precious
@@ -78,7 +78,7 @@ facts_if submodules facts = if submodules then 32 ∷ facts_word facts else []
 
 -- the rules file of the directory above a path that has so many components
 abbrev pub rules_file : List ℕ → ℕ → List ℕ
-rules_file path depth = joined (below [] depth (components path)) (codes ".gitignore")
+rules_file path depth = joined (join_first_components [] depth (components path)) (codes ".gitignore")
 
 -- the list of a rule that decided about a path: the overrides, the rules file of a directory, or the globals
 abbrev pub group_word : List ℕ → RuleGroup → List ℕ

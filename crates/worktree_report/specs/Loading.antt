@@ -2,7 +2,7 @@
 use Rattle.std.specs.Prelude.{◌≡◌, ◌+◌, ℕ, List, [], ◌∷◌, ◌++◌, Bool, true, false, codes, count_by, Option, Some, None, Result, Ok, Err, if◌then◌else◌}
 use Rattle.gitbase_core.specs.Path.{joined}
 use Rattle.git_config_lite.specs.declared.metadata.Metadata.{Metadata}
-use Rattle.git_config_lite.specs.Grammar.{said}
+use Rattle.git_config_lite.specs.Grammar.{parse_text_sections}
 use Rattle.git_config_lite.specs.Sections.{Section, Configuration, joint_meta}
 use Rattle.git_config_lite.specs.Writers.{with_sections}
 use Rattle.glob_rules.specs.PathSpec.{PathSpec}
@@ -51,7 +51,7 @@ appended_to config at (Err line) = Err (misread.Config at line)
 -- a configuration behind others, where the permissions admit it; links to its file are followed
 abbrev pub with_config : Names → Permissions → ℕ → ConfigFile → Configuration → Result Configuration Misread
 with_config t permissions at named config =
-    if admits permissions named.0 then appended_to config at (said (meta_of named) (bytes_at (look t named.1 true)))
+    if admits permissions named.0 then appended_to config at (parse_text_sections (meta_of named) (bytes_at (look t named.1 true)))
     else Ok config
 
 -- some configurations one behind another, the first of which has this number; or the first line of them outside the grammar
@@ -95,13 +95,13 @@ abbrev pub known_by : Modules → Result (Option (List PathSpec)) ActiveError �
 known_by modules (Ok specs) = Ok (Some (record { modules = modules; platform = specs }))
 known_by modules (Err e) = active_misread e
 
-abbrev pub with_specs : Bool → Modules → Result (Option Known) Misread
-with_specs folds modules = known_by modules (platform folds modules.config.sections)
+abbrev pub with_active_platform : Bool → Modules → Result (Option Known) Misread
+with_active_platform folds modules = known_by modules (platform folds modules.config.sections)
 
 -- What is known of submodules, where that is asked for; or the first place that is outside its grammar.
 unfoldable pub known_in : Names → List ℕ → Setup → Result (Option Known) Misread
 known_in t root setup =
-    if setup.options.submodules then and_then (with_specs setup.options.ignore_case) (modules_in t root setup)
+    if setup.options.submodules then and_then (with_active_platform setup.options.ignore_case) (modules_in t root setup)
     else Ok None
 
 -- all that tells of submodules is in its grammar

@@ -1,7 +1,7 @@
 -- Where what tells of submodules is outside its grammar or is not read, by what the setup asks for, whether or not the tree is told.
 use Rattle.std.specs.Prelude.{◌≡◌, ◌≤◌, ◌+◌, ℕ, List, Bool, true, take, Some, Ok, Err}
 use Rattle.std.specs.List.{slice_get}
-use Rattle.git_config_lite.specs.Grammar.{said}
+use Rattle.git_config_lite.specs.Grammar.{parse_text_sections}
 use Rattle.git_config_lite.specs.Sections.{Configuration}
 use Rattle.submodule.specs.Overrides.{modules_of}
 use Rattle.worktree_fs.specs.declared.worktree.Worktree.{Ghosts as WorktreeOf}
@@ -14,7 +14,7 @@ use Rattle.worktree_report.specs.declared.refusal.Misread.{Misread}
 use Rattle.worktree_report.specs.declared.refusal.Misread.TheVariants as misread
 use Rattle.worktree_report.specs.declared.setup.Setup.{Setup}
 use Rattle.worktree_report.specs.ConfigFiles.{ConfigFile}
-use Rattle.worktree_report.specs.Loading.{admitted, files_if, files_of, meta_of, modules_path, no_config, with_configs, with_specs}
+use Rattle.worktree_report.specs.Loading.{admitted, files_if, files_of, meta_of, modules_path, no_config, with_configs, with_active_platform}
 use Rattle.worktree_report.specs.Loads.{LoadsFiles}
 use Rattle.worktree_report.specs.Permissions.{admits}
 
@@ -24,7 +24,7 @@ use Rattle.worktree_report.specs.Permissions.{admits}
 pub record IsTextOutside (permissions : Permissions) (named : ConfigFile) (line : ℕ) : Type 0 where
   pub admitted : admits permissions named.0 ≡ true
   pub text : List ℕ
-  pub outside : said (meta_of named) text ≡ Err line
+  pub outside : parse_text_sections (meta_of named) text ≡ Err line
 
 -- So has one of the setup, by its number among them, counted from 1.
 pub record IsConfigOutside (setup : Setup) (at line : ℕ) : Type 0 where
@@ -43,7 +43,7 @@ pub record IsModulesOutside (root : List ℕ) (line : ℕ) : Type 0 where
 -- A value of `submodule.active` is refused, by its number in some configuration.
 pub record IsActiveOutside (folds : Bool) (which : Misread) : Type 0 where
   pub modules : Modules
-  pub outside : with_specs folds modules ≡ Err which
+  pub outside : with_active_platform folds modules ≡ Err which
 
 -- what is outside its grammar is a configuration of the setup that is admitted, `.gitmodules`, or a value of `submodule.active`
 abbrev pub IsOutside : List ℕ → Setup → Misread → Type 0

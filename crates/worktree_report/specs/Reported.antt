@@ -34,15 +34,15 @@ use Rattle.worktree_report.specs.declared.setup.Setup.{Setup}
 use Rattle.worktree_report.specs.declared.refusal.Refusal.{Refusal}
 use Rattle.worktree_report.specs.declared.refusal.Refusal.TheVariants as refusals
 use Rattle.worktree_report.specs.declared.refusal.WalkWord.{WalkWord}
-use Rattle.worktree_report.specs.Asked.{asked_of, chosen_of, read_in, text_of, About, Found, NoRoot, Refuses, IsReportOf, IsWalkOf, ReadsWithin, IsSafeAt, IsValidAt, ListsAt, WorksAt, RefusesWalkAt, IsAboutWalkAt}
-use Rattle.worktree_report.specs.Converted.{of_report, IsOfWalking}
+use Rattle.worktree_report.specs.Asked.{asked_of, chosen_of, read_in, text_of, ErrorAgreesWithInput, ErrorAgreesWithTree, NoRoot, Refuses, IsReportOf, IsWalkOf, ReadsWithin, IsSafeAt, IsValidAt, ListsAt, WorksAt, RefusesWalkAt, IsAboutWalkAt}
+use Rattle.worktree_report.specs.Converted.{refusal_of_report_error, IsOfWalking}
 use Rattle.worktree_report.specs.Excluding.{excludes_of}
 use Rattle.worktree_report.specs.Lines.{text_with}
 use Rattle.worktree_report.specs.Loading.{files_if, known_in, IsKnown}
 use Rattle.worktree_report.specs.Loads.{of_walk, HasLoaded}
 use Rattle.worktree_report.specs.Orderly.{IsOrderly, IsOrderlyText}
 use Rattle.worktree_report.specs.Outside.{FailsLoading, IsOutside, LoadsAlone, MisreadsAt, OnMisread, OnReading, Stops}
-use Rattle.worktree_report.specs.Submodules.{described}
+use Rattle.worktree_report.specs.Submodules.{report_with_submodules}
 use Rattle.worktree_report.specs.Unopened.{deep_report, unlisted_report}
 
 -- The whole path of the traversal root that a setup asks for in a tree.
@@ -80,8 +80,8 @@ pub record Reports {W F I : Type 0} (w : WorktreeOf W) (f : FindOf F) (i : Inter
   pub named : (t : Names) → w.told w0 ≡ Some t → NotIncreased (w.faults w0) (w.faults w1)
       → IfOk result (λ r. IsNamedRoot (w.precomposes w0) t root setup r.root)
   -- Each refusal has its cause; over a told tree it is found there, whatever failed.
-  pub about : IfErr result (About (w.precomposes w0) root setup)
-  pub found : (s : Sources) → w.told w0 ≡ Some s.tree → IfErr result (Found (w.precomposes w0) root setup (f.holds o0) s)
+  pub about : IfErr result (ErrorAgreesWithInput (w.precomposes w0) root setup)
+  pub found : (s : Sources) → w.told w0 ≡ Some s.tree → IfErr result (ErrorAgreesWithTree (w.precomposes w0) root setup (f.holds o0) s)
   pub cause : IfErr result (OnFault (Increased (w.faults w0) (w.faults w1)) (Increased (f.faults o0) (f.faults o1)))
   pub interrupted : IfErr result (OnInterrupt (Increased (i.raised i0) (i.raised i1)))
   pub listing : IfErr result (OnListingFault (Increased (w.list_faults w0) (w.list_faults w1)))
@@ -132,7 +132,7 @@ Misreads given errors.OutOfMemory = Unit {0}
 
 -- a report is that of a walk with the submodules, and is refused for want of memory or as the walk is
 abbrev pub Describes : Result Report ReportError → Option Known → Result WalkReport Error → Type 0
-Describes (Ok r) known (Ok walked) = r ≡ described known walked
+Describes (Ok r) known (Ok walked) = r ≡ report_with_submodules known walked
 Describes (Ok r) known (Err e) = ⊥
 Describes (Err error) known (Ok walked) = error ≡ errors.OutOfMemory
 Describes (Err error) known (Err e) = error ≡ of_walk e
@@ -175,8 +175,8 @@ pub record MakesReport {W F I : Type 0} (w : WorktreeOf W) (f : FindOf F) (i : I
   -- No reading that failed is made again: where there is a report, or the walk was refused, each of these files was read once.
   pub loaded : OnOk result (LoadsFirst w w0 w1 (files_if setup))
   pub loaded_walk : IfErr result (OnWalk (λ e. LoadsFirst w w0 w1 (files_if setup)))
-  pub about : IfErr result (OnWalk (About (w.precomposes w0) root setup))
-  pub found : (s : Sources) → w.told w0 ≡ Some s.tree → IfErr result (OnWalk (Found (w.precomposes w0) root setup (f.holds o0) s))
+  pub about : IfErr result (OnWalk (ErrorAgreesWithInput (w.precomposes w0) root setup))
+  pub found : (s : Sources) → w.told w0 ≡ Some s.tree → IfErr result (OnWalk (ErrorAgreesWithTree (w.precomposes w0) root setup (f.holds o0) s))
   pub cause : IfErr result (OnReportFault (Increased (w.faults w0) (w.faults w1)) (Increased (f.faults o0) (f.faults o1)))
   pub interrupted : IfErr result (OnWalk (OnInterrupt (Increased (i.raised i0) (i.raised i1))))
   pub listing : IfErr result (OnWalk (OnListingFault (Increased (w.list_faults w0) (w.list_faults w1))))
@@ -202,7 +202,7 @@ pub record MakesReport {W F I : Type 0} (w : WorktreeOf W) (f : FindOf F) (i : I
 -- refused one more.
 pub record RefusesMaking {W I : Type 0} (w : WorktreeOf W) (i : InterruptOf I) (composes : Bool) (w0 w1 : W) (i0 i1 : I) (root : List ℕ) (setup : Setup) (refusal : Refusal) : Type 0 where
   pub error : ReportError
-  pub is : refusal ≡ of_report error
+  pub is : refusal ≡ refusal_of_report_error error
   pub opens : LoadsAndOpens w i composes w0 w1 i0 i1 root setup (Err error) (EntersOverTree w composes w0 w1 root setup (unlisted_report {T = Report} (Err error)))
 
 -- It is the text of a report that was made once: no more was opened, asked and read than making it takes, whatever failed. What tells of

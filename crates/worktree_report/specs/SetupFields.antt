@@ -10,5 +10,5 @@ abbrev pub parted_at : List ℕ → ℕ → Parted
 parted_at bytes place = record { word = take place bytes; rest = drop (place + 1) bytes }
 
 -- the bytes before the first space, and those behind it; none where there is no space
-abbrev pub parted : List ℕ → Option Parted
-parted bytes = option_map (parted_at bytes) (position (λ b. b == 32) bytes)
+abbrev pub split_at_first_space : List ℕ → Option Parted
+split_at_first_space bytes = option_map (parted_at bytes) (position (λ b. b == 32) bytes)

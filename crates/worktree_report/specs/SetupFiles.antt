@@ -8,7 +8,7 @@ use Rattle.git_config_lite.specs.declared.metadata.Source.TheVariants.{GitInstal
 use Rattle.worktree_report.specs.declared.setup.files.SetupBlob.{SetupBlob}
 use Rattle.worktree_report.specs.ConfigFiles.{ConfigFile}
 use Rattle.worktree_report.specs.Escapes.{unescaped}
-use Rattle.worktree_report.specs.SetupFields.{parted}
+use Rattle.worktree_report.specs.SetupFields.{split_at_first_space}
 use Rattle.worktree_report.specs.SetupIndex.{id_of}
 use Rattle.gitbase_core.specs.Steps.{◌>>=◌}
 
@@ -17,7 +17,7 @@ use Rattle.gitbase_core.specs.Steps.{◌>>=◌}
 -- `ID BYTES`, behind the keyword: an id as in the index, and escaped bytes
 abbrev pub blob_of : List ℕ → Option SetupBlob
 blob_of rest = do
-  fields ← parted rest
+  fields ← split_at_first_space rest
   id ← id_of fields.word
   bytes ← unescaped fields.rest
   Some (record { id = id; bytes = bytes })
@@ -47,6 +47,6 @@ file_if_absolute source path = if is_absolute path then Some (source, path) else
 -- `SOURCE PATH`, behind the keyword: that word, and an absolute path as it stands
 abbrev pub config_of : List ℕ → Option ConfigFile
 config_of rest = do
-  fields ← parted rest
+  fields ← split_at_first_space rest
   source ← source_of fields.word
   file_if_absolute source fields.rest

@@ -9,7 +9,7 @@ use Rattle.gitbase_core.specs.declared.entry.Flags.{Flags}
 use Rattle.gitbase_core.specs.declared.entry.IndexEntry.{IndexEntry}
 use Rattle.gitbase_core.specs.Steps.{◌>>=◌}
 use Rattle.worktree_report.specs.Escapes.{unescaped}
-use Rattle.worktree_report.specs.SetupFields.{parted}
+use Rattle.worktree_report.specs.SetupFields.{split_at_first_space}
 
 abbrev mode_with : ℕ → Mode
 mode_with bits = record { 0 = bits }
@@ -64,10 +64,10 @@ pub record IndexWords : Type 0 where
 
 abbrev pub index_words : List ℕ → Option IndexWords
 index_words rest = do
-  first ← parted rest
-  second ← parted first.rest
-  third ← parted second.rest
-  fourth ← parted third.rest
+  first ← split_at_first_space rest
+  second ← split_at_first_space first.rest
+  third ← split_at_first_space second.rest
+  fourth ← split_at_first_space third.rest
   Some (record { mode = first.word; stage = second.word; flags = third.word; id = fourth.word; path = fourth.rest })
 
 -- what the words of an entry say

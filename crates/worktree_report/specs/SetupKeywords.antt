@@ -6,7 +6,7 @@ use Rattle.gitbase_core.specs.Path.{is_empty, is_absolute}
 use Rattle.worktree_report.specs.declared.setup.line.SetupLine.{SetupLine}
 use Rattle.worktree_report.specs.declared.setup.line.SetupLine.TheVariants.{Skipped, Sets, Indexes, Stores, OverrideRule, GlobalRule, Specifies, SetsApart, Configures}
 use Rattle.worktree_report.specs.Escapes.{unescaped}
-use Rattle.worktree_report.specs.SetupFields.{Parted, parted}
+use Rattle.worktree_report.specs.SetupFields.{Parted, split_at_first_space}
 use Rattle.worktree_report.specs.SetupDepth.{depth_of}
 use Rattle.worktree_report.specs.SetupOptions.{option_of}
 use Rattle.worktree_report.specs.SetupIndex.{index_entry}
@@ -76,4 +76,4 @@ keyword_line fields =
 
 -- what a line says by itself; none where it says nothing
 abbrev pub line_of : List ℕ → Option SetupLine
-line_of line = if is_skipped line then Some Skipped else option_and_then keyword_line (parted line)
+line_of line = if is_skipped line then Some Skipped else option_and_then keyword_line (split_at_first_space line)

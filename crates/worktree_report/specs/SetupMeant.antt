@@ -149,8 +149,8 @@ ordered_after paths [] = paths
 ordered_after paths (path ∷ more) = ordered_after (insert_key (slice_cmp nat_cmp) paths path) more
 
 -- the setup that is meant by what the lines say
-abbrev pub meant : Said → Setup
-meant all =
+abbrev pub setup_from_draft : Said → Setup
+setup_from_draft all =
     record {
       git_dir = value_of (codes "git_dir") all.options;
       current_dir = value_of (codes "current_dir") all.options;

@@ -3,11 +3,11 @@ use Rattle.std.specs.Prelude.{ℕ, List, Bool, ◌&&◌, ◌||◌, if◌then◌e
 use Rattle.std.specs.Str.{bytes_eq}
 use Rattle.std.specs.List.{list_any}
 use Rattle.worktree_report.specs.declared.setup.option.SetupOption.{SetupOption}
-use Rattle.worktree_report.specs.SetupFields.{Parted, parted}
+use Rattle.worktree_report.specs.SetupFields.{Parted, split_at_first_space}
 
 -- an option that is no or yes, and says how paths are looked at
-abbrev pub is_looking : List ℕ → Bool
-is_looking name =
+abbrev pub is_classification_switch : List ℕ → Bool
+is_classification_switch name =
     bytes_eq name (codes "excludes")
     || bytes_eq name (codes "precious")
     || bytes_eq name (codes "strict_parents")
@@ -51,28 +51,28 @@ abbrev pub is_strategy : List ℕ → Bool
 is_strategy value = bytes_eq value (codes "held") || bytes_eq value (codes "at_once")
 
 -- whether an option that says where files are read, or how subtrees are walked, may have a value
-abbrev pub may_go_by : List ℕ → List ℕ → Bool
-may_go_by name value =
+abbrev pub is_valid_source_or_strategy : List ℕ → List ℕ → Bool
+is_valid_source_or_strategy name value =
     if bytes_eq name (codes "ignore_source") then is_ignore_source value
     else if bytes_eq name (codes "permissions") then is_permissions value
     else bytes_eq name (codes "strategy") && is_strategy value
 
 -- whether an option may have a value
-abbrev pub may_be : List ℕ → List ℕ → Bool
-may_be name value =
-    if is_looking name || is_reporting name then bytes_eq value (codes "no") || bytes_eq value (codes "yes")
+abbrev pub is_valid_option_value : List ℕ → List ℕ → Bool
+is_valid_option_value name value =
+    if is_classification_switch name || is_reporting name then bytes_eq value (codes "no") || bytes_eq value (codes "yes")
     else if bytes_eq name (codes "emit_untracked") then is_emission value
     else if bytes_eq name (codes "emit_ignored") then bytes_eq value (codes "no") || is_emission value
     else if bytes_eq name (codes "emit_collapsed") then bytes_eq value (codes "no") || is_collapsed_emission value
     else if bytes_eq name (codes "for_deletion") then bytes_eq value (codes "no") || is_deletion value
-    else may_go_by name value
+    else is_valid_source_or_strategy name value
 
 abbrev pub option_if_known : Parted → Option SetupOption
-option_if_known fields = if may_be fields.word fields.rest then Some (record { name = fields.word; value = fields.rest }) else None
+option_if_known fields = if is_valid_option_value fields.word fields.rest then Some (record { name = fields.word; value = fields.rest }) else None
 
 -- `NAME VALUE`, behind the keyword
 abbrev pub option_of : List ℕ → Option SetupOption
-option_of rest = option_and_then option_if_known (parted rest)
+option_of rest = option_and_then option_if_known (split_at_first_space rest)
 
 -- whether an option is set
 abbrev pub is_set : List ℕ → List SetupOption → Bool

@@ -21,8 +21,8 @@ abbrev pub nothing : Said
 nothing = record { options = []; index = []; blobs = []; overrides = []; globals = []; specs = []; worktrees = []; configs = [] }
 
 -- what is said, and behind it what is said later
-abbrev pub both : Said → Said → Said
-both a b =
+abbrev pub merge_said : Said → Said → Said
+merge_said a b =
     record {
       options = a.options ++ b.options;
       index = a.index ++ b.index;

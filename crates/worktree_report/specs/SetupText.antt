@@ -6,27 +6,27 @@ use Rattle.worktree_report.specs.declared.setup.line.SetupLine.{SetupLine}
 use Rattle.worktree_report.specs.declared.setup.line.SetupLine.TheVariants.{Skipped, Sets, Indexes, Stores, OverrideRule, GlobalRule, Specifies, SetsApart, Configures}
 use Rattle.worktree_report.specs.declared.setup.Setup.{Setup}
 use Rattle.worktree_report.specs.SetupKeywords.{line_of}
-use Rattle.worktree_report.specs.SetupMeant.{meant}
+use Rattle.worktree_report.specs.SetupMeant.{setup_from_draft}
 use Rattle.worktree_report.specs.SetupOptions.{is_set}
-use Rattle.worktree_report.specs.SetupSaid.{Said, nothing, both}
+use Rattle.worktree_report.specs.SetupSaid.{Said, nothing, merge_said}
 
 -- what a line says beside others; a rule is a line of its own in the text that it belongs to
-abbrev pub says : Option SetupLine → Said
-says None = nothing
-says (Some Skipped) = nothing
-says (Some (Sets o)) = record nothing { options = o ∷ [] }
-says (Some (Indexes e)) = record nothing { index = e ∷ [] }
-says (Some (Stores given)) = record nothing { blobs = given ∷ [] }
-says (Some (OverrideRule rule)) = record nothing { overrides = rule ++ 10 ∷ [] }
-says (Some (GlobalRule rule)) = record nothing { globals = rule ++ 10 ∷ [] }
-says (Some (Specifies text)) = record nothing { specs = text ∷ [] }
-says (Some (SetsApart path)) = record nothing { worktrees = path ∷ [] }
-says (Some (Configures named)) = record nothing { configs = named ∷ [] }
+abbrev pub said_by_line : Option SetupLine → Said
+said_by_line None = nothing
+said_by_line (Some Skipped) = nothing
+said_by_line (Some (Sets o)) = record nothing { options = o ∷ [] }
+said_by_line (Some (Indexes e)) = record nothing { index = e ∷ [] }
+said_by_line (Some (Stores given)) = record nothing { blobs = given ∷ [] }
+said_by_line (Some (OverrideRule rule)) = record nothing { overrides = rule ++ 10 ∷ [] }
+said_by_line (Some (GlobalRule rule)) = record nothing { globals = rule ++ 10 ∷ [] }
+said_by_line (Some (Specifies text)) = record nothing { specs = text ∷ [] }
+said_by_line (Some (SetsApart path)) = record nothing { worktrees = path ∷ [] }
+said_by_line (Some (Configures named)) = record nothing { configs = named ∷ [] }
 
 -- what lines say together
 unfoldable pub said : List (List ℕ) → Said
 said [] = nothing
-said (line ∷ lines) = both (says (line_of line)) (said lines)
+said (line ∷ lines) = merge_said (said_by_line (line_of line)) (said lines)
 
 -- a line says nothing, sets again what is set, or gives an entry that may not follow the earlier ones
 abbrev pub is_refused : Said → Option SetupLine → Bool
@@ -42,8 +42,8 @@ is_refused earlier (Some (SetsApart path)) = false
 is_refused earlier (Some (Configures named)) = false
 
 -- what is said with one more line, where that is in the grammar
-abbrev pub taken : Said → Option SetupLine → Option Said
-taken earlier line = if is_refused earlier line then None else Some (both earlier (says line))
+abbrev pub add_setup_line : Said → Option SetupLine → Option Said
+add_setup_line earlier line = if is_refused earlier line then None else Some (merge_said earlier (said_by_line line))
 
 -- the number of the first line outside the grammar
 unfoldable pub first_outside : List (List ℕ) → List (List ℕ) → Option ℕ
@@ -59,7 +59,7 @@ text_lines bytes = slice_split (λ b. b == 10) bytes
 -- what the lines mean, or the first that is outside the grammar
 abbrev pub unless_outside : Said → Option ℕ → Result Setup ℕ
 unless_outside all (Some line) = Err line
-unless_outside all None = Ok (meant all)
+unless_outside all None = Ok (setup_from_draft all)
 
 -- The setup that a text means, or the number of its first line outside the grammar.
 unfoldable pub setup_of : List ℕ → Result Setup ℕ

@@ -9,6 +9,6 @@ pub record Spells (s : Spelled) (first : ℕ) (rest : List ℕ) : Type 0 where
   pub means : unescaped (first ∷ rest) ≡ option_map (λ (more : List ℕ). s.byte ∷ more) (unescaped (drop s.more rest))
 
 -- a text begins with a byte that is spelled, or stands for nothing
-abbrev pub Begins : Option Spelled → ℕ → List ℕ → Type 0
-Begins None first rest = unescaped (first ∷ rest) ≡ None
-Begins (Some s) first rest = Spells s first rest
+abbrev pub BeginsWithSpelledByte : Option Spelled → ℕ → List ℕ → Type 0
+BeginsWithSpelledByte None first rest = unescaped (first ∷ rest) ≡ None
+BeginsWithSpelledByte (Some s) first rest = Spells s first rest

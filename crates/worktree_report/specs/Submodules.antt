@@ -48,5 +48,5 @@ abbrev pub emission_in : ReportEntry → Emission
 emission_in entry = (entry.entry, entry.collapsed)
 
 -- what a walk gave, with the submodules
-abbrev pub described : Option Known → WalkReport → Report
-described known walked = record { entries = map (entry_in known) walked.entries; outcome = walked.outcome; root = walked.root }
+abbrev pub report_with_submodules : Option Known → WalkReport → Report
+report_with_submodules known walked = record { entries = map (entry_in known) walked.entries; outcome = walked.outcome; root = walked.root }

@@ -14,11 +14,11 @@ use Rattle.worktree_report.specs.declared.setup.SetupOptions.{SetupOptions}
 use Rattle.worktree_report.specs.Lines.{text_with}
 use Rattle.worktree_report.specs.Loads.{of_walk}
 use Rattle.worktree_report.specs.Reported.{MakesReport}
-use Rattle.worktree_report.specs.Submodules.{described}
+use Rattle.worktree_report.specs.Submodules.{report_with_submodules}
 
 -- a text is that of the report that a walk gives with the submodules, and is refused for want of memory or as the walk is
 abbrev pub DescribesText : Result (List ℕ) ReportError → SetupOptions → Option Known → Result WalkReport Error → Type 0
-DescribesText (Ok text) options known (Ok walked) = text ≡ text_with options (described known walked)
+DescribesText (Ok text) options known (Ok walked) = text ≡ text_with options (report_with_submodules known walked)
 DescribesText (Ok text) options known (Err e) = ⊥
 DescribesText (Err error) options known (Ok walked) = error ≡ errors.OutOfMemory
 DescribesText (Err error) options known (Err e) = error ≡ of_walk e

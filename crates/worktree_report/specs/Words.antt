@@ -44,13 +44,13 @@ pub data Command : Type 0 where
   generate : ℕ → Command
 
 -- the words behind this first one
-abbrev pub behind : List ℕ → List (List ℕ) → Option (List (List ℕ))
-behind name [] = None
-behind name (word ∷ words) = if bytes_eq word name then Some words else None
+abbrev pub words_after_name : List ℕ → List (List ℕ) → Option (List (List ℕ))
+words_after_name name [] = None
+words_after_name name (word ∷ words) = if bytes_eq word name then Some words else None
 
 -- the words of a command: `composed` stands before them exactly where the worktree composes names
 abbrev pub command_words : Bool → List (List ℕ) → Option (List (List ℕ))
-command_words composes words = if composes then behind (codes "composed") words else Some words
+command_words composes words = if composes then words_after_name (codes "composed") words else Some words
 
 -- ROOT and SETUP, two plain paths
 abbrev pub places_of : List (List ℕ) → Option Places
@@ -60,7 +60,7 @@ places_of _ = None
 
 -- the name of a command, ROOT and SETUP
 unfoldable pub places_behind : List ℕ → Bool → List (List ℕ) → Option Places
-places_behind name composes words = option_and_then places_of (option_and_then (behind name) (command_words composes words))
+places_behind name composes words = option_and_then places_of (option_and_then (words_after_name name) (command_words composes words))
 
 -- `generate N`
 abbrev pub generate_words : List (List ℕ) → Option ℕ

@@ -1,20 +1,21 @@
 //! Paths below a directory by their components.
 ghost use Rattle.std.specs.Prelude.{◌≡◌, ℕ, length, drop, IfOk};
 ghost use Rattle.gitbase_core.specs.Path.{components};
-ghost use Rattle.worktree_report.specs.Below.{below, through};
+ghost use Rattle.worktree_report.specs.Below.{join_first_components, join_components_through};
 
 use gitbase_core::{OutOfMemory, PathText, split_component};
 use std::alloc::Global;
 
 /// A directory and the first components of a path below it, so many of them, or all where there are
 /// no more.
-pub fn below(
+pub fn join_first_components(
     alloc: Global,
     directory: &[u8],
     count: usize,
     path: &[u8],
 ) -> Result<PathText, OutOfMemory>
-    ensures { IfOk result (λ front. front ≡ below directory.now count (components path.now)) }
+    ensures { IfOk result (λ front. front ≡ join_first_components directory.now count (components
+        path.now)) }
 {
     let mut front = PathText::from_bytes(alloc, directory)?;
     let mut left = count;
@@ -31,20 +32,21 @@ pub fn below(
 }
 
 /// A directory and the components of a path below it, up to the one with this number, from 0.
-pub fn through(
+pub fn join_components_through(
     alloc: Global,
     directory: &[u8],
     number: usize,
     path: &[u8],
 ) -> Result<PathText, OutOfMemory>
-    ensures { IfOk result (λ front. front ≡ through directory.now number (components path.now)) }
+    ensures { IfOk result (λ front. front ≡ join_components_through directory.now number (components
+        path.now)) }
 {
     let mut front = PathText::from_bytes(alloc, directory)?;
     let Some((name, after)) = split_component(path) else {
         return Ok(front);
     };
     front.push_component(alloc, name)?;
-    below(alloc, front.as_bytes(), number, after)
+    join_first_components(alloc, front.as_bytes(), number, after)
 }
 
 /// What stands behind so many bytes of a path.

@@ -3,7 +3,7 @@ ghost use Rattle.worktree_report.specs.Reported.{Describes, MakesReport};
 
 use crate::error::ReportError;
 use crate::known::{Known, known_in};
-use crate::report::{Report, described};
+use crate::report::{Report, report_with_submodules};
 use crate::setup::Setup;
 use crate::walk_by_setup::walk_by_setup;
 use dir_classify::Error;
@@ -21,7 +21,7 @@ fn report_by(
     ensures { Describes result known walked }
 {
     match walked {
-        Ok(walked) => Ok(described(alloc, &mut known, walked)?),
+        Ok(walked) => Ok(report_with_submodules(alloc, &mut known, walked)?),
         Err(error) => Err(ReportError::from(error)),
     }
 }

@@ -1,9 +1,9 @@
 //! Why there is no report, where the walk was refused.
 ghost use Rattle.std.specs.Prelude.{◌≡◌, IfOk};
 ghost use Rattle.worktree_report.specs.Refusals.{status_of};
-ghost use Rattle.worktree_report.specs.Converted.{of_lookup, of_walk, of_report, component_path};
+ghost use Rattle.worktree_report.specs.Converted.{of_lookup, refusal_of_walk_error, refusal_of_report_error, component_path};
 
-use crate::below::{behind, through};
+use crate::below::{behind, join_components_through};
 use crate::error::ReportError;
 use crate::refusal::{Misread, Refusal, WalkWord};
 use dir_classify::{Error, MetadataWhy, ReadWhy};
@@ -61,7 +61,7 @@ fn of_lookup(alloc: Global, refused: &AtPathError) -> Result<Refusal, OutOfMemor
 
 /// Why there is no report, where a listing was refused.
 fn of_listing(path: PathText, why: ReadWhy) -> Refusal
-    ensures { result ≡ of_walk (Error.ReadDir path why) }
+    ensures { result ≡ refusal_of_walk_error (Error.ReadDir path why) }
 {
     match why {
         ReadWhy::Absent => Refusal::Walk {
@@ -78,7 +78,7 @@ fn of_listing(path: PathText, why: ReadWhy) -> Refusal
 
 /// Why there is no report, where the kind of a component of the traversal root could not be had.
 fn of_metadata(path: PathText, why: MetadataWhy) -> Refusal
-    ensures { result ≡ of_walk (Error.SymlinkMetadata path why) }
+    ensures { result ≡ refusal_of_walk_error (Error.SymlinkMetadata path why) }
 {
     match why {
         MetadataWhy::Absent => Refusal::Walk {
@@ -90,7 +90,7 @@ fn of_metadata(path: PathText, why: MetadataWhy) -> Refusal
 }
 
 /// Why there is no report, where a component of the traversal root is a link.
-fn of_link(
+fn refusal_of_root_link(
     alloc: Global,
     whole: PathText,
     worktree_root: PathText,
@@ -103,7 +103,7 @@ fn of_link(
     let rest = behind(whole.as_bytes(), root.len());
     Ok(Refusal::Walk {
         word: WalkWord::SymlinkInRoot,
-        path: through(alloc, root, number, rest)?,
+        path: join_components_through(alloc, root, number, rest)?,
     })
 }
 
@@ -112,8 +112,8 @@ fn of_link(
 /// # Errors
 ///
 /// Memory was refused.
-pub fn of_walk(alloc: Global, error: Error) -> Result<Refusal, OutOfMemory>
-    ensures { IfOk result (λ refusal. refusal ≡ of_walk error) }
+pub fn refusal_of_walk_error(alloc: Global, error: Error) -> Result<Refusal, OutOfMemory>
+    ensures { IfOk result (λ refusal. refusal ≡ refusal_of_walk_error error) }
 {
     match error {
         Error::Interrupted => Ok(Refusal::Interrupted),
@@ -138,7 +138,7 @@ pub fn of_walk(alloc: Global, error: Error) -> Result<Refusal, OutOfMemory>
             root,
             worktree_root,
             component_index,
-        } => of_link(alloc, root, worktree_root, component_index),
+        } => refusal_of_root_link(alloc, root, worktree_root, component_index),
         Error::SymlinkMetadata { path, why } => Ok(of_metadata(path, why)),
         Error::OutOfMemory => Ok(Refusal::OutOfMemory),
     }
@@ -149,15 +149,15 @@ pub fn of_walk(alloc: Global, error: Error) -> Result<Refusal, OutOfMemory>
 /// # Errors
 ///
 /// Memory was refused.
-pub fn of_report(alloc: Global, error: ReportError) -> Result<Refusal, OutOfMemory>
-    ensures { IfOk result (λ refusal. refusal ≡ of_report error) }
+pub fn refusal_of_report_error(alloc: Global, error: ReportError) -> Result<Refusal, OutOfMemory>
+    ensures { IfOk result (λ refusal. refusal ≡ refusal_of_report_error error) }
 {
     match error {
         ReportError::Config { at, line } => Ok(Refusal::Misread(Misread::Config { at, line })),
         ReportError::Modules { line } => Ok(Refusal::Misread(Misread::Modules { line })),
         ReportError::ActiveSpec { at } => Ok(Refusal::Misread(Misread::ActiveSpec { at })),
         ReportError::ReadFault => Ok(Refusal::Fault),
-        ReportError::Walk(error) => of_walk(alloc, error),
+        ReportError::Walk(error) => refusal_of_walk_error(alloc, error),
         ReportError::OutOfMemory => Ok(Refusal::OutOfMemory),
     }
 }
@@ -187,7 +187,7 @@ fn lookup_status(refused: &AtPathError) -> u8
 
 /// The status that the program ends with where the walk was refused.
 fn walk_status(error: &Error) -> u8
-    ensures { result ≡ status_of (of_walk error.now) }
+    ensures { result ≡ status_of (refusal_of_walk_error error.now) }
 {
     match error {
         Error::Interrupted => 1,
@@ -227,7 +227,7 @@ fn walk_status(error: &Error) -> u8
 /// | 6 | the worktree or the store failed |
 /// | 8 | want of memory |
 pub fn report_status(error: &ReportError) -> u8
-    ensures { result ≡ status_of (of_report error.now) }
+    ensures { result ≡ status_of (refusal_of_report_error error.now) }
 {
     match error {
         ReportError::Config { at: _, line: _ } => 5,

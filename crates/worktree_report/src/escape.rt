@@ -2,7 +2,7 @@
 ghost use Rattle.std.specs.Prelude.{◌≡◌, ◌+◌, ◌*◌, ◌<◌, length, ◌++◌, [], ◌∷◌, drop, option_map, OnOk, IfOk};
 ghost use Rattle.std.specs.List.{list_any};
 ghost use Rattle.worktree_report.specs.Escapes.{hex_digit, is_escaped, spelled_out, escaped_byte, escaped, escaped_byte_in_word, escaped_in_word, digit_value, hex_byte, unescaped};
-ghost use Rattle.worktree_report.specs.Spelled.{Begins};
+ghost use Rattle.worktree_report.specs.Spelled.{BeginsWithSpelledByte};
 
 use gitbase_core::{OutOfMemory, PathText};
 use std::alloc::Global;
@@ -133,7 +133,7 @@ struct Spelled {
 /// The byte that a text stands for at its beginning. None where a backslash is not followed by two
 /// digits.
 fn spelled_byte(first: u8, rest: &[u8]) -> Option<Spelled>
-    ensures { Begins result first rest.now }
+    ensures { BeginsWithSpelledByte result first rest.now }
 {
     if first != b'\\' {
         return Some(Spelled {

@@ -142,7 +142,7 @@ fn setup_of(alloc: Global, count: usize) -> Result<Setup, OutOfMemory>
 
 /// Why there is no report of a tree in memory, of which no call is planned to fail: the interrupt
 /// was raised, or memory is wanted, which would be answered for any other refusal too.
-fn of_own(error: Error) -> Refusal
+fn refusal_of_generated_walk(error: Error) -> Refusal
     ensures answers { IsOfGenerating result }
     ensures interrupted { result ≡ Refusal.Interrupted → error ≡ Error.Interrupted }
 {
@@ -177,7 +177,7 @@ fn own_report<I: Interrupt>(
     let mut objects = setup.blobs.fork(alloc)?;
     let report = match walk_by_setup(alloc, &mut tree, &mut objects, interrupt, ROOT, setup) {
         Ok(report) => report,
-        Err(error) => return Err(of_own(error)),
+        Err(error) => return Err(refusal_of_generated_walk(error)),
     };
     if tree.fault_count() != faults {
         return Err(Refusal::OutOfMemory);

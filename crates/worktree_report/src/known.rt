@@ -3,7 +3,7 @@ ghost use Rattle.std.specs.Prelude.{◌≡◌, ◌≤◌, ℕ, true, false, Some
 ghost use Rattle.submodule.specs.Active.{platform};
 ghost use Rattle.worktree_fs.specs.Causes.{Increased, with_more};
 ghost use Rattle.worktree_fs.specs.Tree.{Names};
-ghost use Rattle.worktree_report.specs.Loading.{known_in, with_specs, files_if};
+ghost use Rattle.worktree_report.specs.Loading.{known_in, with_active_platform, files_if};
 ghost use Rattle.worktree_report.specs.Loads.{Gives, LoadsFiles, OfKnown};
 ghost use Rattle.worktree_report.specs.Outside.{IsActiveOf, IsOutside, OnMisread, OnReading, Stops};
 
@@ -28,12 +28,12 @@ pub struct Known {
 /// `ActiveSpec` names the first value of `submodule.active` that is refused.
 ///
 /// See docs/DECISIONS.md#active-always-read.
-fn with_specs(
+fn with_active_platform(
     alloc: Global,
     modules: Modules,
     ignore_case: bool,
 ) -> Result<Option<Known>, ReportError>
-    ensures gives { Gives result (with_specs ignore_case modules) }
+    ensures gives { Gives result (with_active_platform ignore_case modules) }
     ensures known { IfOk result (λ known. is_some known ≡ true) }
     ensures answers { IfErr result (OfKnown ⊥) }
     ensures outside { IfErr result (OnMisread (IsActiveOf ignore_case)) }
@@ -77,5 +77,5 @@ pub fn known_in<W: Worktree>(
         return Ok(None);
     }
     let modules = load_modules(alloc, worktree, root, setup)?;
-    with_specs(alloc, modules, setup.options.ignore_case)
+    with_active_platform(alloc, modules, setup.options.ignore_case)
 }

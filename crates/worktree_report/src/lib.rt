@@ -26,7 +26,7 @@ mod words;
 mod write_whole;
 
 pub use by_setup::worktree_report;
-pub use converted::{of_report, report_status};
+pub use converted::{refusal_of_report_error, report_status};
 pub use dir_walk::Strategy;
 pub use error::ReportError;
 pub use escape::{add_escaped, add_escaped_in_word};
@@ -42,6 +42,6 @@ pub use setup::configs::Configs;
 pub use setup::depth::depth_of;
 pub use setup::{Setup, SetupError, SetupOptions};
 pub use setup_file::read_setup;
-pub use top_call::finish;
+pub use top_call::write_answer;
 pub use walk_by_setup::{lookup_of, walked_text};
-pub use words::{Places, behind, command_words, places_behind, places_of};
+pub use words::{Places, command_words, places_behind, places_of, words_after_name};

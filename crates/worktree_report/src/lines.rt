@@ -3,7 +3,7 @@ ghost use Rattle.std.specs.Prelude.{◌≡◌, ◌++◌, decimal, if◌then◌el
 ghost use Rattle.worktree_report.specs.Lines.{status_word, kind_word, match_word, property_word, collapsed_word, activity_word, facts_word, facts_if, rules_file, group_word, origin_word, origin_if, spaced, class_words, line_of, lines_of, outcome_line, text_with};
 ghost use Rattle.worktree_report.specs.Submodules.{of_parts};
 
-use crate::below::below;
+use crate::below::join_first_components;
 use crate::escape::{add_escaped, add_escaped_in_word};
 use crate::facts::{Activity, Facts};
 use crate::report::{Report, ReportEntry};
@@ -123,7 +123,7 @@ fn add_facts_if(
 fn rules_file(alloc: Global, path: &[u8], depth: usize) -> Result<PathText, OutOfMemory>
     ensures { IfOk result (λ file. file ≡ rules_file path.now depth) }
 {
-    let mut file = below(alloc, b"", depth, path)?;
+    let mut file = join_first_components(alloc, b"", depth, path)?;
     file.push_component(alloc, b".gitignore")?;
     Ok(file)
 }

@@ -1,6 +1,6 @@
 //! The files that tell of submodules.
 ghost use Rattle.std.specs.Prelude.{◌≡◌, ◌≤◌, ℕ, Some, IfOk, IfErr, IsErrOf, OnOk, if◌then◌else◌};
-ghost use Rattle.git_config_lite.specs.Grammar.{said};
+ghost use Rattle.git_config_lite.specs.Grammar.{parse_text_sections};
 ghost use Rattle.worktree_fs.specs.Causes.{Increased, with_more};
 ghost use Rattle.worktree_fs.specs.Tree.{Names, look};
 ghost use Rattle.worktree_report.specs.Loading as loading;
@@ -60,7 +60,7 @@ fn config_of(
     named: &(Source, PathText),
     bytes: &[u8],
 ) -> Result<config::File, ReportError>
-    ensures { ReadsConfig result at (said (loading.meta_of named.now) bytes.now) }
+    ensures { ReadsConfig result at (parse_text_sections (loading.meta_of named.now) bytes.now) }
 {
     let meta = Metadata {
         source: named.0,

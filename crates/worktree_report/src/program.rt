@@ -11,7 +11,7 @@ ghost use Rattle.worktree_report.specs.Named.{named_by};
 use crate::generate::generated_text;
 use crate::refusal::Refusal;
 use crate::setup_file::read_setup;
-use crate::top_call::finish;
+use crate::top_call::write_answer;
 use crate::walk_by_setup::walked_text;
 use crate::words::{Command, Places, command_of};
 use gitbase_core::Bytes;
@@ -108,5 +108,5 @@ pub fn run<W: Worktree, I: Interrupt, S: Sink, E: Sink>(
         → NotIncreased (S.refusals out.old) (S.refusals out.new) → (result ≡ 0) ⊎ (result ≡ 8) }
 {
     let answer = text_asked(alloc, words, worktree, interrupt);
-    finish(alloc, USAGE, answer, out, err)
+    write_answer(alloc, USAGE, answer, out, err)
 }

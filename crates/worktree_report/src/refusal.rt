@@ -189,7 +189,7 @@ fn made_line(alloc: Global, refusal: &Refusal) -> Result<Option<Bytes>, OutOfMem
 }
 
 /// Says why there is no text, where the line needs no memory, and answers the status.
-pub fn say_fixed<E: Sink>(usage: &[u8], refusal: &Refusal, err: &mut E) -> u8
+pub fn write_fixed_refusal<E: Sink>(usage: &[u8], refusal: &Refusal, err: &mut E) -> u8
     requires { is_made refusal.now ≡ false }
     ensures told { IsToldOf E.Sink err.old err.new usage.now refusal.now result }
     ensures later { E.refusals err.old ≤ E.refusals err.new }
@@ -209,7 +209,7 @@ pub fn refuse<E: Sink>(alloc: Global, usage: &[u8], refusal: &Refusal, err: &mut
             say(err, line.as_bytes());
             status_of(refusal)
         }
-        Ok(None) => say_fixed(usage, refusal, err),
-        Err(OutOfMemory) => say_fixed(usage, &Refusal::OutOfMemory, err),
+        Ok(None) => write_fixed_refusal(usage, refusal, err),
+        Err(OutOfMemory) => write_fixed_refusal(usage, &Refusal::OutOfMemory, err),
     }
 }

@@ -109,12 +109,12 @@ fn entries_in(
 }
 
 /// What a walk gave, with the submodules.
-pub fn described(
+pub fn report_with_submodules(
     alloc: Global,
     known: &mut Option<Known>,
     walked: walk::Report,
 ) -> Result<Report, OutOfMemory>
-    ensures { IfOk result (λ report. report ≡ submodules.described known.old walked) }
+    ensures { IfOk result (λ report. report ≡ submodules.report_with_submodules known.old walked) }
 {
     let walk::Report {
         outcome,

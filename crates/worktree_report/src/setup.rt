@@ -21,7 +21,7 @@ use dir_walk::Strategy;
 use draft::read_lines;
 use gitbase_core::{Bytes, MemoryStore, OutOfMemory, PathText, State};
 use glob_rules::pathspec::Search;
-use meant::meant;
+use meant::setup_from_draft;
 use std::alloc::Global;
 use std::collections::BTreeSet;
 use thiserror::Error;
@@ -147,6 +147,6 @@ impl Setup {
     {
         let lines = text_lines(alloc, bytes)?;
         let draft = read_lines(alloc, &lines)?;
-        Ok(meant(alloc, draft)?)
+        Ok(setup_from_draft(alloc, draft)?)
     }
 }

@@ -1,7 +1,7 @@
 //! The text of a report, without a list of its entries beside that of the walk.
 ghost use Rattle.std.specs.Prelude.{◌≡◌, ◌++◌, map, IfOk, OnOk};
 ghost use Rattle.worktree_report.specs.Lines.{line_of, lines_of, text_with};
-ghost use Rattle.worktree_report.specs.Submodules.{described, entry_in};
+ghost use Rattle.worktree_report.specs.Submodules.{report_with_submodules, entry_in};
 ghost use Rattle.worktree_report.specs.Texted.{DescribesText, MakesTextOf};
 
 use crate::error::ReportError;
@@ -56,7 +56,8 @@ fn walk_bytes(
     walked: &walk::Report,
     options: &SetupOptions,
 ) -> Result<Bytes, OutOfMemory>
-    ensures { IfOk result (λ text. text ≡ text_with options.now (described known.old walked.now)) }
+    ensures { IfOk result (λ text. text ≡ text_with options.now (report_with_submodules known.old
+        walked.now)) }
 {
     let mut text = Vec::new(alloc);
     add_lines_in(alloc, &mut text, options, known, walked.entries.as_slice())?;

@@ -2,7 +2,7 @@
 ghost use Rattle.std.specs.Prelude.{Ok};
 ghost use Rattle.worktree_report.specs.Ends.{Ends};
 
-use crate::refusal::{Refusal, refuse, say_fixed};
+use crate::refusal::{Refusal, refuse, write_fixed_refusal};
 use crate::write_whole::write_whole;
 use gitbase_core::Bytes;
 use std::alloc::Global;
@@ -20,7 +20,7 @@ use worktree_fs::Sink;
 /// | another | that of the refusal, by [`Refusal`] |
 ///
 /// A refusal of `err` changes no byte of `out`, and no status but to 8, as want of memory is free.
-pub fn finish<S: Sink, E: Sink>(
+pub fn write_answer<S: Sink, E: Sink>(
     alloc: Global,
     usage: &[u8],
     answer: Result<Bytes, Refusal>,
@@ -41,6 +41,6 @@ fn deliver<S: Sink, E: Sink>(usage: &[u8], text: &[u8], out: &mut S, err: &mut E
 {
     match write_whole(out, text) {
         Ok(()) => 0,
-        Err(_) => say_fixed(usage, &Refusal::Output, err),
+        Err(_) => write_fixed_refusal(usage, &Refusal::Output, err),
     }
 }

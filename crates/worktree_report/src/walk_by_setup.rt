@@ -13,7 +13,7 @@ ghost use Rattle.dir_walk.specs.Walks.{Tells, WalksWorktree};
 ghost use Rattle.worktree_report.specs.Asked.{chosen_of, git_dir_or, current_dir_or, asked_of};
 ghost use Rattle.worktree_report.specs.Reported.{Reports, Texts};
 
-use crate::converted::of_report;
+use crate::converted::refusal_of_report_error;
 use crate::excludes::excludes_of;
 use crate::refusal::Refusal;
 use crate::setup::Setup;
@@ -227,6 +227,6 @@ pub fn walked_text<W: Worktree, I: Interrupt>(
     let mut objects = setup.blobs.fork(alloc)?;
     match worktree_text(alloc, worktree, &mut objects, interrupt, root, setup) {
         Ok(text) => Ok(text),
-        Err(error) => Err(of_report(alloc, error)?),
+        Err(error) => Err(refusal_of_report_error(alloc, error)?),
     }
 }

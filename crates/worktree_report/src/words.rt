@@ -3,7 +3,7 @@ ghost use Rattle.std.specs.Prelude.{◌≡◌, ◌==◌, not, option_map, option
 ghost use Rattle.std.specs.List.{slice_split, list_all, list_any};
 ghost use Rattle.worktree_fs.specs.Tree.{is_absolute};
 ghost use Rattle.worktree_fs.specs.Paths.{is_dots};
-ghost use Rattle.worktree_report.specs.Words.{is_whole_path, is_plain_path, number_behind, if_few, count_of, behind, command_words, generate_words, places_of, places_behind, command_of};
+ghost use Rattle.worktree_report.specs.Words.{is_whole_path, is_plain_path, number_behind, if_few, count_of, words_after_name, command_words, generate_words, places_of, places_behind, command_of};
 ghost use Rattle.worktree_report.specs.Named.{asked_by, named_by};
 
 use crate::setup::depth::digit_of;
@@ -100,8 +100,8 @@ fn count_of(word: &[u8]) -> Option<usize>
 }
 
 /// The words behind a first word. None where that is another one, or where there is none.
-pub fn behind<'a>(name: &[u8], words: &'a [Bytes]) -> Option<&'a [Bytes]>
-    ensures { option_map (λ rest. rest.now) result ≡ behind name.now words.now }
+pub fn words_after_name<'a>(name: &[u8], words: &'a [Bytes]) -> Option<&'a [Bytes]>
+    ensures { option_map (λ rest. rest.now) result ≡ words_after_name name.now words.now }
 {
     let Some((word, rest)) = words.split_first() else {
         return None;
@@ -118,7 +118,7 @@ pub fn command_words(composes: bool, words: &[Bytes]) -> Option<&[Bytes]>
     ensures { option_map (λ rest. rest.now) result ≡ command_words composes words.now }
 {
     if composes {
-        behind(b"composed", words)
+        words_after_name(b"composed", words)
     } else {
         Some(words)
     }
@@ -146,7 +146,7 @@ pub fn places_of(words: &[Bytes]) -> Option<Places<'_>>
 pub fn places_behind<'a>(name: &[u8], composes: bool, words: &'a [Bytes]) -> Option<Places<'a>>
     ensures { option_map named_by result ≡ places_behind name.now composes words.now }
 {
-    places_of(behind(name, command_words(composes, words)?)?)
+    places_of(words_after_name(name, command_words(composes, words)?)?)
 }
 
 /// The number of files that is asked for by `generate N`.

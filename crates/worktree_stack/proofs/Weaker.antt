@@ -8,7 +8,7 @@ use Rattle.worktree_stack.specs.declared.error.RulesWhy.{RulesWhy}
 use Rattle.worktree_stack.specs.declared.error.RulesWhy.TheVariants as whys
 use Rattle.worktree_stack.specs.declared.error.BlobWhy.{BlobWhy}
 use Rattle.worktree_stack.specs.declared.error.BlobWhy.TheVariants as blob_whys
-use Rattle.worktree_stack.specs.Setup.{Made}
+use Rattle.worktree_stack.specs.Setup.{StackSetup}
 use Rattle.worktree_stack.specs.Reading.{Sources, Tells, Refusal, Place, places_of, reading}
 use Rattle.worktree_stack.specs.Refused.{IsFileWhy, IsBlobWhy, IsFileRefused, IsBlobRefused, Refuses}
 use Rattle.worktree_stack.proofs.Refusals.{on-weaker}
@@ -33,7 +33,7 @@ module _ (told told' : Option Names) (holds holds' : Option Objects) (older : (s
     blob id why r = record { path = r.path; place = r.place; why_is = blob-why id why r.why_is }
 
   -- of a lookup
-  pub Refuses-weaker : (TreeFailed TreeFailed' : Type 0) → (TreeFailed → TreeFailed') → (StoreFailed StoreFailed' : Type 0) → (StoreFailed → StoreFailed') → (made : Made) (names : List (List ℕ)) (e : AtPathError)
+  pub Refuses-weaker : (TreeFailed TreeFailed' : Type 0) → (TreeFailed → TreeFailed') → (StoreFailed StoreFailed' : Type 0) → (StoreFailed → StoreFailed') → (made : StackSetup) (names : List (List ℕ)) (e : AtPathError)
       → Refuses told holds TreeFailed StoreFailed made names e → Refuses told' holds' TreeFailed' StoreFailed' made names e
   Refuses-weaker T T' tree S S' store made names e refused =
       on-weaker e

@@ -19,11 +19,11 @@ use Rattle.worktree_stack.specs.declared.statistics.Statistics.{Statistics}
 use Rattle.worktree_stack.specs.Checkout.{LeadsToDirectory, NoDirectory}
 use Rattle.worktree_stack.specs.Counted.{count_platform}
 use Rattle.worktree_stack.specs.Lookups.{IsLookedUp, staying}
-use Rattle.worktree_stack.specs.Making.{Way, way_of, is_known, is_made, mkdirs, unchanged, without_mkdirs, WorksOn}
+use Rattle.worktree_stack.specs.Making.{Way, way_of, is_known, is_directory_due, mkdirs, unchanged, without_mkdirs, WorksOn}
 use Rattle.worktree_stack.specs.Reading.{Sources, Tells, Place, in_tree, file_at, places_of}
 use Rattle.worktree_stack.specs.Refused.{IsAmong, RefusesAt}
-use Rattle.worktree_stack.specs.SeenNames.{Sees, names_out}
-use Rattle.worktree_stack.specs.Setup.{Made}
+use Rattle.worktree_stack.specs.SeenNames.{AddsSeenNames, names_out}
+use Rattle.worktree_stack.specs.Setup.{StackSetup}
 use Rattle.worktree_stack.specs.Stacked.{Stacked, IsInStep, IsLevel, made_of, pushed}
 use Rattle.worktree_stack.specs.Steps.{HasRead, HasTried, CarriesOut, IsStopped}
 use Rattle.worktree_stack.specs.Validate.{component_error}
@@ -62,13 +62,13 @@ NotReady w w0 w1 way is_link protects calls0 calls1 name path is_last errors.Not
 NotReady w w0 w1 way is_link protects calls0 calls1 name path is_last (errors.Component why) =
     (component_error name is_link protects ≡ Some why) × (w1 ≡ w0) × (calls1 ≡ calls0)
 NotReady w w0 w1 way is_link protects calls0 calls1 name path is_last (errors.Collision at) =
-    (component_error name is_link protects ≡ None) × (is_made way is_last ≡ true) × NoDirectory w w0 w1 way.unlinks path calls0 calls1 (errors.Collision at)
+    (component_error name is_link protects ≡ None) × (is_directory_due way is_last ≡ true) × NoDirectory w w0 w1 way.unlinks path calls0 calls1 (errors.Collision at)
 NotReady w w0 w1 way is_link protects calls0 calls1 name path is_last (errors.Directory at why) =
-    (component_error name is_link protects ≡ None) × (is_made way is_last ≡ true) × NoDirectory w w0 w1 way.unlinks path calls0 calls1 (errors.Directory at why)
+    (component_error name is_link protects ≡ None) × (is_directory_due way is_last ≡ true) × NoDirectory w w0 w1 way.unlinks path calls0 calls1 (errors.Directory at why)
 NotReady w w0 w1 way is_link protects calls0 calls1 name path is_last (errors.RulesFile at why) = ⊥
 NotReady w w0 w1 way is_link protects calls0 calls1 name path is_last (errors.Blob id why) = ⊥
 NotReady w w0 w1 way is_link protects calls0 calls1 name path is_last errors.OutOfMemory =
-    (component_error name is_link protects ≡ None) × (is_made way is_last ≡ true) × NoDirectory w w0 w1 way.unlinks path calls0 calls1 errors.OutOfMemory
+    (component_error name is_link protects ≡ None) × (is_directory_due way is_last ≡ true) × NoDirectory w w0 w1 way.unlinks path calls0 calls1 errors.OutOfMemory
 
 -- A lookup was refused at a component, which is the next one of its path and was counted as pushed. The calls before it were carried
 -- out, and left the worktree `middle` with so many directories counted. The deepest directory that is left is the current path.
@@ -139,14 +139,14 @@ abbrev pub ReadSame : Names → Names → List Place → Type 0
 ReadSame a b places = (path : List ℕ) (follow : Bool) → IsAmong places (in_tree path follow) → file_at path (look a path follow) ≡ file_at path (look b path follow)
 
 -- and for each of some directories
-abbrev pub AreReadSame : Made → Names → Names → List (List (List ℕ)) → Type 0
+abbrev pub AreReadSame : StackSetup → Names → Names → List (List (List ℕ)) → Type 0
 AreReadSame made a b [] = Unit {0}
 AreReadSame made a b (names ∷ directories) = ReadSame a b (places_of made (spelled names)) × AreReadSame made a b directories
 
 -- Where names are composed when they are made, each of these components is composed already that a directory is to be at.
 abbrev pub KeepsNames : Way → List (List ℕ) → Type 0
 KeepsNames way [] = Unit {0}
-KeepsNames way (name ∷ names) = (is_made way (is_nil names) ≡ true → as_kept way.composes name ≡ name) × KeepsNames way names
+KeepsNames way (name ∷ names) = (is_directory_due way (is_nil names) ≡ true → as_kept way.composes name ≡ name) × KeepsNames way names
 
 -- no link is there
 abbrev pub IsNoLink : Option Node → Type 0
@@ -189,7 +189,7 @@ pub record ChecksOut {W F T : Type 0} (w : WorktreeOf W) (f : FindOf F) (w0 w1 :
   pub store_untouched : (made_of old).mappings ≡ [] → o1 ≡ o0
   -- The names that were seen stay seen, and those of the directories that it pushes come behind them, each as it is read in the tree
   -- that it was made in.
-  pub sees : Sees (w.told w0) (f.holds o0) (λ s. names_out (made_of old) (way_of checkout (w.precomposes w0) old.root kind) s.objects (unchanged s.tree (mkdirs old)) (lookup_calls old.at (components path)))
+  pub sees : AddsSeenNames (w.told w0) (f.holds o0) (λ s. names_out (made_of old) (way_of checkout (w.precomposes w0) old.root kind) s.objects (unchanged s.tree (mkdirs old)) (lookup_calls old.at (components path)))
       old.attributes new.attributes result
   -- What is pushed, made, read and counted, and why it is refused.
   pub tested : OnOk result (AreFine is_link checkout.validate.protect_windows (left_of old.at (components path)))

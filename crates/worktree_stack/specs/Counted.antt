@@ -9,7 +9,7 @@ use Rattle.worktree_stack.specs.declared.statistics.DelegateStatistics.{Delegate
 use Rattle.worktree_stack.specs.declared.statistics.RulesStatistics.{RulesStatistics}
 use Rattle.glob_rules.specs.declared.Case.{Case}
 use Rattle.worktree_stack.specs.declared.state.Checkout.{Checkout}
-use Rattle.worktree_stack.specs.Setup.{Made, Mapping, Held, HeldAttributes, bare, bare_attributes}
+use Rattle.worktree_stack.specs.Setup.{StackSetup, Mapping, Held, HeldAttributes, bare, bare_attributes}
 use Rattle.worktree_stack.specs.Stacked.{Stacked}
 use Rattle.worktree_stack.specs.Reading.{Sources, Refusal, Place, in_tree, in_store, list_at, RulesKind, of_attributes, of_ignore, OneReading, readings_of}
 
@@ -136,28 +136,28 @@ blobs_of kind (r ∷ readings) = blobs_in (places_for kind r) + blobs_of kind re
 -- ---- the readings of the directories on the way
 
 -- those of a kind
-abbrev pub count_readings : RulesKind → Made → Sources → RulesStatistics → List Call → RulesStatistics
+abbrev pub count_readings : RulesKind → StackSetup → Sources → RulesStatistics → List Call → RulesStatistics
 count_readings kind made sources s [] = s
 count_readings kind made sources s (push_directory path ∷ calls) = count_readings kind made sources (count_each kind sources s (readings_of made path)) calls
 count_readings kind made sources s (push path is_last ∷ calls) = count_readings kind made sources s calls
 count_readings kind made sources s (pop_directory ∷ calls) = count_readings kind made sources s calls
 
 -- how many rules files were looked for in the worktree, with those on the way
-abbrev pub count_tried : RulesKind → Made → ℕ → List Call → ℕ
+abbrev pub count_tried : RulesKind → StackSetup → ℕ → List Call → ℕ
 count_tried kind made count [] = count
 count_tried kind made count (push_directory path ∷ calls) = count_tried kind made (try_each kind count (readings_of made path)) calls
 count_tried kind made count (push path is_last ∷ calls) = count_tried kind made count calls
 count_tried kind made count (pop_directory ∷ calls) = count_tried kind made count calls
 
 -- how many files are asked on the way at most
-abbrev pub files_on : RulesKind → Made → List Call → ℕ
+abbrev pub files_on : RulesKind → StackSetup → List Call → ℕ
 files_on kind made [] = 0
 files_on kind made (push_directory path ∷ calls) = files_of kind (readings_of made path) + files_on kind made calls
 files_on kind made (push path is_last ∷ calls) = files_on kind made calls
 files_on kind made (pop_directory ∷ calls) = files_on kind made calls
 
 -- and how many blobs
-abbrev pub blobs_on : RulesKind → Made → List Call → ℕ
+abbrev pub blobs_on : RulesKind → StackSetup → List Call → ℕ
 blobs_on kind made [] = 0
 blobs_on kind made (push_directory path ∷ calls) = blobs_of kind (readings_of made path) + blobs_on kind made calls
 blobs_on kind made (push path is_last ∷ calls) = blobs_on kind made calls

@@ -18,17 +18,17 @@ use Rattle.worktree_stack.specs.Checkout.{IsOutcome, Changes, IsReplaced, KeepsN
 use Rattle.worktree_stack.specs.ChecksOut.{AreFine, AreReadSame, AreThere, Halts, IsPlain, IsWithin, KeepsNames, MayGo, NotReady, pushes_of}
 use Rattle.worktree_stack.specs.Asked.{asked_on}
 use Rattle.worktree_stack.specs.Lookups.{stepped}
-use Rattle.worktree_stack.specs.Making.{Way, WorksOn, is_known, is_made, mkdirs, pushed_out, unchanged, without_mkdirs}
+use Rattle.worktree_stack.specs.Making.{Way, WorksOn, is_known, is_directory_due, mkdirs, pushed_out, unchanged, without_mkdirs}
 use Rattle.worktree_stack.specs.Reading.{Sources, Tells}
-use Rattle.worktree_stack.specs.SeenNames.{Sees, names_out}
-use Rattle.worktree_stack.specs.Setup.{HeldAttributes, Held, Made}
+use Rattle.worktree_stack.specs.SeenNames.{AddsSeenNames, names_out}
+use Rattle.worktree_stack.specs.Setup.{HeldAttributes, Held, StackSetup}
 use Rattle.worktree_stack.specs.Stacked.{Stacked, HoldsFor, IsLevel, made_of, pushed}
 use Rattle.worktree_stack.specs.Steps.{CarriesOut}
 use Rattle.worktree_stack.specs.Validate.{component_error}
 
 -- a directory is to be at a component, by what is known of the path
-abbrev pub is_wanted : Bool → Option Bool → Bool
-is_wanted is_last kind = not is_last || is_known kind
+abbrev pub needs_directory : Bool → Option Bool → Bool
+needs_directory is_last kind = not is_last || is_known kind
 
 -- so many directories were asked to be made
 abbrev pub with_mkdirs : Stacked → ℕ → Stacked
@@ -40,12 +40,12 @@ pub record Readies {W : Type 0} (w : WorktreeOf W) (w0 w1 : W) (way : Way) (is_l
   pub same : new ≡ with_mkdirs old (mkdirs new)
   pub tested : OnOk result (component_error name is_link protects ≡ None)
   pub made : (t : Names) → w.told w0 ≡ Some t → OnOk result (IsOutcome (pushed_out way (unchanged t (mkdirs old)) (spelled old.current) is_last) (w.told w1) (mkdirs new) makes.Made)
-  pub there : (t : Names) → w.told w0 ≡ Some t → is_made way is_last ≡ true → KeepsName way.composes (full_path way.root (spelled old.current))
+  pub there : (t : Names) → w.told w0 ≡ Some t → is_directory_due way is_last ≡ true → KeepsName way.composes (full_path way.root (spelled old.current))
       → OnOk result (LeadsToDirectory (pushed_out way (unchanged t (mkdirs old)) (spelled old.current) is_last).tree (full_path way.root (spelled old.current)))
   pub refused : IfErr result (NotReady w w0 w1 way is_link protects (mkdirs old) (mkdirs new) name (full_path way.root (spelled old.current)) is_last)
   pub unfaulted : OnOk result (w.faults w1 ≡ w.faults w0)
   pub least : mkdirs old ≤ mkdirs new
-  pub most : mkdirs new ≤ mkdirs old + 2 * (if is_made way is_last then 1 else 0)
+  pub most : mkdirs new ≤ mkdirs old + 2 * (if is_directory_due way is_last then 1 else 0)
   pub changes : Changes w w0 w1
   pub changed : (t t1 : Names) → w.told w0 ≡ Some t → w.told w1 ≡ Some t1 → KeepsName way.composes (full_path way.root (spelled old.current))
       → IsReplaced way.unlinks (full_path way.root (spelled old.current)) t t1
@@ -57,20 +57,20 @@ pub record PushesOut {W : Type 0} (w : WorktreeOf W) (w0 w1 : W) (way : Way) (is
   pub tested : OnOk result (component_error name is_link protects ≡ None)
   pub made : (t : Names) → w.told w0 ≡ Some t
       → OnOk result (IsOutcome (pushed_out way (unchanged t (mkdirs old)) (spelled (deepest_names old.at ++ name ∷ [])) is_last) (w.told w1) (mkdirs new) makes.Made)
-  pub there : (t t1 : Names) → w.told w0 ≡ Some t → w.told w1 ≡ Some t1 → is_made way is_last ≡ true → KeepsName way.composes (full_path way.root (spelled (deepest_names old.at ++ name ∷ [])))
+  pub there : (t t1 : Names) → w.told w0 ≡ Some t → w.told w1 ≡ Some t1 → is_directory_due way is_last ≡ true → KeepsName way.composes (full_path way.root (spelled (deepest_names old.at ++ name ∷ [])))
       → OnOk result (LeadsToDirectory t1 (full_path way.root (spelled (deepest_names old.at ++ name ∷ []))))
   pub refused : IfErr result (λ e. ((e ≡ errors.OutOfMemory) × (w1 ≡ w0) × (new ≡ record old { current = deepest_names old.at }))
       ⊎ ((new ≡ record (with_mkdirs (stepped old name) (mkdirs new)) { current = deepest_names old.at })
       × NotReady w w0 w1 way is_link protects (mkdirs old) (mkdirs new) name (full_path way.root (spelled (deepest_names old.at ++ name ∷ []))) is_last e))
   pub unfaulted : OnOk result (w.faults w1 ≡ w.faults w0)
   pub least : mkdirs old ≤ mkdirs new
-  pub most : mkdirs new ≤ mkdirs old + 2 * (if is_made way is_last then 1 else 0)
+  pub most : mkdirs new ≤ mkdirs old + 2 * (if is_directory_due way is_last then 1 else 0)
   pub changes : Changes w w0 w1
   pub changed : (t t1 : Names) → w.told w0 ≡ Some t → w.told w1 ≡ Some t1 → KeepsName way.composes (full_path way.root (spelled (deepest_names old.at ++ name ∷ [])))
       → IsReplaced way.unlinks (full_path way.root (spelled (deepest_names old.at ++ name ∷ []))) t t1
 
 -- What stays of a worktree that is read too.
-pub record Alters {W : Type 0} (w : WorktreeOf W) (before now : W) : Type 0 where
+pub record AltersWithoutListing {W : Type 0} (w : WorktreeOf W) (before now : W) : Type 0 where
   pub untold : w.told before ≡ None → w.told now ≡ None
   pub faults : w.faults before ≤ w.faults now
   pub list_faults : w.list_faults now ≡ w.list_faults before
@@ -79,7 +79,7 @@ pub record Alters {W : Type 0} (w : WorktreeOf W) (before now : W) : Type 0 wher
   pub precomposes : w.precomposes now ≡ w.precomposes before
 
 -- Some calls of a lookup, which push these components, go through or are refused.
-pub record Goes {W F : Type 0} (w : WorktreeOf W) (f : FindOf F) (w0 w1 : W) (o0 o1 : F) (way : Way) (is_link protects : Bool)
+pub record RunsCheckoutCalls {W F : Type 0} (w : WorktreeOf W) (f : FindOf F) (w0 w1 : W) (o0 o1 : F) (way : Way) (is_link protects : Bool)
     (calls : List Call) (names : List (List ℕ)) (old new : Stacked) (result : Result (Unit {0}) AtPathError) : Type 0 where
   pub made : made_of new ≡ made_of old
   pub carried : OnOk result (CarriesOut None None calls (without_mkdirs old) (without_mkdirs new))
@@ -91,10 +91,10 @@ pub record Goes {W F : Type 0} (w : WorktreeOf W) (f : FindOf F) (w0 w1 : W) (o0
   pub answered : new.is_answered ≡ old.is_answered
   pub platforms : new.statistics.platforms ≡ old.statistics.platforms
   pub levels : IsLevel old → IsLevel new
-  pub sees : Sees (w.told w0) (f.holds o0) (λ s. names_out (made_of old) way s.objects (unchanged s.tree (mkdirs old)) calls) old.attributes new.attributes result
+  pub sees : AddsSeenNames (w.told w0) (f.holds o0) (λ s. names_out (made_of old) way s.objects (unchanged s.tree (mkdirs old)) calls) old.attributes new.attributes result
   pub store_untouched : (made_of old).mappings ≡ [] → o1 ≡ o0
   pub asked : w.reads w1 ≤ w.reads w0 + asked_on (made_of old) calls
-  pub alters : Alters w w0 w1
+  pub alters : AltersWithoutListing w w0 w1
   pub leaves_store : AsksStore f o0 o1
 
 -- ---- in step on the way
@@ -121,7 +121,7 @@ IsAtHand false root t0 t at = t ≡ t0
 IsAtHand true root t0 t at = IsFresh root t at
 
 -- What is pushed holds what the tree has that a lookup ends with, where the rules files that were read are as they were at its beginning.
-pub record Keeping (made : Made) (s0 : Sources) (t : Names) (at : Option (List (List ℕ))) (attributes : Option HeldAttributes) (ignore : Option Held) : Type 0 where
+pub record HoldsForLaterTree (made : StackSetup) (s0 : Sources) (t : Names) (at : Option (List (List ℕ))) (attributes : Option HeldAttributes) (ignore : Option Held) : Type 0 where
   pub changed : Bool
   pub at_hand : IsAtHand changed made.root s0.tree t at
   pub holds : (end : Sources) → end.objects ≡ s0.objects → (changed ≡ true → IsLater t end.tree)
@@ -129,13 +129,13 @@ pub record Keeping (made : Made) (s0 : Sources) (t : Names) (at : Option (List (
   pub there : AreThere made.root t (pushed at)
 
 -- It holds what the tree has that is there now.
-pub record Kept (made : Made) (s0 : Sources) (t : Names) (at : Option (List (List ℕ))) (attributes : Option HeldAttributes) (ignore : Option Held) : Type 0 where
+pub record HoldsForPresentTree (made : StackSetup) (s0 : Sources) (t : Names) (at : Option (List (List ℕ))) (attributes : Option HeldAttributes) (ignore : Option Held) : Type 0 where
   pub holds : (end : Sources) → end.objects ≡ s0.objects → end.tree ≡ t
       → AreReadSame made s0.tree end.tree (pushed at) → HoldsFor made end (pushed at) attributes ignore
   pub there : AreThere made.root t (pushed at)
 
 -- these components are on the way to a path, behind the deepest directory
-pub record MayGoOn (way : Way) (made : Made) (at : Option (List (List ℕ))) (names : List (List ℕ)) : Type 0 where
+pub record MayGoOn (way : Way) (made : StackSetup) (at : Option (List (List ℕ))) (names : List (List ℕ)) : Type 0 where
   pub whole : List ℕ
   pub behind : List (List ℕ)
   pub parts : components whole ≡ deepest_names at ++ (names ++ behind)
@@ -152,17 +152,17 @@ AreComposed composes (name ∷ names) = (as_kept composes name ≡ name) × AreC
 pub record KeepsOn {W F : Type 0} (w : WorktreeOf W) (f : FindOf F) (w0 w1 : W) (o0 : F) (way : Way) (names : List (List ℕ)) (old new : Stacked)
     (result : Result (Unit {0}) AtPathError) : Type 0 where
   pub going : (s0 : Sources) (t t1 : Names) → w.told w0 ≡ Some t → f.holds o0 ≡ Some s0.objects → w.told w1 ≡ Some t1 → MayGoOn way (made_of old) old.at names
-      → AreComposed way.composes names → Keeping (made_of old) s0 t old.at old.attributes old.ignore → OnOk result (Keeping (made_of old) s0 t1 new.at new.attributes new.ignore)
+      → AreComposed way.composes names → HoldsForLaterTree (made_of old) s0 t old.at old.attributes old.ignore → OnOk result (HoldsForLaterTree (made_of old) s0 t1 new.at new.attributes new.ignore)
   pub gone : (s0 : Sources) (t t1 : Names) → w.told w0 ≡ Some t → f.holds o0 ≡ Some s0.objects → w.told w1 ≡ Some t1 → MayGoOn way (made_of old) old.at names
       → AreComposed way.composes names → (way.unlinks ≡ true → IsPlain s0.tree way.root)
-      → Keeping (made_of old) s0 t old.at old.attributes old.ignore → OnErr result (Kept (made_of old) s0 t1 new.at new.attributes new.ignore)
+      → HoldsForLaterTree (made_of old) s0 t old.at old.attributes old.ignore → OnErr result (HoldsForPresentTree (made_of old) s0 t1 new.at new.attributes new.ignore)
 
 -- the same of all that is left of a path, where what is held is asked for the tree that is there in the end
 pub record KeepsAll {W F : Type 0} (w : WorktreeOf W) (f : FindOf F) (w0 w1 : W) (o0 : F) (way : Way) (names : List (List ℕ)) (old new : Stacked)
     (result : Result (Unit {0}) AtPathError) : Type 0 where
   pub gone : (s0 : Sources) (t t1 : Names) → w.told w0 ≡ Some t → f.holds o0 ≡ Some s0.objects → w.told w1 ≡ Some t1 → MayGoOn way (made_of old) old.at names
       → KeepsNames way names → OnErr result (way.unlinks ≡ true → IsPlain s0.tree way.root)
-      → Keeping (made_of old) s0 t old.at old.attributes old.ignore → Kept (made_of old) s0 t1 new.at new.attributes new.ignore
+      → HoldsForLaterTree (made_of old) s0 t old.at old.attributes old.ignore → HoldsForPresentTree (made_of old) s0 t1 new.at new.attributes new.ignore
 
 -- the last of the components that are left of a path is a directory that is there, where it is to be one
 pub record LeavesLast {W : Type 0} (w : WorktreeOf W) (w1 : W) (way : Way) (front names : List (List ℕ)) (result : Result (Unit {0}) AtPathError) : Type 0 where

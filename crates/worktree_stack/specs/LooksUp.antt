@@ -13,7 +13,7 @@ use Rattle.worktree_stack.specs.Counted.{count_platform}
 use Rattle.worktree_stack.specs.Lookups.{asks_worktree, IsLookedUp, staying, refused_one}
 use Rattle.worktree_stack.specs.Reading.{Sources, Tells}
 use Rattle.worktree_stack.specs.Refused.{Refuses}
-use Rattle.worktree_stack.specs.SeenNames.{Sees, names_on}
+use Rattle.worktree_stack.specs.SeenNames.{AddsSeenNames, names_on}
 use Rattle.worktree_stack.specs.Setup.{has_attributes}
 use Rattle.worktree_stack.specs.Stacked.{Stacked, IsInStep, IsLevel, made_of, pushed}
 use Rattle.worktree_stack.specs.Steps.{CarriesOut, Stops}
@@ -43,7 +43,7 @@ pub record LooksUp {W F T : Type 0} (w : WorktreeOf W) (f : FindOf F) (w0 w1 : W
   pub unanswered : OnErr result (new.is_answered ≡ false)
   pub on_way : is_normal path ≡ true → OnErr result (IsOnWay new.at (components path))
   -- The names that were seen stay seen, and those of the directories that it pushes come behind them.
-  pub sees : Sees (w.told w0) (f.holds o0) (λ s. names_on (made_of old) s (lookup_calls old.at (components path))) old.attributes new.attributes result
+  pub sees : AddsSeenNames (w.told w0) (f.holds o0) (λ s. names_on (made_of old) s (lookup_calls old.at (components path))) old.attributes new.attributes result
   -- Each refusal has its cause.
   pub normal : is_normal path ≡ false → IsErrOf result errors.NotNormal × (new ≡ count_platform old) × (w1 ≡ w0) × (o1 ≡ o0)
   pub refused : is_normal path ≡ true

@@ -6,7 +6,7 @@ use Rattle.gitbase_core.specs.Path.{ends_in_slash}
 use Rattle.worktree_fs.specs.Paths.{spelled, all_but_last}
 use Rattle.worktree_fs.specs.PathStack.{push, kept, deepest_names}
 use Rattle.worktree_stack.specs.Counted.{count_call}
-use Rattle.worktree_stack.specs.Setup.{Made, AttributesSetup, Setup}
+use Rattle.worktree_stack.specs.Setup.{StackSetup, AttributesSetup, Setup}
 use Rattle.worktree_stack.specs.declared.attributes_source.Source.{Source as AttributesSource}
 use Rattle.worktree_stack.specs.declared.attributes_source.Source.TheVariants as attributes_sources
 use Rattle.worktree_stack.specs.declared.ignore_source.Source.{Source}
@@ -44,7 +44,7 @@ asks_attributes_if None = false
 asks_attributes_if (Some setup) = is_some setup.info || asks_for_attributes setup.source
 
 -- a stack that was made so looks for rules files in the worktree
-abbrev pub asks_worktree : Made → Bool
+abbrev pub asks_worktree : StackSetup → Bool
 asks_worktree made = asks_attributes_if made.attributes || asks_if made.ignore
 
 -- a path stands looked up: exactly its proper ancestors are pushed, for the empty path the root alone

@@ -18,7 +18,7 @@ use Rattle.worktree_stack.specs.declared.statistics.Statistics.{Statistics}
 use Rattle.worktree_stack.specs.Checkout.{Prepared, IsOutcome, prepared}
 use Rattle.worktree_stack.specs.Counted.{count_each, counts_of}
 use Rattle.worktree_stack.specs.Reading.{Sources, Tells, RulesKind, readings_of}
-use Rattle.worktree_stack.specs.Setup.{Made}
+use Rattle.worktree_stack.specs.Setup.{StackSetup}
 use Rattle.worktree_stack.specs.Stacked.{Stacked}
 
 -- whether a link is to be made at a path, by its mode
@@ -44,8 +44,8 @@ abbrev pub way_of : Checkout → Bool → List ℕ → Option Bool → Way
 way_of checkout composes root kind = record { unlinks = checkout.unlink_on_collision; composes = composes; root = root; makes_last = is_known kind }
 
 -- whether a directory is to be at a component, which is the last one or is not
-abbrev pub is_made : Way → Bool → Bool
-is_made way is_last = not is_last || way.makes_last
+abbrev pub is_directory_due : Way → Bool → Bool
+is_directory_due way is_last = not is_last || way.makes_last
 
 -- the tree and the count from which a checkout begins
 abbrev pub unchanged : Names → ℕ → Prepared
@@ -53,24 +53,24 @@ unchanged t calls = record { answer = makes.Made; tree = t; calls = calls }
 
 -- what comes of a component that is pushed
 abbrev pub pushed_out : Way → Prepared → List ℕ → Bool → Prepared
-pushed_out way p path is_last = if is_made way is_last then prepared way.unlinks way.composes p.tree (full_path way.root path) p.calls else p
+pushed_out way p path is_last = if is_directory_due way is_last then prepared way.unlinks way.composes p.tree (full_path way.root path) p.calls else p
 
 -- where a directory was made the rest follows
-abbrev pub where_made : Prepared → Prepared → MakeAnswer → Prepared
-where_made here next makes.Made = next
-where_made here next makes.Exists = here
-where_made here next makes.NoParent = here
+abbrev pub next_if_made : Prepared → Prepared → MakeAnswer → Prepared
+next_if_made here next makes.Made = next
+next_if_made here next makes.Exists = here
+next_if_made here next makes.NoParent = here
 
 -- what comes of the components that some calls push, one after the other
 abbrev pub checked_out : Way → Prepared → List Call → Prepared
 checked_out way p [] = p
 checked_out way p (push path is_last ∷ calls) =
-    let here : Prepared = pushed_out way p path is_last in where_made here (checked_out way here calls) here.answer
+    let here : Prepared = pushed_out way p path is_last in next_if_made here (checked_out way here calls) here.answer
 checked_out way p (push_directory path ∷ calls) = checked_out way p calls
 checked_out way p (pop_directory ∷ calls) = checked_out way p calls
 
 -- what is counted of the readings of one kind on the way: each directory is read in the tree that it was made in
-abbrev pub count_out : RulesKind → Made → Way → Objects → Prepared → RulesStatistics → List Call → RulesStatistics
+abbrev pub count_out : RulesKind → StackSetup → Way → Objects → Prepared → RulesStatistics → List Call → RulesStatistics
 count_out kind made way objects p s [] = s
 count_out kind made way objects p s (push path is_last ∷ calls) = count_out kind made way objects (pushed_out way p path is_last) s calls
 count_out kind made way objects p s (push_directory path ∷ calls) =
@@ -80,7 +80,7 @@ count_out kind made way objects p s (pop_directory ∷ calls) = count_out kind m
 -- how many directories are to be there
 abbrev pub made_on : Way → List Call → ℕ
 made_on way [] = 0
-made_on way (push path is_last ∷ calls) = (if is_made way is_last then 1 else 0) + made_on way calls
+made_on way (push path is_last ∷ calls) = (if is_directory_due way is_last then 1 else 0) + made_on way calls
 made_on way (push_directory path ∷ calls) = made_on way calls
 made_on way (pop_directory ∷ calls) = made_on way calls
 
@@ -94,7 +94,7 @@ mkdirs s = s.statistics.delegate.num_mkdir_calls
 
 -- What was made and read on a way whose calls were carried out, where a worktree was `w0` and is `w1`, and a stack was `old` and is
 -- `new`. Over a told tree the tree, the count of directories and what was read are those of the definition.
-pub record WorksOn {W : Type 0} (w : WorktreeOf W) (w0 w1 : W) (holds : Option Objects) (way : Way) (calls : List Call) (made : Made) (mkdirs0 mkdirs1 : ℕ) (old new : Statistics) : Type 0 where
+pub record WorksOn {W : Type 0} (w : WorktreeOf W) (w0 w1 : W) (holds : Option Objects) (way : Way) (calls : List Call) (made : StackSetup) (mkdirs0 mkdirs1 : ℕ) (old new : Statistics) : Type 0 where
   pub tree : (t : Names) → w.told w0 ≡ Some t → IsOutcome (checked_out way (unchanged t mkdirs0) calls) (w.told w1) mkdirs1 makes.Made
   pub read : (s : Sources) → Tells (w.told w0) holds s → (kind : RulesKind) → counts_of kind new ≡ count_out kind made way s.objects (unchanged s.tree mkdirs0) (counts_of kind old) calls
   pub least : mkdirs0 ≤ mkdirs1

@@ -34,9 +34,9 @@ is_named Sensitive name path = bytes_eq (basename path) name
 is_named Fold name path = eq_ignore_case (basename path) name
 
 -- where the worktree is asked first, a blob counts only where the file is left out of the worktree
-abbrev pub counts_for : Source → IndexEntry → Bool
-counts_for IdMapping e = true
-counts_for WorktreeThenIdMappingIfNotSkipped e = has_flag skip_worktree_flag e
+abbrev pub reads_rules_from_blob : Source → IndexEntry → Bool
+reads_rules_from_blob IdMapping e = true
+reads_rules_from_blob WorktreeThenIdMappingIfNotSkipped e = has_flag skip_worktree_flag e
 
 -- an entry may be that of a rules file: of a plain file, merged or ours
 abbrev pub is_plain : IndexEntry → Bool
@@ -45,7 +45,7 @@ is_plain e = mode_bits e.mode == file_mode && (e.stage == 0 || e.stage == 2)
 -- the blob of an entry gives ignore rules, by an exclude state, if there is one
 abbrev pub gives_ignore : Case → Option Setup → IndexEntry → Bool
 gives_ignore case None e = false
-gives_ignore case (Some setup) e = is_named case setup.file_name e.path && counts_for setup.source e
+gives_ignore case (Some setup) e = is_named case setup.file_name e.path && reads_rules_from_blob setup.source e
 
 -- the file of an entry is one of ignore rules, by its name
 abbrev pub is_ignore_file : Case → Option Setup → IndexEntry → Bool

@@ -24,7 +24,7 @@ use Rattle.worktree_stack.specs.declared.ignore_source.Source.{Source}
 use Rattle.worktree_stack.specs.declared.ignore_source.Source.TheVariants.{IdMapping, WorktreeThenIdMappingIfNotSkipped}
 use Rattle.worktree_stack.specs.declared.order.Order.{Order}
 use Rattle.worktree_stack.specs.declared.order.Order.TheVariants.{Nowhere, Worktree, Store, WorktreeThenStore}
-use Rattle.worktree_stack.specs.Setup.{AttributesSetup, Setup, Made, attributes_name, globals_of, mapped_to}
+use Rattle.worktree_stack.specs.Setup.{AttributesSetup, Setup, StackSetup, attributes_name, globals_of, mapped_to}
 use Rattle.worktree_stack.specs.Excludes.{Rulebook}
 
 -- ---- the places
@@ -76,13 +76,13 @@ pub record OneReading : Type 0 where
   pub places : List Place
 
 -- where the ignore rules of a directory are looked for, by what an exclude state was made with
-abbrev pub ignore_places_of : Made → Setup → List ℕ → List Place
+abbrev pub ignore_places_of : StackSetup → Setup → List ℕ → List Place
 ignore_places_of made setup d =
     let path : List ℕ = joined d setup.file_name in
     ignore_places setup.source (full_path made.root path) path (mapped_to made.mappings path)
 
 -- where the `.gitattributes` of a directory is looked for, by what an attribute state was made with
-abbrev pub attribute_places_of : Made → AttributesSetup → List ℕ → List Place
+abbrev pub attribute_places_of : StackSetup → AttributesSetup → List ℕ → List Place
 attribute_places_of made setup d =
     let path : List ℕ = joined d attributes_name in
     attribute_places setup.source (full_path made.root path) path (mapped_to made.mappings path)
@@ -98,7 +98,7 @@ info_readings (Some path) [] = record { kind = of_attributes; places = info_plac
 info_readings (Some path) (b ∷ bs) = []
 
 -- the reading of a directory's own attributes, by an attribute state, if there is one
-abbrev pub own_readings : Made → Option AttributesSetup → List ℕ → List OneReading
+abbrev pub own_readings : StackSetup → Option AttributesSetup → List ℕ → List OneReading
 own_readings made None d = []
 own_readings made (Some setup) d = record { kind = of_attributes; places = attribute_places_of made setup d } ∷ []
 
@@ -108,16 +108,16 @@ info_readings_if None d = []
 info_readings_if (Some setup) d = info_readings setup.info d
 
 -- the readings of attributes
-abbrev pub attribute_readings : Made → Option AttributesSetup → List ℕ → List OneReading
+abbrev pub attribute_readings : StackSetup → Option AttributesSetup → List ℕ → List OneReading
 attribute_readings made setup d = own_readings made setup d ++ info_readings_if setup d
 
 -- the readings of ignore rules, by an exclude state, if there is one
-abbrev pub ignore_readings : Made → Option Setup → List ℕ → List OneReading
+abbrev pub ignore_readings : StackSetup → Option Setup → List ℕ → List OneReading
 ignore_readings made None d = []
 ignore_readings made (Some setup) d = record { kind = of_ignore; places = ignore_places_of made setup d } ∷ []
 
 -- the readings of a directory, one after the other, by a stack that was made so
-abbrev pub readings_of : Made → List ℕ → List OneReading
+abbrev pub readings_of : StackSetup → List ℕ → List OneReading
 readings_of made d = attribute_readings made made.attributes d ++ ignore_readings made made.ignore d
 
 -- the places that readings ask
@@ -126,7 +126,7 @@ places_in [] = []
 places_in (r ∷ readings) = r.places ++ places_in readings
 
 -- the places that the readings of a directory ask
-abbrev pub places_of : Made → List ℕ → List Place
+abbrev pub places_of : StackSetup → List ℕ → List Place
 places_of made d = places_in (readings_of made d)
 
 -- ---- what they give
@@ -214,7 +214,7 @@ abbrev pub Texts : Type 0
 Texts = Result (List (Option Text)) Refusal
 
 -- what the readings of a directory give in a tree and a store, for a stack that was made so, or why they are refused
-unfoldable pub reading : Made → Sources → List ℕ → Texts
+unfoldable pub reading : StackSetup → Sources → List ℕ → Texts
 reading made s d = texts_of s (readings_of made d)
 
 -- the readings are there, and none is refused
@@ -235,11 +235,11 @@ rules_from precious d None = no_rules
 rules_from precious d (Some text) = record { entries = entries precious text.bytes; source = Some text.source; base = d }
 
 -- the ignore rules of a directory, by what an exclude state was made with
-abbrev pub rules_in : Made → Setup → Sources → List ℕ → Rules
+abbrev pub rules_in : StackSetup → Setup → Sources → List ℕ → Rules
 rules_in made setup s d = rules_from setup.precious d (text_or_none (first_text s (ignore_places_of made setup d)))
 
 -- where rules come from, by an exclude state, if there is one
-abbrev pub rulebook_if : Made → Option Setup → Sources → Rulebook
+abbrev pub rulebook_if : StackSetup → Option Setup → Sources → Rulebook
 rulebook_if made None s = record { overrides = []; of_directory = λ names. no_rules; globals = []; case = made.case; strict = false }
 rulebook_if made (Some setup) s =
     record {
@@ -251,7 +251,7 @@ rulebook_if made (Some setup) s =
     }
 
 -- where the rules come from of a stack that was made so, over a tree and a store
-abbrev pub rulebook : Made → Sources → Rulebook
+abbrev pub rulebook : StackSetup → Sources → Rulebook
 rulebook made s = rulebook_if made made.ignore s
 
 -- ---- attributes
@@ -262,7 +262,7 @@ attributes_from macros d None = list_from (lines macros []) [] d
 attributes_from macros d (Some text) = list_from (lines macros text.bytes) text.source d
 
 -- the list of a directory's own `.gitattributes`, which may define macros at the root alone
-abbrev pub own_list : Made → AttributesSetup → Sources → List ℕ → AttributeList
+abbrev pub own_list : StackSetup → AttributesSetup → Sources → List ℕ → AttributeList
 own_list made setup s d = attributes_from (is_empty d) d (text_or_none (first_text s (attribute_places_of made setup d)))
 
 -- the list of the info file, which stands with the root
@@ -272,7 +272,7 @@ info_lists (Some path) s [] = attributes_from true [] (text_or_none (first_text 
 info_lists (Some path) s (b ∷ bs) = []
 
 -- both by an attribute state, if there is one
-abbrev pub own_lists_if : Made → Option AttributesSetup → Sources → List ℕ → List AttributeList
+abbrev pub own_lists_if : StackSetup → Option AttributesSetup → Sources → List ℕ → List AttributeList
 own_lists_if made None s d = []
 own_lists_if made (Some setup) s d = own_list made setup s d ∷ []
 
@@ -281,14 +281,14 @@ info_lists_if None s d = []
 info_lists_if (Some setup) s d = info_lists setup.info s d
 
 -- the lists of a directory, the lowest first: its own, and above the root's own that of the info file
-abbrev pub lists_if : Made → Option AttributesSetup → Sources → List ℕ → List AttributeList
+abbrev pub lists_if : StackSetup → Option AttributesSetup → Sources → List ℕ → List AttributeList
 lists_if made setup s d = own_lists_if made setup s d ++ info_lists_if setup s d
 
 -- the lists of a directory
-abbrev pub lists_at : Made → Sources → List (List ℕ) → List AttributeList
+abbrev pub lists_at : StackSetup → Sources → List (List ℕ) → List AttributeList
 lists_at made s names = lists_if made made.attributes s (spelled names)
 
 -- the lists that speak of a path, the lowest first: the globals, those of the root, and those of the directories above the path down
 -- to it. The root itself is spoken of by its own lists.
-abbrev pub attribute_lists : Made → Sources → List (List ℕ) → List AttributeList
+abbrev pub attribute_lists : StackSetup → Sources → List (List ℕ) → List AttributeList
 attribute_lists made s names = globals_of made.attributes ++ flat_map (lists_at made s) (fronts (all_but_last names))

@@ -9,7 +9,7 @@ use Rattle.worktree_stack.specs.declared.error.RulesWhy.{RulesWhy}
 use Rattle.worktree_stack.specs.declared.error.RulesWhy.TheVariants as whys
 use Rattle.worktree_stack.specs.declared.error.BlobWhy.{BlobWhy}
 use Rattle.worktree_stack.specs.declared.error.BlobWhy.TheVariants as blob_whys
-use Rattle.worktree_stack.specs.Setup.{Made}
+use Rattle.worktree_stack.specs.Setup.{StackSetup}
 use Rattle.worktree_stack.specs.Reading.{Sources, Tells, Refusal, Place, in_tree, in_store, of_file, of_blob, places_of, reading}
 
 -- What holds of a refusal, by what it is for: a rules file and why, a blob and why, want of memory. A lookup of a normal path is
@@ -63,15 +63,15 @@ IsRefused told holds TreeFailed StoreFailed places read =
     OnRefusal (IsFileRefused told holds TreeFailed places read) (IsBlobRefused told holds StoreFailed places read) (Unit {0})
 
 -- a reading of a directory is refused for a file
-abbrev pub IsFileOf : Option Names → Option Objects → Type 0 → Made → List ℕ → RulesWhy → List ℕ → Type 0
+abbrev pub IsFileOf : Option Names → Option Objects → Type 0 → StackSetup → List ℕ → RulesWhy → List ℕ → Type 0
 IsFileOf told holds Failed made path why d = IsFileRefused told holds Failed (places_of made d) (λ s. reading made s d) path why
 
 -- a reading of a directory is refused for a blob
-abbrev pub IsBlobOf : Option Names → Option Objects → Type 0 → Made → List ℕ → BlobWhy → List ℕ → Type 0
+abbrev pub IsBlobOf : Option Names → Option Objects → Type 0 → StackSetup → List ℕ → BlobWhy → List ℕ → Type 0
 IsBlobOf told holds Failed made id why d = IsBlobRefused told holds Failed (places_of made d) (λ s. reading made s d) id why
 
 -- the readings of a directory are refused for a file, for a blob, or for want of memory
-abbrev pub RefusesAt : Option Names → Option Objects → Type 0 → Type 0 → Made → List ℕ → AtPathError → Type 0
+abbrev pub RefusesAt : Option Names → Option Objects → Type 0 → Type 0 → StackSetup → List ℕ → AtPathError → Type 0
 RefusesAt told holds TreeFailed StoreFailed made d =
     OnRefusal (λ path why. IsFileOf told holds TreeFailed made path why d) (λ id why. IsBlobOf told holds StoreFailed made id why d) (Unit {0})
 
@@ -85,7 +85,7 @@ pub record OfAncestor (names : List (List ℕ)) (Holds : List ℕ → Type 0) : 
   pub holds : Holds (spelled ancestor)
 
 -- why the lookup of a path is refused: the rules of a directory above it are, or there is no memory
-abbrev pub Refuses : Option Names → Option Objects → Type 0 → Type 0 → Made → List (List ℕ) → AtPathError → Type 0
+abbrev pub Refuses : Option Names → Option Objects → Type 0 → Type 0 → StackSetup → List (List ℕ) → AtPathError → Type 0
 Refuses told holds TreeFailed StoreFailed made names =
     OnRefusal (λ path why. OfAncestor names (IsFileOf told holds TreeFailed made path why))
     (λ id why. OfAncestor names (IsBlobOf told holds StoreFailed made id why)) (Unit {0})
@@ -93,11 +93,11 @@ Refuses told holds TreeFailed StoreFailed made names =
 -- ---- what is said of it apart
 
 -- whatever the worktree and the store: it is for a rules file or a blob that is looked for on the way to a path
-abbrev pub IsOnWayTo : Made → List (List ℕ) → AtPathError → Type 0
+abbrev pub IsOnWayTo : StackSetup → List (List ℕ) → AtPathError → Type 0
 IsOnWayTo made names = Refuses None None (Unit {0}) (Unit {0}) made names
 
 -- over a tree and a store: that file or blob is refused for what it is
-abbrev pub RefusesIn : Sources → Made → List (List ℕ) → AtPathError → Type 0
+abbrev pub RefusesIn : Sources → StackSetup → List (List ℕ) → AtPathError → Type 0
 RefusesIn s made names = Refuses (Some s.tree) (Some s.objects) (Unit {0}) (Unit {0}) made names
 
 -- what holds where the worktree failed, and what where the store did

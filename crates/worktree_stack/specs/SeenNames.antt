@@ -14,7 +14,7 @@ use Rattle.worktree_stack.specs.declared.error.AtPathError.{AtPathError}
 use Rattle.worktree_stack.specs.Checkout.{Prepared}
 use Rattle.worktree_stack.specs.Making.{Way, pushed_out}
 use Rattle.worktree_stack.specs.Reading.{Sources, Tells, Text, attribute_places_of, bytes_of, first_text, info_places, text_or_none}
-use Rattle.worktree_stack.specs.Setup.{AttributesSetup, HeldAttributes, Made, lists_of, names_of}
+use Rattle.worktree_stack.specs.Setup.{AttributesSetup, HeldAttributes, StackSetup, lists_of, names_of}
 
 -- ---- the names of what is read
 
@@ -23,7 +23,7 @@ abbrev pub names_from : Bool → Option Text → List (List ℕ)
 names_from macros text = names_in (lines macros (bytes_of text))
 
 -- the names of a directory's own `.gitattributes`
-abbrev pub own_names : Made → AttributesSetup → Sources → List ℕ → List (List ℕ)
+abbrev pub own_names : StackSetup → AttributesSetup → Sources → List ℕ → List (List ℕ)
 own_names made setup s d = names_from (is_empty d) (text_or_none (first_text s (attribute_places_of made setup d)))
 
 -- the names of the info file, which is read with the root
@@ -33,7 +33,7 @@ info_names (Some path) s [] = names_from true (text_or_none (first_text s (info_
 info_names (Some path) s (b ∷ bs) = []
 
 -- both by an attribute state, if there is one
-abbrev pub own_names_if : Made → Option AttributesSetup → Sources → List ℕ → List (List ℕ)
+abbrev pub own_names_if : StackSetup → Option AttributesSetup → Sources → List ℕ → List (List ℕ)
 own_names_if made None s d = []
 own_names_if made (Some setup) s d = own_names made setup s d
 
@@ -42,22 +42,22 @@ info_names_if None s d = []
 info_names_if (Some setup) s d = info_names setup.info s d
 
 -- the names of a directory: those of its own file, and behind the root's those of the info file
-abbrev pub names_if : Made → Option AttributesSetup → Sources → List ℕ → List (List ℕ)
+abbrev pub names_if : StackSetup → Option AttributesSetup → Sources → List ℕ → List (List ℕ)
 names_if made setup s d = own_names_if made setup s d ++ info_names_if setup s d
 
 -- the names of a directory
-abbrev pub names_at : Made → Sources → List (List ℕ) → List (List ℕ)
+abbrev pub names_at : StackSetup → Sources → List (List ℕ) → List (List ℕ)
 names_at made s names = names_if made made.attributes s (spelled names)
 
 -- the names of the directories that some calls push
-abbrev pub names_on : Made → Sources → List Call → List (List ℕ)
+abbrev pub names_on : StackSetup → Sources → List Call → List (List ℕ)
 names_on made s [] = []
 names_on made s (push_directory path ∷ calls) = names_if made made.attributes s path ++ names_on made s calls
 names_on made s (push path is_last ∷ calls) = names_on made s calls
 names_on made s (pop_directory ∷ calls) = names_on made s calls
 
 -- the same where each directory is read in the tree that it was made in
-abbrev pub names_out : Made → Way → Objects → Prepared → List Call → List (List ℕ)
+abbrev pub names_out : StackSetup → Way → Objects → Prepared → List Call → List (List ℕ)
 names_out made way objects p [] = []
 names_out made way objects p (push path is_last ∷ calls) = names_out made way objects (pushed_out way p path is_last) calls
 names_out made way objects p (push_directory path ∷ calls) = names_if made made.attributes (record { tree = p.tree; objects = objects }) path ++ names_out made way objects p calls
@@ -87,7 +87,7 @@ pub record AddsNames (before after : List (List ℕ)) : Type 0 where
 
 -- What a call does to the names that were seen. Whatever is told they stay seen, and every name of a list that is held is among them.
 -- Over what is told those come that are read: all of them where the call is answered, the first ones where it is refused.
-pub record Sees {T : Type 0} (told : Option Names) (holds : Option Objects) (read : Sources → List (List ℕ)) (old new : Option HeldAttributes) (result : Result T AtPathError) : Type 0 where
+pub record AddsSeenNames {T : Type 0} (told : Option Names) (holds : Option Objects) (read : Sources → List (List ℕ)) (old new : Option HeldAttributes) (result : Result T AtPathError) : Type 0 where
   pub added : AddsNames (names_of old) (names_of new)
   pub known : KnowsNames old → KnowsNames new
   pub all : (s : Sources) → Tells told holds s → OnOk result (names_of new ≡ with_names (names_of old) (read s))

@@ -37,7 +37,7 @@ pub record AttributesSetup : Type 0 where
 
 -- What a stack was made with: its root, how letters compare, the blobs of rules files, how it makes the directories on the way to a
 -- path, if it does, its attribute state, if it has one, and its exclude state, if it has one.
-pub record Made : Type 0 where
+pub record StackSetup : Type 0 where
   pub root : List ℕ
   pub case : Case
   pub mappings : List Mapping
@@ -46,19 +46,19 @@ pub record Made : Type 0 where
   pub ignore : Option Setup
 
 -- it tells which paths are excluded
-abbrev pub has_excludes : Made → Bool
+abbrev pub has_excludes : StackSetup → Bool
 has_excludes made = is_some made.ignore
 
 -- it tells the attributes of paths
-abbrev pub has_attributes : Made → Bool
+abbrev pub has_attributes : StackSetup → Bool
 has_attributes made = is_some made.attributes
 
 -- it makes the directories on the way to a path
-abbrev pub is_checkout : Made → Bool
+abbrev pub is_checkout : StackSetup → Bool
 is_checkout made = is_some made.checkout
 
 -- its lookups leave every tree as it was
-abbrev pub keeps_tree : Made → Bool
+abbrev pub keeps_tree : StackSetup → Bool
 keeps_tree made = has_excludes made || not (is_checkout made)
 
 -- the blob that a path is mapped to

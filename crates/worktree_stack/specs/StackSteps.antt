@@ -16,7 +16,7 @@ use Rattle.worktree_stack.specs.Lookups.{IsLookedUp, asks_worktree}
 use Rattle.worktree_stack.specs.Making.{mkdirs}
 use Rattle.worktree_stack.specs.Moments.{Moment}
 use Rattle.worktree_stack.specs.Reading.{Sources, Tells}
-use Rattle.worktree_stack.specs.SeenNames.{Sees, names_at, names_on}
+use Rattle.worktree_stack.specs.SeenNames.{AddsSeenNames, names_at, names_on}
 use Rattle.worktree_stack.specs.Setup.{has_attributes, lists_of, names_of}
 use Rattle.worktree_stack.specs.Stacked.{Stacked, IsInStep, IsLevel, PushesLists, made_of, pushed}
 use Rattle.worktree_stack.specs.Steps.{CarriesOut, Stops}
@@ -95,7 +95,7 @@ pub record StepHolds {W F : Type 0} (w : WorktreeOf W) (f : FindOf F) (before no
 -- the names of attributes are seen that the directories have which these calls push
 abbrev pub StepSees : {W F T : Type 0} → WorktreeOf W → FindOf F → Moment W F → Moment W F → List Call → Result T AtPathError → Type 0
 StepSees w f before now calls result =
-    Sees (w.told before.worktree) (f.holds before.objects) (λ s. names_on (made_of before.stack) s calls) before.stack.attributes now.stack.attributes result
+    AddsSeenNames (w.told before.worktree) (f.holds before.objects) (λ s. names_on (made_of before.stack) s calls) before.stack.attributes now.stack.attributes result
 
 -- How often the worktree is read: not more than these calls ask; and for ignore rules alone not more than `most` times and `least` less.
 pub record StepAsks {W F : Type 0} (w : WorktreeOf W) (before now : Moment W F) (calls : List Call) (least most : ℕ) : Type 0 where
@@ -109,7 +109,7 @@ pub record PushesRules {W F T : Type 0} (w : WorktreeOf W) (f : FindOf F) (befor
       → OnOk result (PushesLists (made_of before.stack) s before.stack.current before.stack.attributes now.stack.attributes)
   pub held : OnErr result (now.stack.ignore ≡ before.stack.ignore)
   pub held_lists : OnErr result (lists_of now.stack.attributes ≡ lists_of before.stack.attributes)
-  pub sees : Sees (w.told before.worktree) (f.holds before.objects) (λ s. names_at (made_of before.stack) s before.stack.current)
+  pub sees : AddsSeenNames (w.told before.worktree) (f.holds before.objects) (λ s. names_at (made_of before.stack) s before.stack.current)
       before.stack.attributes now.stack.attributes result
 
 -- A stack stands where it stood, at the same path.

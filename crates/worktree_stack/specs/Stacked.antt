@@ -8,7 +8,7 @@ use Rattle.worktree_stack.specs.declared.state.Checkout.{Checkout}
 use Rattle.worktree_stack.specs.declared.state.State.{State}
 use Rattle.worktree_stack.specs.declared.state.State.TheVariants.{CreateDirectoryAndAttributesStack, AttributesAndIgnoreStack, AttributesStack, IgnoreStack}
 use Rattle.worktree_stack.specs.declared.statistics.Statistics.{Statistics}
-use Rattle.worktree_stack.specs.Setup.{Made, Mapping, AttributesSetup, HeldAttributes, Held, attributes_setup_of, lists_of, setup_of}
+use Rattle.worktree_stack.specs.Setup.{StackSetup, Mapping, AttributesSetup, HeldAttributes, Held, attributes_setup_of, lists_of, setup_of}
 use Rattle.worktree_stack.specs.Excludes.{Decision, own_of_directory}
 use Rattle.worktree_stack.specs.Reading.{Sources, reading, rulebook, is_read, lists_at}
 
@@ -50,7 +50,7 @@ checkout_of (AttributesStack held) = None
 checkout_of (IgnoreStack held) = None
 
 -- what a stack was made with
-abbrev pub made_of : Stacked → Made
+abbrev pub made_of : Stacked → StackSetup
 made_of s = record { root = s.root; case = s.case; mappings = s.mappings; checkout = s.checkout; attributes = attributes_setup_of s.attributes; ignore = setup_of s.ignore }
 
 -- the directories that are pushed, the root first
@@ -59,22 +59,22 @@ pushed None = []
 pushed (Some names) = fronts names
 
 -- rules and matches are those that a tree and a store have for some directories, the root first
-pub record AreThoseOf (made : Made) (s : Sources) (directories : List (List (List ℕ))) (lists : List Rules) (matches : List (Option Decision)) : Type 0 where
+pub record AreThoseOf (made : StackSetup) (s : Sources) (directories : List (List (List ℕ))) (lists : List Rules) (matches : List (Option Decision)) : Type 0 where
   pub lists_are : lists ≡ map (rulebook made s).of_directory directories
   pub matches_are : matches ≡ map (own_of_directory (rulebook made s)) directories
 
 -- an exclude state, if there is one, holds what a tree and a store have for some directories
-abbrev pub HoldsRules : Made → Sources → List (List (List ℕ)) → Option Held → Type 0
+abbrev pub HoldsRules : StackSetup → Sources → List (List (List ℕ)) → Option Held → Type 0
 HoldsRules made s directories None = Unit {0}
 HoldsRules made s directories (Some held) = AreThoseOf made s directories held.lists held.matches
 
 -- an attribute state, if there is one, holds the lists that a tree and a store have for some directories, the root first: the list of
 -- each, and above that of the root the list of the info file
-abbrev pub HoldsLists : Made → Sources → List (List (List ℕ)) → Option HeldAttributes → Type 0
+abbrev pub HoldsLists : StackSetup → Sources → List (List (List ℕ)) → Option HeldAttributes → Type 0
 HoldsLists made s directories held = lists_of held ≡ flat_map (lists_at made s) directories
 
 -- No reading of these directories is refused, and what is held is what a tree and a store have for them.
-pub record HoldsFor (made : Made) (s : Sources) (directories : List (List (List ℕ))) (attributes : Option HeldAttributes) (ignore : Option Held) : Type 0 where
+pub record HoldsFor (made : StackSetup) (s : Sources) (directories : List (List (List ℕ))) (attributes : Option HeldAttributes) (ignore : Option Held) : Type 0 where
   pub are_read : list_all (λ names. is_read (reading made s (spelled names))) directories ≡ true
   pub lists : HoldsLists made s directories attributes
   pub rules : HoldsRules made s directories ignore
@@ -85,7 +85,7 @@ abbrev pub IsInStep : Sources → Stacked → Type 0
 IsInStep s stack = HoldsFor (made_of stack) s (pushed stack.at) stack.attributes stack.ignore
 
 -- A directory is pushed whose readings are done: its lists are those that a tree and a store have for it.
-pub record PushesLists (made : Made) (s : Sources) (names : List (List ℕ)) (before after : Option HeldAttributes) : Type 0 where
+pub record PushesLists (made : StackSetup) (s : Sources) (names : List (List ℕ)) (before after : Option HeldAttributes) : Type 0 where
   pub is_read : is_read (reading made s (spelled names)) ≡ true
   pub lists : lists_of after ≡ lists_of before ++ lists_at made s names
 
@@ -124,9 +124,9 @@ HasAsManyRules directories None = Unit {0}
 HasAsManyRules directories (Some held) = (length held.lists ≡ length directories) × (length held.matches ≡ length directories)
 
 -- both of this
-abbrev pub HasAsMany : List (List (List ℕ)) → Option HeldAttributes → Option Held → Type 0
-HasAsMany directories attributes ignore = HasAsManyLists directories attributes × HasAsManyRules directories ignore
+abbrev pub CountsMatchDirectories : List (List (List ℕ)) → Option HeldAttributes → Option Held → Type 0
+CountsMatchDirectories directories attributes ignore = HasAsManyLists directories attributes × HasAsManyRules directories ignore
 
 -- a stack is level where it holds a list and a match for each directory that is pushed, and none beside them
 abbrev pub IsLevel : Stacked → Type 0
-IsLevel stack = HasAsMany (pushed stack.at) stack.attributes stack.ignore
+IsLevel stack = CountsMatchDirectories (pushed stack.at) stack.attributes stack.ignore

@@ -9,7 +9,7 @@ use Rattle.worktree_fs.specs.PathStack.{Call, push_directory, granted, left_by, 
 use Rattle.worktree_stack.specs.declared.error.AtPathError.{AtPathError}
 use Rattle.worktree_stack.specs.declared.statistics.RulesStatistics.{RulesStatistics}
 use Rattle.worktree_stack.specs.declared.statistics.Statistics.{Statistics}
-use Rattle.worktree_stack.specs.Setup.{Made}
+use Rattle.worktree_stack.specs.Setup.{StackSetup}
 use Rattle.worktree_stack.specs.Reading.{Sources, Tells, RulesKind, readings_of}
 use Rattle.worktree_stack.specs.Counted.{count_calls, counts_of, count_readings, count_tried, files_on, blobs_on}
 use Rattle.worktree_stack.specs.Refused.{OnRefusal, IsFileOf, IsBlobOf}
@@ -21,7 +21,7 @@ use Rattle.worktree_stack.specs.Stacked.{Stacked, made_of}
 -- What was counted of the readings of one kind on the way: each rules file was tried that the worktree is asked for. Those that were
 -- files are among them, and the blobs among those that are mapped; which they were is told by the tree and the store, where
 -- they are told.
-pub record HasReadOf (told : Option Names) (holds : Option Objects) (kind : RulesKind) (made : Made) (calls : List Call) (old new : RulesStatistics) : Type 0 where
+pub record HasReadOf (told : Option Names) (holds : Option Objects) (kind : RulesKind) (made : StackSetup) (calls : List Call) (old new : RulesStatistics) : Type 0 where
   pub tried : new.tried_pattern_files ≡ count_tried kind made old.tried_pattern_files calls
   pub buffers : old.patterns_buffers ≤ new.patterns_buffers
   pub most_buffers : new.patterns_buffers ≤ old.patterns_buffers + blobs_on kind made calls
@@ -30,12 +30,12 @@ pub record HasReadOf (told : Option Names) (holds : Option Objects) (kind : Rule
   pub exact : (s : Sources) → Tells told holds s → new ≡ count_readings kind made s old calls
 
 -- and of every kind
-abbrev pub HasRead : Option Names → Option Objects → Made → List Call → Statistics → Statistics → Type 0
+abbrev pub HasRead : Option Names → Option Objects → StackSetup → List Call → Statistics → Statistics → Type 0
 HasRead told holds made calls old new = (kind : RulesKind) → HasReadOf told holds kind made calls (counts_of kind old) (counts_of kind new)
 
 -- what a refusal has counted of a directory: the readings before the refused one, and of that nothing for a file, for a blob the file
 -- before it; and all of this, or the whole reading, for want of memory
-abbrev pub HasTried : Option Names → Option Objects → Made → List ℕ → Statistics → Statistics → AtPathError → Type 0
+abbrev pub HasTried : Option Names → Option Objects → StackSetup → List ℕ → Statistics → Statistics → AtPathError → Type 0
 HasTried told holds made d old new = IsCutOff told holds (readings_of made d) old new
 
 -- ---- a lookup that was answered

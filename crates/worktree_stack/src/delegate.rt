@@ -39,7 +39,7 @@ pub(crate) fn create_leading_directory<W: Worktree>(
     ensures { Creates W.Worktree worktree.old worktree.new unlink_on_collision path.now
         mkdir_calls.old mkdir_calls.new result }
 {
-    match prepare(alloc, path, unlink_on_collision, worktree, mkdir_calls) {
+    match make_or_keep_directory(alloc, path, unlink_on_collision, worktree, mkdir_calls) {
         Ok(MakeAnswer::Made) => Ok(()),
         Ok(MakeAnswer::Exists) => Err(collision(alloc, path)),
         Ok(MakeAnswer::NoParent) => Err(no_directory(alloc, path, DirectoryWhy::NoParent)),
@@ -71,7 +71,7 @@ fn no_directory(alloc: Global, path: &[u8], why: DirectoryWhy) -> AtPathError
 
 /// Makes a directory at a path, unless one is there: what came of it. `Exists` says that something
 /// else is there.
-fn prepare<W: Worktree>(
+fn make_or_keep_directory<W: Worktree>(
     alloc: Global,
     path: &[u8],
     unlink_on_collision: bool,
@@ -84,14 +84,20 @@ fn prepare<W: Worktree>(
         (one_more (one_more mkdir_calls.old)) (IsAsked mkdir_calls.old) result }
 {
     match make_dir(alloc, path, worktree, mkdir_calls)? {
-        MakeAnswer::Exists => collide(alloc, path, unlink_on_collision, worktree, mkdir_calls),
+        MakeAnswer::Exists => resolve_collision(
+            alloc,
+            path,
+            unlink_on_collision,
+            worktree,
+            mkdir_calls,
+        ),
         answer => Ok(answer),
     }
 }
 
 /// Makes a directory at a path where something was met: a directory is kept.
 /// See docs/DIFFERENCES.md#gix-checkout-gone.
-fn collide<W: Worktree>(
+fn resolve_collision<W: Worktree>(
     alloc: Global,
     path: &[u8],
     unlink_on_collision: bool,
@@ -108,12 +114,12 @@ fn collide<W: Worktree>(
     };
     match kind {
         NodeKind::Directory => Ok(MakeAnswer::Made),
-        _ => unlink(alloc, path, unlink_on_collision, worktree, mkdir_calls),
+        _ => replace_with_directory(alloc, path, unlink_on_collision, worktree, mkdir_calls),
     }
 }
 
 /// Makes a directory in the place of another node, where that may be removed.
-fn unlink<W: Worktree>(
+fn replace_with_directory<W: Worktree>(
     alloc: Global,
     path: &[u8],
     unlink_on_collision: bool,

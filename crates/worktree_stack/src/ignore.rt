@@ -155,7 +155,7 @@ impl Ignore {
         ensures pushed { OnOk result (Some self.new ≡ push_level list matched (Some self.old)) }
         ensures refused { OnErr result (self.new ≡ self.old) }
     {
-        let decides = deciding_with(
+        let decides = deciding_directory_after_push(
             &self.matched_directories,
             self.deciding_directory,
             &matched,
@@ -318,11 +318,11 @@ fn deciding_directory(matches: &[Option<Matched>], strict: bool) -> Option<usize
     if strict {
         return first_excluding(matches);
     }
-    nearest(matches)
+    nearest_matched_directory(matches)
 }
 
 /// Which decides with one more, where `decides` does without it; nothing is searched.
-fn deciding_with(
+fn deciding_directory_after_push(
     matches: &[Option<Matched>],
     decides: Option<usize>,
     more: &Option<Matched>,
@@ -371,7 +371,7 @@ fn has_decision(matches: &[Option<Matched>], number: Option<usize>) -> bool
 }
 
 /// The nearest directory that has an own match.
-fn nearest(matches: &[Option<Matched>]) -> Option<usize>
+fn nearest_matched_directory(matches: &[Option<Matched>]) -> Option<usize>
     ensures { decision_of matches.now result ≡ first_decision (reverse matches.now) }
 {
     let mut at = matches.len();

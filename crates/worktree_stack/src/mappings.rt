@@ -1,7 +1,7 @@
 //! The blobs that rules files are mapped to.
 ghost use Rattle.std.specs.Prelude.{◌≡◌, ◌||◌, ◌==◌, true, IfOk};
 ghost use Rattle.gitbase_core.specs.Index.{path_cmp};
-ghost use Rattle.worktree_stack.specs.Mappings.{are_ascending, is_named, counts_for, is_plain, is_rules_entry, mappings_in};
+ghost use Rattle.worktree_stack.specs.Mappings.{are_ascending, is_named, reads_rules_from_blob, is_plain, is_rules_entry, mappings_in};
 ghost use Rattle.worktree_stack.specs.Setup.{mapped_to, attributes_setup_of, setup_of};
 ghost use Rattle.worktree_stack.specs.Stacked.{attributes_of, ignore_of};
 
@@ -140,7 +140,7 @@ fn compare(mapping: &PathIdMapping, path: &[u8]) -> Ordering
 }
 
 /// The blobs that an index has for the rules files of directories, in the order of the index.
-pub(crate) fn in_index(
+pub(crate) fn collect_rules_mappings(
     alloc: Global,
     state: &Rules,
     index: &Index,
@@ -173,7 +173,7 @@ fn is_rules_entry(entry: &IndexEntry, state: &Rules, case: Case) -> bool
     }
     if let Some(ignore) = state.ignore() {
         if is_named(entry.path.as_bytes(), ignore.file_name(), case) {
-            return counts_for(entry, ignore.source());
+            return reads_rules_from_blob(entry, ignore.source());
         }
     }
     if state.attributes().is_some() {
@@ -207,8 +207,8 @@ fn is_named(path: &[u8], name: &[u8], case: Case) -> bool
 }
 
 /// Whether rules are read from the blob of an entry.
-fn counts_for(entry: &IndexEntry, source: Source) -> bool
-    ensures { result ≡ counts_for source entry.now }
+fn reads_rules_from_blob(entry: &IndexEntry, source: Source) -> bool
+    ensures { result ≡ reads_rules_from_blob source entry.now }
 {
     match source {
         Source::IdMapping => true,

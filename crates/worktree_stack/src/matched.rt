@@ -30,7 +30,7 @@ pub struct Matched {
     pattern: Pattern,
     kind: Kind,
     source: Option<PathText>,
-    sequence_number: usize,
+    sequence_number: u32,
 }
 
 impl Model for Matched {
@@ -43,7 +43,7 @@ impl Model for Matched {
 
 impl Matched {
     /// What a match refers to, copied.
-    pub fn of(alloc: Global, decided: &Decided<'_>) -> Result<Matched, OutOfMemory>
+    pub fn copy_from_decided(alloc: Global, decided: &Decided<'_>) -> Result<Matched, OutOfMemory>
         ensures { IfOk result (λ matched. matched ≡ decided_of decided.now) }
     {
         let found = &decided.found;
@@ -74,7 +74,7 @@ impl Matched {
             return Ok(None);
         };
         match ignore.own_match(path, Some(true), case) {
-            Some(found) => Ok(Some(Matched::of(alloc, &found)?)),
+            Some(found) => Ok(Some(Matched::copy_from_decided(alloc, &found)?)),
             None => Ok(None),
         }
     }

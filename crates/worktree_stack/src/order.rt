@@ -21,7 +21,7 @@ pub enum Order {
 
 /// Where ignore rules are looked for, by their source and the blob that the rules file is mapped
 /// to.
-pub(crate) fn of_ignore(source: ignore_source::Source, mapped: Option<ObjectId>) -> Order
+pub(crate) fn ignore_read_order(source: ignore_source::Source, mapped: Option<ObjectId>) -> Order
     ensures { (whole path : List ℕ) → places_by result whole path ≡ ignore_places source whole path
         mapped }
 {
@@ -39,7 +39,10 @@ pub(crate) fn of_ignore(source: ignore_source::Source, mapped: Option<ObjectId>)
 
 /// Where the attributes of a directory are looked for, by their source and the blob that the file
 /// is mapped to.
-pub(crate) fn of_attributes(source: attributes_source::Source, mapped: Option<ObjectId>) -> Order
+pub(crate) fn attributes_read_order(
+    source: attributes_source::Source,
+    mapped: Option<ObjectId>,
+) -> Order
     ensures { (whole path : List ℕ) → places_by result whole path ≡ attribute_places source whole
         path mapped }
 {

@@ -428,11 +428,11 @@ impl Stack {
         }
         let Some(checkout) = self.checkout() else {
             self.look_up(alloc, relative, worktree, objects)?;
-            self.answer(mode);
+            self.mark_answered(mode);
             return Ok(());
         };
-        self.check_out(alloc, relative, checkout, mode, worktree, objects)?;
-        self.answer(mode);
+        self.look_up_making_directories(alloc, relative, checkout, mode, worktree, objects)?;
+        self.mark_answered(mode);
         Ok(())
     }
 

@@ -101,7 +101,7 @@ impl State {
             index.now) }
         ensures ascending { IfOk result (λ mappings. are_ascending mappings ≡ true) }
     {
-        let items = mappings::in_index(alloc, self, index, case)?;
+        let items = mappings::collect_rules_mappings(alloc, self, index, case)?;
         Ok(PathIdMappings::from_vec(items))
     }
 

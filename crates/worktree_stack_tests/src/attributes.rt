@@ -11,7 +11,7 @@ use gitbase_core::{Bytes, MemoryStore, OutOfMemory, PathText, State as Index};
 use glob_rules::Case;
 use glob_rules::attributes::{Assignment, MetadataCollection, Outcome, Search};
 use std::alloc::Global;
-use test_cases::{parted, parted_by};
+use test_cases::{split_at_byte, split_at_mark};
 use worktree_fs::MemoryWorktree;
 use worktree_stack::attributes_source::Source;
 use worktree_stack::{Attributes, Platform, Stack, State};
@@ -285,11 +285,11 @@ fn rows_of(source: &[u8]) -> &'static [u8] {
 }
 
 fn case_lie(alloc: Global, case: &[u8]) -> Option<&[u8]> {
-    let (head, steps) = parted_by(case, b"\n  ");
-    let (_, rest) = parted(head, b'`');
-    let (kind, rest) = parted(rest, b'`');
-    let (source, rest) = parted(rest, b'`');
-    let (info, lines) = parted(rest, b'`');
+    let (head, steps) = split_at_mark(case, b"\n  ");
+    let (_, rest) = split_at_byte(head, b'`');
+    let (kind, rest) = split_at_byte(rest, b'`');
+    let (source, rest) = split_at_byte(rest, b'`');
+    let (info, lines) = split_at_byte(rest, b'`');
     let Some(index) = index_of(alloc, rows_of(source)) else {
         return Some(case);
     };

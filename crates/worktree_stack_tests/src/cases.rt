@@ -5,7 +5,7 @@ use gitbase_core::{Bytes, MemoryStore, OutOfMemory, PathText};
 use glob_rules::Case;
 use glob_rules::ignore::{ParseIgnore, Search};
 use std::alloc::Global;
-use test_cases::{parted, parted_by};
+use test_cases::{split_at_byte, split_at_mark};
 use worktree_fs::MemoryWorktree;
 use worktree_stack::ignore_source::Source;
 use worktree_stack::{Ignore, Stack, State};
@@ -176,9 +176,9 @@ fn stack_lie<'a>(alloc: Global, stack: &mut Stack, steps: &'a [u8]) -> Option<&'
 }
 
 fn case_lie(alloc: Global, case: &[u8]) -> Option<&[u8]> {
-    let (head, steps) = parted_by(case, b"\n  ");
-    let (_, rules) = parted(head, b'`');
-    let (overrides, globals) = parted(rules, b'`');
+    let (head, steps) = split_at_mark(case, b"\n  ");
+    let (_, rules) = split_at_byte(head, b'`');
+    let (overrides, globals) = split_at_byte(rules, b'`');
     match stack_of(alloc, b"/w", overrides, globals) {
         Ok(mut stack) => stack_lie(alloc, &mut stack, steps),
         Err(_) => Some(case),

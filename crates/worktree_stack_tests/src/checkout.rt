@@ -2,7 +2,7 @@
 use bstr::ByteSlice;
 use gitbase_core::OutOfMemory;
 use std::alloc::Global;
-use test_cases::parted;
+use test_cases::split_at_byte;
 use worktree_fs::{AddError, CallKind, MemoryWorktree, NewNode, NodeKind};
 use worktree_stack::validate::{ComponentError, Options, component};
 
@@ -37,10 +37,10 @@ pub fn component_word(answer: Result<(), ComponentError>) -> &'static [u8] {
     }
 }
 
-fn is_answered(row: &[u8]) -> bool {
-    let (name, rest) = parted(row, b'`');
-    let (link, rest) = parted(rest, b'`');
-    let (windows, want) = parted(rest, b'`');
+fn component_check_matches_row(row: &[u8]) -> bool {
+    let (name, rest) = split_at_byte(row, b'`');
+    let (link, rest) = split_at_byte(rest, b'`');
+    let (windows, want) = split_at_byte(rest, b'`');
     let protect_windows = windows == b"w".as_slice();
     component_word(component(name, link == b"l".as_slice(), Options { protect_windows })) == want
 }
@@ -48,7 +48,7 @@ fn is_answered(row: &[u8]) -> bool {
 #[test]
 fn components(rt: HostRuntime) {
     for row in NAMES.lines() {
-        assert!(rt; is_answered(row), "{row:?}");
+        assert!(rt; component_check_matches_row(row), "{row:?}");
     }
 }
 
@@ -76,11 +76,11 @@ pub fn tree_of(alloc: Global, node: &[u8]) -> Result<MemoryWorktree, AddError> {
 /// Lets a call fail, where one is named.
 pub fn plan(alloc: Global, tree: &mut MemoryWorktree, call: &[u8]) -> Result<(), OutOfMemory> {
     match call {
-        b"m1" => tree.fail(alloc, CallKind::MakeDir, 1),
-        b"m2" => tree.fail(alloc, CallKind::MakeDir, 2),
-        b"m3" => tree.fail(alloc, CallKind::MakeDir, 3),
-        b"r1" => tree.fail(alloc, CallKind::RemoveNode, 1),
-        b"k1" => tree.fail(alloc, CallKind::Kind, 1),
+        b"m1" => tree.plan_fault(alloc, CallKind::MakeDir, 1),
+        b"m2" => tree.plan_fault(alloc, CallKind::MakeDir, 2),
+        b"m3" => tree.plan_fault(alloc, CallKind::MakeDir, 3),
+        b"r1" => tree.plan_fault(alloc, CallKind::RemoveNode, 1),
+        b"k1" => tree.plan_fault(alloc, CallKind::Kind, 1),
         _ => Ok(()),
     }
 }

@@ -8,7 +8,7 @@ use gitbase_core::{Bytes, MemoryStore, Mode, OutOfMemory, PathText};
 use glob_rules::Case;
 use glob_rules::attributes::{MetadataCollection, Search};
 use std::alloc::Global;
-use test_cases::parted;
+use test_cases::split_at_byte;
 use worktree_fs::{MemoryWorktree, Worktree};
 use worktree_stack::validate::Options;
 use worktree_stack::{AtPathError, Attributes, DirectoryWhy, Stack, State, attributes_source};
@@ -128,13 +128,13 @@ fn look(
 
 /// Whether a lookup answers so, and leaves the counts and the node.
 fn goes(alloc: Global, stack: &mut Stack, tree: &mut MemoryWorktree, step: &[u8]) -> bool {
-    let (path, rest) = parted(step, b'`');
-    let (mode, rest) = parted(rest, b'`');
-    let (want, rest) = parted(rest, b'`');
-    let (mkdirs, rest) = parted(rest, b'`');
-    let (pushed, rest) = parted(rest, b'`');
-    let (at, rest) = parted(rest, b'`');
-    let (kind, state) = parted(rest, b'`');
+    let (path, rest) = split_at_byte(step, b'`');
+    let (mode, rest) = split_at_byte(rest, b'`');
+    let (want, rest) = split_at_byte(rest, b'`');
+    let (mkdirs, rest) = split_at_byte(rest, b'`');
+    let (pushed, rest) = split_at_byte(rest, b'`');
+    let (at, rest) = split_at_byte(rest, b'`');
+    let (kind, state) = split_at_byte(rest, b'`');
     let answer = look(alloc, stack, tree, path, mode);
     let counts = stack.statistics().delegate;
     let after = tree.kind(alloc, at).unwrap_or(None);
@@ -183,9 +183,9 @@ fn all_go_in(alloc: Global, stack: &mut Stack, node: &[u8], call: &[u8], steps: 
 }
 
 fn is_looked_up(alloc: Global, row: &[u8]) -> bool {
-    let (node, rest) = parted(row, b'`');
-    let (unlinks, rest) = parted(rest, b'`');
-    let (call, steps) = parted(rest, b'`');
+    let (node, rest) = split_at_byte(row, b'`');
+    let (unlinks, rest) = split_at_byte(rest, b'`');
+    let (call, steps) = split_at_byte(rest, b'`');
     match stack_of(alloc, unlinks == b"u".as_slice()) {
         Ok(mut stack) => all_go_in(alloc, &mut stack, node, call, steps),
         Err(_) => false,

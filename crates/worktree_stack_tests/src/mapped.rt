@@ -7,7 +7,7 @@ use gitbase_core::{Flags, IndexEntry, MemoryStore, Mode, OutOfMemory, PathText, 
 use glob_rules::Case;
 use glob_rules::ignore::Search;
 use std::alloc::Global;
-use test_cases::{parted, parted_by};
+use test_cases::{split_at_byte, split_at_mark};
 use worktree_fs::MemoryWorktree;
 use worktree_stack::ignore_source::Source;
 use worktree_stack::{AtPathError, BlobWhy, Ignore, PathIdMapping, Stack, State};
@@ -134,10 +134,10 @@ fn stack_of(
 }
 
 fn case_lie(alloc: Global, case: &[u8]) -> Option<&[u8]> {
-    let (head, steps) = parted_by(case, b"\n  ");
-    let (_, rest) = parted(head, b'`');
-    let (source, rest) = parted(rest, b'`');
-    let (folds, rows) = parted(rest, b'`');
+    let (head, steps) = split_at_mark(case, b"\n  ");
+    let (_, rest) = split_at_byte(head, b'`');
+    let (source, rest) = split_at_byte(rest, b'`');
+    let (folds, rows) = split_at_byte(rest, b'`');
     let Some(index) = index_of(alloc, rows) else {
         return Some(rows);
     };

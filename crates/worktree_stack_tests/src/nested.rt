@@ -12,7 +12,7 @@ use bstr::ByteSlice;
 use gitbase_core::{MemoryStore, Mode, OutOfMemory, PathText};
 use glob_rules::ignore::{Kind, Search};
 use std::alloc::Global;
-use test_cases::parted;
+use test_cases::split_at_byte;
 use worktree_fs::{MemoryWorktree, NewNode};
 use worktree_stack::ignore_source::Source;
 use worktree_stack::{Ignore, Platform, Stack};
@@ -67,7 +67,7 @@ fn is_decided(platform: &Platform<'_>, line: &[u8], sign: &[u8], file: &[u8]) ->
 {
     match platform.matching_exclude_pattern() {
         Some(found) => {
-            is_digit(found.sequence_number, line)
+            is_digit(found.sequence_number as usize, line)
                 && found.pattern.is_negative() == (sign == b"-".as_slice())
                 && is_below(found.source, file)
         }
@@ -113,11 +113,11 @@ fn says(
 }
 
 fn is_as_git(alloc: Global, row: &[u8]) -> bool {
-    let (line, rest) = parted(row, b';');
-    let (sign, rest) = parted(rest, b';');
-    let (file, rest) = parted(rest, b';');
-    let (kind, rest) = parted(rest, b';');
-    let (path, files) = parted(rest, b';');
+    let (line, rest) = split_at_byte(row, b';');
+    let (sign, rest) = split_at_byte(rest, b';');
+    let (file, rest) = split_at_byte(rest, b';');
+    let (kind, rest) = split_at_byte(rest, b';');
+    let (path, files) = split_at_byte(rest, b';');
     let mode = if kind == b"d".as_slice() {
         Mode::DIR
     } else {

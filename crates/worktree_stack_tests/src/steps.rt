@@ -13,7 +13,7 @@ use gitbase_core::{MemoryStore, Mode, ObjectId, OutOfMemory, PathText};
 use glob_rules::Case;
 use glob_rules::ignore::{Kind, List, Origin, ParseIgnore, RuleGroup, Search};
 use std::alloc::Global;
-use test_cases::parted;
+use test_cases::split_at_byte;
 use worktree_fs::{CallKind, MemoryWorktree};
 use worktree_stack::ignore_source::Source;
 use worktree_stack::{AtPathError, BlobWhy, Ignore, Platform, RulesWhy, Stack, State, Statistics};
@@ -73,7 +73,7 @@ fn is_group(group: RuleGroup, text: &[u8]) -> bool {
 /// Whether an origin is that of a line and a group.
 fn is_origin(origin: Option<Origin>, line: &[u8], group: &[u8]) -> bool {
     match origin {
-        Some(origin) => is_digit(origin.line, line) && is_group(origin.group, group),
+        Some(origin) => is_digit(origin.line as usize, line) && is_group(origin.group, group),
         None => line == b"0".as_slice(),
     }
 }
@@ -121,9 +121,9 @@ fn says(
     if !scene.stack.has_excludes() {
         return false;
     }
-    let (text, rest) = parted(want, b'`');
-    let (line, rest) = parted(rest, b'`');
-    let (group, source) = parted(rest, b'`');
+    let (text, rest) = split_at_byte(want, b'`');
+    let (line, rest) = split_at_byte(rest, b'`');
+    let (group, source) = split_at_byte(rest, b'`');
     is_decided(&scene.stack.platform(), kind, text, line, group, source)
 }
 
@@ -241,7 +241,7 @@ fn is_fresh(alloc: Global, stack: &mut Stack) -> bool {
 /// Whether a step that puts something into the tree or the store was taken.
 fn is_put(alloc: Global, scene: &mut Scene<'_>, what: &[u8], path: &[u8], text: &[u8]) -> bool {
     match what {
-        b"fail" => scene.tree.fail(alloc, CallKind::Read, 1).is_ok(),
+        b"fail" => scene.tree.plan_fault(alloc, CallKind::Read, 1).is_ok(),
         b"blob" => scene.store.insert(alloc, id_of(path), text).is_ok(),
         b"other object" => scene.store.insert_other(alloc, id_of(path)).is_ok(),
         _ => test_cases::is_put(alloc, scene.tree, what, path, text),
@@ -282,9 +282,9 @@ fn is_refused(alloc: Global, scene: &mut Scene<'_>, what: &[u8], one: &[u8], two
 }
 
 fn holds(alloc: Global, scene: &mut Scene<'_>, step: &[u8]) -> bool {
-    let (what, rest) = parted(step, b'`');
-    let (one, rest) = parted(rest, b'`');
-    let (two, three) = parted(rest, b'`');
+    let (what, rest) = split_at_byte(step, b'`');
+    let (one, rest) = split_at_byte(rest, b'`');
+    let (two, three) = split_at_byte(rest, b'`');
     match what {
         b"file" | b"link" | b"other" | b"directory" | b"fail" | b"blob" | b"other object" => is_put(
             alloc, scene, what, one, two,

@@ -84,7 +84,7 @@ fn is_absent(error: &io::Error) -> bool {
 }
 
 /// What is told of the node at a path, where there is one. Never answers `OutOfMemory`.
-fn asked(rt: &HostRuntime, path: &[u8]) -> Result<Option<NodeStat>, ReadError> {
+fn lstat_path(rt: &HostRuntime, path: &[u8]) -> Result<Option<NodeStat>, ReadError> {
     let Ok(text) = str::from_utf8(path) else {
         return Err(ReadError::Fault);
     };
@@ -101,7 +101,11 @@ fn is_own_want(error: &io::Error) -> bool {
 }
 
 /// Where a link at a path leads, where there is one.
-fn followed(rt: &HostRuntime, alloc: Global, path: &[u8]) -> Result<Option<Bytes>, ReadError> {
+fn read_link_target(
+    rt: &HostRuntime,
+    alloc: Global,
+    path: &[u8],
+) -> Result<Option<Bytes>, ReadError> {
     let Ok(text) = str::from_utf8(path) else {
         return Err(ReadError::Fault);
     };
@@ -130,7 +134,7 @@ impl<'a> Stats for DiskStats<'a> {
 
     /// One call of the system.
     fn stat(&mut self, path: &[u8]) -> Result<Option<NodeStat>, ReadError> {
-        let found = asked(self.rt, path);
+        let found = lstat_path(self.rt, path);
         if is_fault(&found) {
             self.faults = self.faults.saturating_add(1);
         }
@@ -139,7 +143,7 @@ impl<'a> Stats for DiskStats<'a> {
 
     /// One call of the system.
     fn target(&mut self, alloc: Global, path: &[u8]) -> Result<Option<Bytes>, ReadError> {
-        let found = followed(self.rt, alloc, path);
+        let found = read_link_target(self.rt, alloc, path);
         if is_fault(&found) {
             self.faults = self.faults.saturating_add(1);
         }

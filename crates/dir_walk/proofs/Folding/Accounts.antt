@@ -15,7 +15,7 @@ use Rattle.dir_walk.specs.Collapsed.{are_accounted, is_accounted}
 use Rattle.dir_walk.specs.Emissions.{Emission, is_empty_directory, path_of, plain, shows, within}
 use Rattle.dir_walk.specs.Fold.{fold, is_same_status, shows_collapsed, tally}
 use Rattle.dir_walk.specs.Report.{out_of, shown}
-use Rattle.dir_walk.specs.Walked.{Walked, both, closed, empty_directory, empty_entry, folded_if, folded_to, handed_up, is_held, leaf, put_out, report_of, unfolded}
+use Rattle.dir_walk.specs.Walked.{Walked, merge_walked, closed, empty_directory, empty_entry, folded_if, folded_to, handed_up, is_held, leaf, put_out, report_of, unfolded}
 use Rattle.dir_walk.proofs.Places.Beneath.{strictly-beneath}
 use Rattle.dir_walk.proofs.Order.Counts.{list_any-left, list_any-right}
 use Rattle.dir_walk.proofs.Theorems.Induct.{Cases, NoneEmpty, at_report}
@@ -54,7 +54,7 @@ module _ (o : Chosen) (ev : Evidence) where
   unfolding empty_directory
   empty-accounts lies d c = let h : Accounts lies (leaf o (empty_entry ev d c)) = leaf-accounts lies (empty_entry ev d c) in record { out = h.out }
 
-  both-accounts : (here there lies : List ℕ → Bool) (a b : Walked) → Accounts here a → Accounts there b → Accounts lies (both a b)
+  both-accounts : (here there lies : List ℕ → Bool) (a b : Walked) → Accounts here a → Accounts there b → Accounts lies (merge_walked a b)
   both-accounts here there lies a b left right =
       let all : List Entry = a.folds ++ b.folds in
       record {

@@ -12,7 +12,7 @@ use Rattle.dir_walk.specs.declared.tally.Tally.{Tally}
 use Rattle.dir_walk.specs.Deleted.{loses_blocked}
 use Rattle.dir_walk.specs.Emissions.{is_empty_directory}
 use Rattle.dir_walk.specs.Fold.{are_some, fold, is_foldable, tally}
-use Rattle.dir_walk.specs.Walked.{Walked, both, closed, empty_directory, empty_entry, folded_if, folded_to, leaf, report_of, unfolded}
+use Rattle.dir_walk.specs.Walked.{Walked, merge_walked, closed, empty_directory, empty_entry, folded_if, folded_to, leaf, report_of, unfolded}
 use Rattle.dir_walk.proofs.Folding.Closing.{leaf-gives}
 use Rattle.dir_walk.proofs.Order.Counts.{count_by-append, count_by-cons, count-none, list_any-count, list_any-none}
 use Rattle.dir_walk.proofs.Theorems.Induct.{Cases, NoneEmpty, at_report}
@@ -77,7 +77,7 @@ module _ (o : Chosen) (ev : Evidence) where
       }
 
   both-keeps : (here there lies : List ℕ → Bool) (a b : Walked) → Apart here there lies → LieIn here a → LieIn there b → KeepsBlocked ev here a → KeepsBlocked ev there b
-      → KeepsBlocked ev lies (both a b)
+      → KeepsBlocked ev lies (merge_walked a b)
   both-keeps here there lies a b apart at bt left right =
       record {
         none = all_append (λ (f : Entry). blocked_within ev f.rela_path (a.entered ++ b.entered) ≡ 0) a.folds b.folds

@@ -9,7 +9,7 @@ use Rattle.dir_classify.specs.declared.entry.Status.TheVariants.{Ignored, Untrac
 use Rattle.dir_classify.specs.Chosen.{Chosen, collapses, collapses_if}
 use Rattle.dir_classify.specs.Evidence.{Evidence}
 use Rattle.dir_walk.specs.Emits.{folded_of}
-use Rattle.dir_walk.specs.Fold.{fold, fold_status, folded, folds_untracked, folds_expendable, folds_precious, are_loose, is_foldable, may_delete_all, tally}
+use Rattle.dir_walk.specs.Fold.{fold, fold_status, folded, folds_untracked, folds_expendable, folds_precious, are_all_untracked_or_ignored, is_foldable, may_delete_all, tally}
 use Rattle.dir_walk.specs.Walked.{holding}
 
 and-three : (a b : Bool) → (a && false && b) ≡ false
@@ -27,7 +27,7 @@ no-status u e p hu he hp = rw (hu, he, hp) refl
 status-empty : (o : Chosen) → fold_status o (tally []) ≡ None
 status-empty o =
     no-status (folds_untracked o (tally [])) (folds_expendable o (tally [])) (folds_precious o (tally []))
-    (and-four (collapses o.emit_untracked) (are_loose (tally [])) (may_delete_all o (tally [])))
+    (and-four (collapses o.emit_untracked) (are_all_untracked_or_ignored (tally [])) (may_delete_all o (tally [])))
     (and-three (collapses_if o.emit_ignored) ((tally []).expendable == (tally []).all))
     (and-three (collapses_if o.emit_ignored) ((tally []).precious == (tally []).all))
 

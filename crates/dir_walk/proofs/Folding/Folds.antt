@@ -6,7 +6,7 @@ use Rattle.dir_classify.specs.declared.entry.PathspecMatch.TheVariants.{Always, 
 use Rattle.dir_classify.specs.Chosen.{Chosen}
 use Rattle.dir_classify.specs.Evidence.{Evidence}
 use Rattle.dir_walk.specs.Emissions.{plain, within}
-use Rattle.dir_walk.specs.Fold.{fold, has_no_names, is_barring, is_expendable, is_matched, is_picked, is_precious, is_untracked, shows_collapsed, tally}
+use Rattle.dir_walk.specs.Fold.{fold, has_no_names, is_barring, is_expendable, is_matched, is_prefix_or_wildcard_match, is_precious, is_untracked, shows_collapsed, tally}
 use Rattle.dir_walk.specs.Walked.{Walked, closed, folded_if, folded_to, unfolded}
 use Rattle.dir_walk.proofs.Order.Counts.{SameCounts, count_by-append, count_by-cons, count_by-map, count_by-map_filter}
 
@@ -18,7 +18,7 @@ tally_same xs ys same =
       same is_expendable,
       same is_precious,
       same is_barring,
-      same is_picked,
+      same is_prefix_or_wildcard_match,
       same has_no_names,
       same (is_matched Always),
       same (is_matched Excluded),

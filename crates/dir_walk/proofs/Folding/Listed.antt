@@ -14,7 +14,7 @@ use Rattle.worktree_fs.specs.Naming.{IsName, AreNames}
 use Rattle.worktree_fs.specs.Paths.{full_path}
 use Rattle.worktree_fs.specs.Tree.{Names, none, named, names_of, look}
 use Rattle.worktree_stack.specs.Reading.{Sources}
-use Rattle.worktree_stack.specs.Setup.{Made}
+use Rattle.worktree_stack.specs.Setup.{StackSetup}
 use Rattle.dir_classify.specs.declared.classify.Outcome.{Outcome as Class}
 use Rattle.dir_classify.specs.declared.entry.Entry.{Entry}
 use Rattle.dir_classify.specs.Chosen.{Chosen}
@@ -30,7 +30,7 @@ use Rattle.dir_walk.specs.Refused.{is_among}
 use Rattle.dir_walk.specs.Opens.{count_within}
 use Rattle.dir_walk.specs.Report.{depth_of, is_refused}
 use Rattle.dir_walk.specs.Told.{item_told, directory_told, look_directory}
-use Rattle.dir_walk.specs.Walked.{Walked, both, items, item_at, report_of, entered_at, closed, holding, empty_directory, empty_entry, folded_if, is_held, handed_up, put_out, leaf}
+use Rattle.dir_walk.specs.Walked.{Walked, merge_walked, items, item_at, report_of, entered_at, closed, holding, empty_directory, empty_entry, folded_if, is_held, handed_up, put_out, leaf}
 use Rattle.dir_walk.proofs.Folding.Closes.{Adds, closed-adds, closed-is}
 use Rattle.dir_walk.proofs.Order.Counts.{SameCounts, count_by-append, count_by-cons, count_by-yes, list_any-append, or-right}
 use Rattle.dir_walk.proofs.Gives.Emitting.{Emits-then, Within-then, front-sum}
@@ -74,7 +74,7 @@ is_deep limit path = nat_lt limit (depth_of path)
 deep_or_broken : ℕ → Walked → Bool
 deep_or_broken limit w = list_any (is_deep limit) w.entered || list_any (λ path. true) w.broken
 
-deep_or_broken-both : (limit : ℕ) (a b : Walked) → deep_or_broken limit (both a b) ≡ (deep_or_broken limit a || deep_or_broken limit b)
+deep_or_broken-both : (limit : ℕ) (a b : Walked) → deep_or_broken limit (merge_walked a b) ≡ (deep_or_broken limit a || deep_or_broken limit b)
 unfolding deep_or_broken
 deep_or_broken-both limit a b =
     ap (λ c. c || list_any (λ path. true) (a.broken ++ b.broken)) (list_any-append (is_deep limit) a.entered b.entered)
@@ -179,7 +179,7 @@ report_of-empty : (o : Chosen) (ev : Evidence) (d : List ℕ) (c : Class) (names
 report_of-empty o ev d c none h = refl
 report_of-empty o ev d c (named name node rest) h = absurd (omega arith)
 
-module _ (given : Setting) (made : Option Made) (s : Sources) (d : List ℕ) (c : Class) (listed : List (List ℕ)) (lists : ListsNames (look_directory given s.tree d) listed) where
+module _ (given : Setting) (made : Option StackSetup) (s : Sources) (d : List ℕ) (c : Class) (listed : List (List ℕ)) (lists : ListsNames (look_directory given s.tree d) listed) where
   module _ (bare : length listed ≡ 0) where
     told-empty : directory_told given made s d c ≡ empty_directory given.options (evidence given made s) d c
     told-empty =
@@ -364,7 +364,7 @@ HasNames-listed given t d {shown = shown} shown-is empty-is filled listed-is are
       some = omega (arith, eqb-false (length shown) 0 (sym empty-is ∙ filled), ap length shown-is, ap length listed-is);
     }
 
-pub HasPaths-name : (given : Setting) (made : Option Made) (s : Sources) (d : List ℕ) (c : Class) (listed : List (List ℕ)) (lists : ListsNames (look_directory given s.tree d) listed) → AreNames listed → ends_in_slash d ≡ false → 0 < length listed
+pub HasPaths-name : (given : Setting) (made : Option StackSetup) (s : Sources) (d : List ℕ) (c : Class) (listed : List (List ℕ)) (lists : ListsNames (look_directory given s.tree d) listed) → AreNames listed → ends_in_slash d ≡ false → 0 < length listed
     → (i : ℕ) (q : List ℕ) → i < length listed → q ≡ get_or listed i q → HasPaths (item_told given made s (joined d q)) (directory_told given made s d c)
 HasPaths-name given made s d c listed lists are plain-path some i q inside is =
     let w : Walked = items given.options (evidence given made s) d lists.names in

@@ -5,7 +5,7 @@ use Rattle.std.specs.List.{list_any}
 use Rattle.std.proofs.lemmas.List.Sums.{sum_by_more}
 use Rattle.std.proofs.lemmas.List.Folds.{list_any_more}
 use Rattle.gitbase_core.specs.Path.{joined}
-use Rattle.worktree_stack.specs.Setup.{Made}
+use Rattle.worktree_stack.specs.Setup.{StackSetup}
 use Rattle.worktree_stack.specs.Reading.{Sources}
 use Rattle.dir_classify.specs.declared.entry.Entry.{Entry}
 use Rattle.dir_classify.specs.Layers.{Setting, evidence}
@@ -21,27 +21,27 @@ use Rattle.dir_walk.proofs.Order.Counts.{count_by-append}
 use Rattle.dir_walk.proofs.Gives.Emitting.{Emits-then}
 
 -- how many directories within the limit are entered by a directory and these of its names
-abbrev pub entered_by : Setting → Option Made → Sources → ℕ → List ℕ → List (List ℕ) → ℕ
+abbrev pub entered_by : Setting → Option StackSetup → Sources → ℕ → List ℕ → List (List ℕ) → ℕ
 entered_by given made s limit d taken = 1 + sum_by (λ q. count_within limit (item_told given made s (joined d q)).entered) taken
 
 -- one name more
-pub entered_more : (given : Setting) (made : Option Made) (s : Sources) (limit : ℕ) (d : List ℕ) (names : List (List ℕ)) (i m n : ℕ) (q : List ℕ) → i < length names → q ≡ get_or names i q → m ≤ entered_by given made s limit d (take i names)
+pub entered_more : (given : Setting) (made : Option StackSetup) (s : Sources) (limit : ℕ) (d : List ℕ) (names : List (List ℕ)) (i m n : ℕ) (q : List ℕ) → i < length names → q ≡ get_or names i q → m ≤ entered_by given made s limit d (take i names)
     → n ≤ count_within limit (item_told given made s (joined d q)).entered → m + n ≤ entered_by given made s limit d (take (i + 1) names)
 entered_more given made s limit d names i m n q inside is so_far here =
     let f : List ℕ → ℕ = λ r. count_within limit (item_told given made s (joined d r)).entered in omega (arith, so_far, here, sum_by_more f names i q inside, ap f is)
 
-pub record SoFar (given : Setting) (made : Option Made) (s : Sources) (limit : ℕ) (d : List ℕ) (taken : List (List ℕ)) (before after : Option (List Emission)) (start stop : Outcome) (held : List Entry) (blocked : Bool) : Type 0 where
+pub record SoFar (given : Setting) (made : Option StackSetup) (s : Sources) (limit : ℕ) (d : List ℕ) (taken : List (List ℕ)) (before after : Option (List Emission)) (start stop : Outcome) (held : List Entry) (blocked : Bool) : Type 0 where
   pub emits : Emits before after start stop (λ p. sum_by (λ q. shown_by given.options p (item_told given made s (joined d q)).out) taken) (sum_by (λ q. seen_by (item_told given made s (joined d q))) taken)
       (1 + sum_by (λ q. size (item_told given made s (joined d q)).entered) taken)
   pub up : (p : Entry → Bool) → count_by p held ≡ sum_by (λ q. count_by p (item_told given made s (joined d q)).up) taken
   pub blocks : blocked ≡ list_any (λ q. (item_told given made s (joined d q)).blocks) taken
   pub whole : list_any (λ q. is_refused limit (evidence given made s) (item_told given made s (joined d q))) taken ≡ false
 
-pub SoFar-none : (given : Setting) (made : Option Made) (s : Sources) (limit : ℕ) (d : List ℕ) (before after : Option (List Emission)) (start stop : Outcome) → Emits before after start stop (λ p. 0) 0 1
+pub SoFar-none : (given : Setting) (made : Option StackSetup) (s : Sources) (limit : ℕ) (d : List ℕ) (before after : Option (List Emission)) (start stop : Outcome) → Emits before after start stop (λ p. 0) 0 1
     → SoFar given made s limit d [] before after start stop [] false
 SoFar-none given made s limit d before after start stop e = record { emits = e; up = λ p. refl; blocks = refl; whole = refl }
 
-module _ (given : Setting) (made : Option Made) (s : Sources) (limit : ℕ) (d : List ℕ) (names : List (List ℕ)) (i : ℕ) (q : List ℕ) (before mid after : Option (List Emission)) (start middle stop : Outcome) (held held1 : List Entry) (blocked blocked1 : Bool) (handed : Handed) where
+module _ (given : Setting) (made : Option StackSetup) (s : Sources) (limit : ℕ) (d : List ℕ) (names : List (List ℕ)) (i : ℕ) (q : List ℕ) (before mid after : Option (List Emission)) (start middle stop : Outcome) (held held1 : List Entry) (blocked blocked1 : Bool) (handed : Handed) where
   pub SoFar-more : i < length names → q ≡ get_or names i q → SoFar given made s limit d (take i names) before mid start middle held blocked
       → Gives given.options limit (evidence given made s) (item_told given made s (joined d q)) mid after middle stop handed → held1 ≡ held ++ option_to_list handed.entry → blocked1 ≡ (blocked || handed.blocks)
       → SoFar given made s limit d (take (i + 1) names) before after start stop held1 blocked1

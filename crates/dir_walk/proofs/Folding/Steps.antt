@@ -8,7 +8,7 @@ use Rattle.gitbase_core.specs.Path.{is_empty}
 use Rattle.worktree_fs.specs.Paths.{full_path}
 use Rattle.worktree_fs.specs.Tree.{Names, none, named, Look, look, found, absent, too_many_links, file, link, directory, other}
 use Rattle.worktree_stack.specs.Reading.{Sources}
-use Rattle.worktree_stack.specs.Setup.{Made}
+use Rattle.worktree_stack.specs.Setup.{StackSetup}
 use Rattle.worktree_stack.specs.Stacked.{Stacked}
 use Rattle.dir_classify.specs.declared.classify.Outcome.{Outcome as Class}
 use Rattle.dir_classify.specs.Chosen.{Chosen}
@@ -34,14 +34,14 @@ use Rattle.dir_walk.proofs.Folding.Listed.{leaf-entered, leaf-whole}
 -- ---- where a walk stands
 
 -- all that closing a directory asks of evidence is what was given to the walk
-pub IsEvidence-told : (given : Setting) (made : Option Made) (s : Sources) (blocked : Option (List ℕ)) → (evidence given made s).blocked ≡ blocked → IsEvidence given blocked (evidence given made s)
+pub IsEvidence-told : (given : Setting) (made : Option StackSetup) (s : Sources) (blocked : Option (List ℕ)) → (evidence given made s).blocked ≡ blocked → IsEvidence given blocked (evidence given made s)
 unfolding evidence
 IsEvidence-told given made s blocked is = record { matched = refl; covers = refl; blocked_is = is }
 
-pub telling : {given : Setting} {told : Option Names} {holds : Option Objects} {excludes : Option Stacked} {blocked : Option (List ℕ)} {made : Option Made} {s : Sources} → Stands given told holds excludes blocked made s → TellsIf told holds (made_with excludes) s
+pub telling : {given : Setting} {told : Option Names} {holds : Option Objects} {excludes : Option Stacked} {blocked : Option (List ℕ)} {made : Option StackSetup} {s : Sources} → Stands given told holds excludes blocked made s → TellsIf told holds (made_with excludes) s
 telling stands = record { tree_is = stands.tree; objects_are = λ some. stands.objects (ap is_some (sym stands.made_is) ∙ some) }
 
-pub Stands-later : (given : Setting) {told0 told1 : Option Names} {holds0 holds1 : Option Objects} {old : Option Stacked} (new : Option Stacked) {blocked : Option (List ℕ)} {made : Option Made} {s : Sources} → told1 ≡ told0 → holds1 ≡ holds0 → made_with new ≡ made_with old
+pub Stands-later : (given : Setting) {told0 told1 : Option Names} {holds0 holds1 : Option Objects} {old : Option Stacked} (new : Option Stacked) {blocked : Option (List ℕ)} {made : Option StackSetup} {s : Sources} → told1 ≡ told0 → holds1 ≡ holds0 → made_with new ≡ made_with old
     → ((u : Sources) → TellsIf told0 holds0 (made_with old) u → InStepIf u old → InStepIf u new) → Stands given told0 holds0 old blocked made s → Stands given told1 holds1 new blocked made s
 Stands-later given new {s = s} tree holds same in_step stands =
     record {
@@ -78,7 +78,7 @@ asking-whole limit ev true p w read whole =
     let front : Bool = list_any (λ path. nat_lt limit (depth_of path)) w.entered || list_any (λ path. true) w.broken in
     ap (λ b. front || (b || list_any ev.is_unread w.asked)) read ∙ whole
 
-module _ (given : Setting) (made : Option Made) (s : Sources) (p : List ℕ) (c : Class) (is : c ≡ class given.options (evidence given made s) p None (on_disk given s.tree p true)) where
+module _ (given : Setting) (made : Option StackSetup) (s : Sources) (p : List ℕ) (c : Class) (is : c ≡ class given.options (evidence given made s) p None (on_disk given s.tree p true)) where
   abbrev asked : Bool
   asked = child_asks given.options (evidence given made s) p (look_name given s.tree p)
 
@@ -176,7 +176,7 @@ entered-among o ev p c (found (directory (named name node rest))) =
     let x : Walked = closed o ev p c w in
     ap (λ (xs : List (List ℕ)). is_among p xs || is_among p x.broken) (closed-adds o ev p c w).entered ∙ ap (λ (b : Bool). (b || is_among p w.entered) || is_among p x.broken) (nat_list_eq_equiv.refl p)
 
-module _ (given : Setting) (made : Option Made) (s : Sources) (p : List ℕ) (c : Class) (is : c ≡ class given.options (evidence given made s) p None (on_disk given s.tree p true)) (some : is_empty p ≡ false) (into : enters given.options c false ≡ true) where
+module _ (given : Setting) (made : Option StackSetup) (s : Sources) (p : List ℕ) (c : Class) (is : c ≡ class given.options (evidence given made s) p None (on_disk given s.tree p true)) (some : is_empty p ≡ false) (into : enters given.options c false ≡ true) where
   pub HasPaths-told : HasPaths (directory_told given made s p c) (item_told given made s p)
   HasPaths-told =
       let R : Walked → Type 0 = λ w. HasPaths (directory_told given made s p c) w in
@@ -186,7 +186,7 @@ module _ (given : Setting) (made : Option Made) (s : Sources) (p : List ℕ) (c 
   enter-told = ap (is_to_enter p) (told-entered given made s p c is some into) ∙ entered-among given.options (evidence given made s) p c (look_directory given s.tree p)
 
 -- the path of a name whose class asks the rules
-pub among-asked : (given : Setting) (made : Option Made) (s : Sources) (p : List ℕ) → is_empty p ≡ false → asks given.options (evidence given made s) p None (on_disk given s.tree p true) ≡ true → is_among p (item_told given made s p).asked ≡ true
+pub among-asked : (given : Setting) (made : Option StackSetup) (s : Sources) (p : List ℕ) → is_empty p ≡ false → asks given.options (evidence given made s) p None (on_disk given s.tree p true) ≡ true → is_among p (item_told given made s p).asked ≡ true
 among-asked given made s p some e = go (enters given.options (class given.options (evidence given made s) p None (on_disk given s.tree p true)) false) refl
   where
     among : (b : Bool) (w : Walked) → b ≡ true → is_among p (asking b p w).asked ≡ true

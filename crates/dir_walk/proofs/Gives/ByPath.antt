@@ -8,7 +8,7 @@ use Rattle.worktree_fs.specs.Naming.{IsTree}
 use Rattle.worktree_fs.specs.Paths.{full_path}
 use Rattle.worktree_fs.specs.Tree.{directory}
 use Rattle.worktree_stack.specs.Reading.{Sources}
-use Rattle.worktree_stack.specs.Setup.{Made}
+use Rattle.worktree_stack.specs.Setup.{StackSetup}
 use Rattle.dir_classify.specs.declared.error.Error.{Error}
 use Rattle.dir_classify.specs.Layers.{Setting, evidence}
 use Rattle.dir_walk.specs.declared.outcome.Outcome.{Outcome}
@@ -35,7 +35,7 @@ one_if-most true = omega arith
 one_if-most false = omega arith
 
 -- a walk of which nothing is refused has a report
-pub report-is : (given : Setting) (made : Option Made) (s : Sources) (explicit : Option (List ℕ)) (limit : ℕ) (walk : Walk) → walk_in given made s explicit ≡ Some walk → is_walk_refused limit (evidence given made s) walk ≡ false
+pub report-is : (given : Setting) (made : Option StackSetup) (s : Sources) (explicit : Option (List ℕ)) (limit : ℕ) (walk : Walk) → walk_in given made s explicit ≡ Some walk → is_walk_refused limit (evidence given made s) walk ≡ false
     → report given made s explicit limit ≡ Some (record { outcome = counts given.options walk.gives; root = full_path given.root walk.root; entries = by_path (shown given.options (out_of walk.gives)) })
 unfolding report
 report-is given made s explicit limit walk is whole =
@@ -46,7 +46,7 @@ report-is given made s explicit limit walk is whole =
 some_list : {X : Type 0} {x y : X} → Some x ≡ Some y → x ≡ y
 some_list e = cc
 
-module _ (given : Setting) (made : Option Made) (s : Sources) (explicit : Option (List ℕ)) (limit : ℕ) (tree : IsTree (directory s.tree)) (got entries : List Emission) (outcome : Outcome) (root : List ℕ)
+module _ (given : Setting) (made : Option StackSetup) (s : Sources) (explicit : Option (List ℕ)) (limit : ℕ) (tree : IsTree (directory s.tree)) (got entries : List Emission) (outcome : Outcome) (root : List ℕ)
     (gives : WalkGives given made s explicit limit (Some []) (Some got) (outcome, root)) (sorted : entries ≡ by_path got) where
   abbrev all : List Emission
   all = shown given.options (out_of gives.walk.gives)

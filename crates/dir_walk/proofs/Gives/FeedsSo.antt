@@ -16,7 +16,7 @@ use Rattle.dir_walk.specs.declared.delegate.Delegate.{Ghosts as DelegateOf}
 use Rattle.dir_walk.specs.declared.handed.Stop.TheVariants.{Refused, Broken}
 use Rattle.dir_walk.specs.declared.outcome.Outcome.{Outcome}
 use Rattle.dir_walk.specs.Emits.{IsPartOfAll}
-use Rattle.dir_walk.specs.Kept.{Heeds, KeepsDelegate}
+use Rattle.dir_walk.specs.Kept.{HeedsDelegateBreak, KeepsDelegate}
 use Rattle.dir_walk.specs.Puts.{AddsShown, PutsFrom}
 use Rattle.dir_walk.specs.Report.{counts, out_of}
 use Rattle.dir_walk.specs.Root.{Walk, rooted, traversal_root, walk_in, walked_at}
@@ -67,7 +67,7 @@ module _ {W F D : Type 0} (w : WorktreeOf W) (f : FindOf F) (d : DelegateOf D) (
       part-walk given (made_with old) s explicit limit root (rooted_is s.tree tells.tells.tree_is (omega (arith, quiet, more))) (d.given d0) (d.given d2) start stop walk is
       (part s (later tells) by (let k = keeps.faults in omega (arith, quiet, k)))
 
-  pub feeds-refused : (e : Error) → Heeds {T = Unit {0}} d d0 d2 (Err (Refused e)) → Partly → OnNoStart (d.given d2 ≡ d.given d0) e → Feeds w f d w0 w2 o0 old d0 d2 given explicit limit (Err e)
+  pub feeds-refused : (e : Error) → HeedsDelegateBreak {T = Unit {0}} d d0 d2 (Err (Refused e)) → Partly → OnNoStart (d.given d2 ≡ d.given d0) e → Feeds w f d w0 w2 o0 old d0 d2 given explicit limit (Err e)
   feeds-refused e heeds part unfed =
       record {
         unfed = unfed;
@@ -92,7 +92,7 @@ module _ {W F D : Type 0} (w : WorktreeOf W) (f : FindOf F) (d : DelegateOf D) (
     all : ((s : Sources) → Tells w f w1 o0 old s → NotIncreased (w.faults w1) (w.faults w2) → d.is_default d0 ≡ true → StartGives given (made_with old) s root limit (d.given d0) (d.given d2) start stop) → Partly
     all gives = λ s tells by quiet v is. part-gives given (made_with old) s limit root (d.given d0) (d.given d2) start stop (gives s tells quiet by) v is
 
-    pub feeds-broken : Heeds {T = Unit {0}} d d0 d2 (Err Broken) → Partly → Feeds w f d w0 w2 o0 old d0 d2 given explicit limit (Ok (stop, full))
+    pub feeds-broken : HeedsDelegateBreak {T = Unit {0}} d d0 d2 (Err Broken) → Partly → Feeds w f d w0 w2 o0 old d0 d2 given explicit limit (Ok (stop, full))
     feeds-broken heeds part =
         record {
           unfed = tt;

@@ -4,7 +4,7 @@ use Rattle.gitbase_core.specs.declared.find.Find.{Ghosts as FindOf}
 use Rattle.worktree_fs.specs.declared.worktree.Worktree.{Ghosts as WorktreeOf}
 use Rattle.worktree_fs.specs.Kept.{Asks}
 use Rattle.worktree_stack.specs.Reading.{Sources}
-use Rattle.worktree_stack.specs.Setup.{Made}
+use Rattle.worktree_stack.specs.Setup.{StackSetup}
 use Rattle.worktree_stack.specs.Stacked.{Stacked}
 use Rattle.dir_classify.specs.declared.classify.Outcome.{Outcome as Class}
 use Rattle.dir_classify.specs.declared.entry.Entry.{Entry}
@@ -60,7 +60,7 @@ module _ (o : Chosen) (w : Walked) where
         (omega (arith, size-all, ap (λ (held : List Entry). length held) gives.up))
 
 -- a refusal where something may have failed is one where nothing did, as nothing did
-pub DirectoryRefuses-weaker : (given : Setting) (made : Option Made) (s : Sources) (limit : ℕ) (P Q : Type 0) (d : List ℕ) (c : Class) (e : Error) → (P → Q) → DirectoryRefuses given made s limit P d c e → DirectoryRefuses given made s limit Q d c e
+pub DirectoryRefuses-weaker : (given : Setting) (made : Option StackSetup) (s : Sources) (limit : ℕ) (P Q : Type 0) (d : List ℕ) (c : Class) (e : Error) → (P → Q) → DirectoryRefuses given made s limit P d c e → DirectoryRefuses given made s limit Q d c e
 DirectoryRefuses-weaker given made s limit P Q d c e f (inl h) = inl h
 DirectoryRefuses-weaker given made s limit P Q d c e f (inr h) =
     let w : Walked = directory_told given made s d c in

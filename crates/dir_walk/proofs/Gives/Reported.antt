@@ -3,7 +3,7 @@ use Rattle.std.proofs.Common.{◌≡◌, ℕ, ◌≤◌, ◌⊎◌, inl, inr, Li
 use Rattle.std.specs.Prelude.{option_and_then, if◌then◌else◌}
 use Rattle.worktree_fs.specs.Paths.{full_path}
 use Rattle.worktree_stack.specs.Reading.{Sources}
-use Rattle.worktree_stack.specs.Setup.{Made}
+use Rattle.worktree_stack.specs.Setup.{StackSetup}
 use Rattle.dir_classify.specs.declared.entry.Entry.{Entry}
 use Rattle.dir_classify.specs.Evidence.{Evidence}
 use Rattle.dir_classify.specs.Layers.{Setting, evidence}
@@ -56,7 +56,7 @@ covers-by_path folds xs unfolded h =
 -- ---- a report
 
 -- the walk that a report is of
-pub record IsReportOf (given : Setting) (made : Option Made) (s : Sources) (explicit : Option (List ℕ)) (limit : ℕ) (r : Report) : Type 0 where
+pub record IsReportOf (given : Setting) (made : Option StackSetup) (s : Sources) (explicit : Option (List ℕ)) (limit : ℕ) (r : Report) : Type 0 where
   pub walk : Walk
   pub walk_is : walk_in given made s explicit ≡ Some walk
   pub defined : is_walk_refused limit (evidence given made s) walk ≡ false
@@ -64,7 +64,7 @@ pub record IsReportOf (given : Setting) (made : Option Made) (s : Sources) (expl
   pub root_is : r.root ≡ full_path given.root walk.root
   pub entries_are : r.entries ≡ by_path (shown given.options (out_of walk.gives))
 
-pub report-of : (given : Setting) (made : Option Made) (s : Sources) (explicit : Option (List ℕ)) (limit : ℕ) (r : Report) → report given made s explicit limit ≡ Some r
+pub report-of : (given : Setting) (made : Option StackSetup) (s : Sources) (explicit : Option (List ℕ)) (limit : ℕ) (r : Report) → report given made s explicit limit ≡ Some r
     → IsReportOf given made s explicit limit r
 unfolding report
 report-of given made s explicit limit r e = go (walk_in given made s explicit) refl e

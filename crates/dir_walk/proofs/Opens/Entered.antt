@@ -6,7 +6,7 @@ use Rattle.worktree_fs.specs.declared.worktree.Worktree.{Ghosts as WorktreeOf}
 use Rattle.worktree_fs.specs.Causes.{NotIncreased}
 use Rattle.worktree_fs.specs.Kept.{AsksStore}
 use Rattle.worktree_stack.specs.Reading.{Sources}
-use Rattle.worktree_stack.specs.Setup.{Made}
+use Rattle.worktree_stack.specs.Setup.{StackSetup}
 use Rattle.worktree_stack.specs.Stacked.{Stacked}
 use Rattle.dir_classify.specs.declared.classify.Outcome.{Outcome as Class}
 use Rattle.dir_classify.specs.Kept.{KeepsRules}
@@ -23,7 +23,7 @@ use Rattle.dir_walk.proofs.Folding.Steps.{Stands-later}
 -- so many were opened at most under the names so far
 abbrev pub EntersSoFar : {W F D : Type 0} → WorktreeOf W → FindOf F → DelegateOf D → W → W → F → Option Stacked → D → Setting → Option (List ℕ) → ℕ → List ℕ → List (List ℕ) → ℕ → Type 0
 EntersSoFar w f d w0 w1 o0 rules d0 given blocked limit path taken opened =
-    (made : Option Made) (s : Sources) → Stands given (w.told w0) (f.holds o0) rules blocked made s → NotIncreased (w.faults w0) (w.faults w1) → d.is_default d0 ≡ true → opened ≤ entered_by given made s limit path taken
+    (made : Option StackSetup) (s : Sources) → Stands given (w.told w0) (f.holds o0) rules blocked made s → NotIncreased (w.faults w0) (w.faults w1) → d.is_default d0 ≡ true → opened ≤ entered_by given made s limit path taken
 
 module _ {W F D : Type 0} {w : WorktreeOf W} {f : FindOf F} {dl : DelegateOf D} {w0 w1 w2 : W} {o0 o1 : F} {old mid : Option Stacked} {d0 d1 : D} (given : Setting) (blocked : Option (List ℕ)) (limit : ℕ) (path : List ℕ) (names : List (List ℕ)) (i : ℕ) (q : List ℕ)
     (inside : i < length names) (is : q ≡ get_or names i q) (tree : KeepsTree w w0 w1) (store : AsksStore f o0 o1) (rules : KeepsRules w f w0 w1 o0 old mid) (delegate : KeepsDelegate dl d0 d1) (more : w.faults w1 ≤ w.faults w2) where

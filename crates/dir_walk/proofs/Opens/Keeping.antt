@@ -7,7 +7,7 @@ use Rattle.worktree_fs.specs.declared.interrupt.Interrupt.{Ghosts as InterruptOf
 use Rattle.worktree_fs.specs.declared.worktree.Worktree.{Ghosts as WorktreeOf}
 use Rattle.worktree_fs.specs.Kept.{AsksStore}
 use Rattle.worktree_stack.specs.Stacked.{Stacked}
-use Rattle.worktree_stack.specs.Setup.{Made}
+use Rattle.worktree_stack.specs.Setup.{StackSetup}
 use Rattle.dir_classify.specs.Excludes.{made_with, maps_blobs}
 use Rattle.dir_classify.specs.Kept.{KeepsRules}
 use Rattle.dir_walk.specs.declared.delegate.Delegate.{Ghosts as DelegateOf}
@@ -15,14 +15,14 @@ use Rattle.dir_walk.specs.declared.handed.Stop.{Stop}
 use Rattle.dir_walk.specs.declared.handed.Stop.TheVariants.{Refused, Broken}
 use Rattle.dir_walk.specs.Emissions.{Emission}
 use Rattle.dir_walk.specs.Given.{Extends}
-use Rattle.dir_walk.specs.Kept.{KeepsTree, AsksInterrupt, KeepsDelegate, Heeds}
+use Rattle.dir_walk.specs.Kept.{KeepsTree, AsksInterrupt, KeepsDelegate, HeedsDelegateBreak}
 
 -- ---- the worktree, the store and the rules
 
 -- a store that nothing is mapped to is as it was
 pub unmapped-then : {F : Type 0} {o0 o1 o2 : F} (old now : Option Stacked) → made_with now ≡ made_with old
     → (maps_blobs (made_with old) ≡ false → o1 ≡ o0) → (maps_blobs (made_with now) ≡ false → o2 ≡ o1) → maps_blobs (made_with old) ≡ false → o2 ≡ o0
-unmapped-then old now same first second none = second (ap (λ (m : Option Made). maps_blobs m) same ∙ none) ∙ first none
+unmapped-then old now same first second none = second (ap (λ (m : Option StackSetup). maps_blobs m) same ∙ none) ∙ first none
 
 pub KeepsTree-then : {W : Type 0} {w : WorktreeOf W} {a b c : W} → KeepsTree w a b → KeepsTree w b c → KeepsTree w a c
 KeepsTree-then first second =
@@ -76,7 +76,7 @@ KeepsDelegate-then {D} {d} {a} {b} {c} first second =
     }
 
 -- after a call that left the delegate as it was but for its answers
-pub Heeds-after : {D T : Type 0} (d : DelegateOf D) (a b c : D) (result : Result T Stop) → d.breaks b ≡ d.breaks a → Heeds d b c result → Heeds d a c result
+pub Heeds-after : {D T : Type 0} (d : DelegateOf D) (a b c : D) (result : Result T Stop) → d.breaks b ≡ d.breaks a → HeedsDelegateBreak d b c result → HeedsDelegateBreak d a c result
 Heeds-after d a b c (Ok done) same heeds = record { broken = tt; stopped = tt; unbroken = tt; kept_on = heeds.kept_on ∙ same }
 Heeds-after d a b c (Err Broken) same heeds = record { broken = rw (sym same) heeds.broken; stopped = heeds.stopped; unbroken = tt; kept_on = tt }
 Heeds-after d a b c (Err (Refused e)) same heeds = record { broken = tt; stopped = tt; unbroken = heeds.unbroken ∙ same; kept_on = tt }

@@ -8,7 +8,7 @@ use Rattle.worktree_fs.specs.Causes.{NotIncreased}
 use Rattle.worktree_fs.specs.Kept.{Asks}
 use Rattle.worktree_fs.specs.Tree.{Names}
 use Rattle.worktree_stack.specs.Lookups.{refused_one}
-use Rattle.worktree_stack.specs.Setup.{Made}
+use Rattle.worktree_stack.specs.Setup.{StackSetup}
 use Rattle.worktree_stack.specs.Stacked.{Stacked}
 use Rattle.dir_classify.specs.declared.error.Error.{Error}
 use Rattle.dir_classify.specs.Excludes.{made_with}
@@ -24,7 +24,7 @@ use Rattle.dir_walk.specs.Opens.{OpensFrom, refused_walk}
 use Rattle.dir_walk.specs.Puts.{AddsAtMost, Puts, PutsFrom}
 use Rattle.dir_walk.proofs.Opens.FromRoot.{listed-later, listed-none}
 use Rattle.dir_walk.specs.Root.{rooted, traversal_root}
-use Rattle.dir_walk.specs.Unopened.{deep_answer, deep_one, deep_walk, unlisted_answer}
+use Rattle.dir_walk.specs.Unopened.{deep_answer, too_deep_count, deep_walk, unlisted_answer}
 use Rattle.dir_walk.specs.WalkRefused.{Recursion}
 use Rattle.dir_walk.specs.Walks.{EntersFrom, EntersInWalk, GivesOnce, IsRootOf, OpensDirectories}
 use Rattle.dir_walk.proofs.Walked.WalkedAt.{most-walked}
@@ -36,10 +36,10 @@ refused-most (Ok done) = omega arith
 refused-most (Err (Refused error)) = omega arith
 refused-most (Err Broken) = omega arith
 
-module _ {W I T : Type 0} {w : WorktreeOf W} {i : InterruptOf I} {w0 w1 : W} {i0 : I} (strategy : Strategy) {given : Setting} {made : Option Made} {explicit : Option (List ℕ)} {outcome_of : T → Outcome} {path_of : T → List ℕ}
+module _ {W I T : Type 0} {w : WorktreeOf W} {i : InterruptOf I} {w0 w1 : W} {i0 : I} (strategy : Strategy) {given : Setting} {made : Option StackSetup} {explicit : Option (List ℕ)} {outcome_of : T → Outcome} {path_of : T → List ℕ}
     (lists : w.lists w1 ≡ w.lists w0) (reads : w.reads w1 ≡ w.reads w0) where
   -- it was refused before
-  pub opens-nothing : {e : Error} {Within : ℕ → Type 0} → Within 0 → deep_one e ≡ 0 → OpensDirectories w i w0 w1 i0 i0 strategy given made explicit outcome_of path_of (Err e) Within
+  pub opens-nothing : {e : Error} {Within : ℕ → Type 0} → Within 0 → too_deep_count e ≡ 0 → OpensDirectories w i w0 w1 i0 i0 strategy given made explicit outcome_of path_of (Err e) Within
   opens-nothing none level = record { opened = 0; within = none; listed = listed-none strategy lists; asked = omega (arith, level); counted = tt; reads = λ held on alone. inl reads }
 
   pub opens-whole : {U : Type 0} {First Within : ℕ → Type 0} → ((n : ℕ) → First n → Within n) → {w2 : W} {i1 : I} {a b : Outcome} {root : List ℕ} (ended : Result U Stop) (result : Result T Error) → a.read_dir_calls ≡ 0 → IsRootOf given explicit path_of result root

@@ -10,7 +10,7 @@ use Rattle.worktree_fs.specs.Last.{at_child}
 use Rattle.worktree_fs.specs.Tree.{Node, Names, none, named, names_of, child}
 use Rattle.dir_classify.specs.Chosen.{Chosen}
 use Rattle.dir_classify.specs.Evidence.{Evidence}
-use Rattle.dir_walk.specs.Walked.{Walked, nothing, both, item, items, item_at}
+use Rattle.dir_walk.specs.Walked.{Walked, nothing, merge_walked, item, items, item_at}
 use Rattle.dir_walk.proofs.Order.Counts.{or-right}
 use Rattle.dir_walk.proofs.Order.Lists.{all_weaker}
 
@@ -21,12 +21,12 @@ item_named o ev d names name = item_at o ev (joined d name) (at_child (child nam
 -- a number that two results have together
 pub record IsSum (f : Walked → ℕ) : Type 0 where
   pub zero : f nothing ≡ 0
-  pub adds : (a b : Walked) → f (both a b) ≡ f a + f b
+  pub adds : (a b : Walked) → f (merge_walked a b) ≡ f a + f b
 
 -- a test that two results pass where one of them does
 pub record IsOr (f : Walked → Bool) : Type 0 where
   pub zero : f nothing ≡ false
-  pub adds : (a b : Walked) → f (both a b) ≡ (f a || f b)
+  pub adds : (a b : Walked) → f (merge_walked a b) ≡ (f a || f b)
 
 pub sum_by-agree : {X : Type 0} (f g : X → ℕ) (xs : List X) → AllByRecursion (λ x. f x ≡ g x) xs → sum_by f xs ≡ sum_by g xs
 sum_by-agree f g [] h = refl

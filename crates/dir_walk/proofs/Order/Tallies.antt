@@ -6,7 +6,7 @@ use Rattle.dir_classify.specs.declared.entry.Entry.{Entry}
 use Rattle.dir_classify.specs.declared.entry.PathspecMatch.TheVariants.{Always, Excluded, Prefix, WildcardMatch, Verbatim}
 use Rattle.dir_classify.specs.declared.entry.Status.{Status}
 use Rattle.dir_classify.specs.declared.entry.Status.TheVariants.{Pruned, Tracked, Ignored, Untracked}
-use Rattle.dir_walk.specs.Fold.{IsSmall, has_no_names, is_barring, is_expendable, is_expendable_status, is_matched, is_picked, is_precious, is_precious_status, is_untracked, is_untracked_status, tally, tally_more}
+use Rattle.dir_walk.specs.Fold.{IsSmall, has_no_names, is_barring, is_expendable, is_expendable_status, is_matched, is_prefix_or_wildcard_match, is_precious, is_precious_status, is_untracked, is_untracked_status, tally, tally_more}
 use Rattle.dir_walk.proofs.Order.Counts.{count_all, count_by-cons}
 
 -- the counts of one more of the held entries
@@ -20,7 +20,7 @@ tally-more held i e inside is =
       one is_expendable,
       one is_precious,
       one is_barring,
-      one is_picked,
+      one is_prefix_or_wildcard_match,
       one has_no_names,
       one (is_matched Always),
       one (is_matched Excluded),
@@ -38,7 +38,7 @@ tally-small held short =
       expendable = below is_expendable;
       precious = below is_precious;
       barring = below is_barring;
-      picked = below is_picked;
+      picked = below is_prefix_or_wildcard_match;
       without_names = below has_no_names;
       always = below (is_matched Always);
       excluded = below (is_matched Excluded);

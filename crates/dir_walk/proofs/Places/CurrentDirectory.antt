@@ -4,7 +4,7 @@ use Rattle.std.specs.Prelude.{if◌then◌else◌, is_some, option_and_then}
 use Rattle.gitbase_core.specs.Path.{is_empty, normalized, past_slashes}
 use Rattle.worktree_fs.specs.Changes.{real_path}
 use Rattle.worktree_stack.specs.Reading.{Sources}
-use Rattle.worktree_stack.specs.Setup.{Made}
+use Rattle.worktree_stack.specs.Setup.{StackSetup}
 use Rattle.dir_classify.specs.declared.entry.Kind.{Kind}
 use Rattle.dir_classify.specs.declared.entry.Kind.TheVariants.{Directory}
 use Rattle.dir_classify.specs.declared.classify.RootOutcome.{RootOutcome}
@@ -13,7 +13,7 @@ use Rattle.dir_classify.specs.Layers.{Setting, blocked_in, evidence, kind_at, re
 use Rattle.dir_classify.specs.Rooted.{reached_by}
 use Rattle.dir_walk.specs.Root.{root_kind}
 
-module _ (given : Setting) (made : Option Made) (s : Sources) where
+module _ (given : Setting) (made : Option StackSetup) (s : Sources) where
   -- what follows the real path of the worktree root in that of the current directory, made normal
   abbrev behind : Option (List ℕ) → Option (List ℕ)
   behind real = option_and_then (λ rest. normalized (past_slashes rest)) (option_and_then (λ r. rest_behind r given.current_dir) real)

@@ -13,7 +13,7 @@ use Rattle.dir_walk.specs.Distinct.{HasDistinctPaths}
 use Rattle.dir_walk.specs.Emissions.{Emission, is_empty_directory, path_of, plain, shows, within}
 use Rattle.dir_walk.specs.Fold.{fold, shows_collapsed, tally}
 use Rattle.dir_walk.specs.Report.{out_of, shown}
-use Rattle.dir_walk.specs.Walked.{Walked, both, closed, empty_directory, empty_entry, folded_if, folded_to, handed_up, is_held, leaf, put_out, report_of, unfolded}
+use Rattle.dir_walk.specs.Walked.{Walked, merge_walked, closed, empty_directory, empty_entry, folded_if, folded_to, handed_up, is_held, leaf, put_out, report_of, unfolded}
 use Rattle.dir_walk.proofs.Places.Beneath.{prefix-self}
 use Rattle.dir_walk.proofs.Order.Counts.{count_by-and, count_by-append, count_by-cons, count_by-filter, count_by-map, count_by-map_filter, count-none, one-le}
 use Rattle.dir_walk.proofs.Theorems.Induct.{Cases, NoneEmpty, at_report}
@@ -59,7 +59,7 @@ module _ (o : Chosen) (ev : Evidence) where
   unfolding empty_directory
   empty-once lies d c = let h : StandsOnce lies (leaf o (empty_entry ev d c)) = leaf-once lies (empty_entry ev d c) in record { once = h.once }
 
-  both-once : (here there lies : List ℕ → Bool) (a b : Walked) → Apart here there lies → LieIn here a → LieIn there b → StandsOnce here a → StandsOnce there b → StandsOnce lies (both a b)
+  both-once : (here there lies : List ℕ → Bool) (a b : Walked) → Apart here there lies → LieIn here a → LieIn there b → StandsOnce here a → StandsOnce there b → StandsOnce lies (merge_walked a b)
   both-once here there lies a b apart at bt left right =
       record { once = λ p. omega (arith, count_by-append (is_at_path p) a.out b.out, count_by-append (λ (e : Entry). bytes_eq p e.rela_path) a.up b.up, go p (here p) (there p) refl refl) }
     where

@@ -11,7 +11,7 @@ use Rattle.dir_classify.specs.Evidence.{Evidence}
 use Rattle.dir_walk.specs.declared.tally.Tally.{Tally}
 use Rattle.dir_walk.specs.Emissions.{Emission, path_of, plain, within}
 use Rattle.dir_walk.specs.Fold.{fold, fold_status, folded, is_foldable, shows_collapsed, tally}
-use Rattle.dir_walk.specs.Walked.{Walked, asking, both, broken_at, closed, empty_directory, empty_entry, folded_if, folded_to, handed_up, is_held, leaf, nothing, put_out, unfolded}
+use Rattle.dir_walk.specs.Walked.{Walked, asking, merge_walked, broken_at, closed, empty_directory, empty_entry, folded_if, folded_to, handed_up, is_held, leaf, nothing, put_out, unfolded}
 use Rattle.dir_walk.proofs.Places.Beneath.{prefix-self}
 use Rattle.dir_walk.proofs.Order.Lists.{all_append, all_filter, all_map, all_weaker, same_some}
 
@@ -63,7 +63,7 @@ pub LieIn-asking : (lies : List ℕ → Bool) (b : Bool) (path : List ℕ) (w : 
 LieIn-asking lies true path w is h = record { out = h.out; up = h.up; entered = h.entered; broken = h.broken; asked = (is, h.asked); met = h.met; folds = h.folds }
 LieIn-asking lies false path w is h = record { out = h.out; up = h.up; entered = h.entered; broken = h.broken; asked = h.asked; met = h.met; folds = h.folds }
 
-pub LieIn-both : (lies : List ℕ → Bool) (a b : Walked) → LieIn lies a → LieIn lies b → LieIn lies (both a b)
+pub LieIn-both : (lies : List ℕ → Bool) (a b : Walked) → LieIn lies a → LieIn lies b → LieIn lies (merge_walked a b)
 LieIn-both lies a b h k =
     record {
       out = all_append (λ (x : Emission). lies (path_of x) ≡ true) a.out b.out h.out k.out;

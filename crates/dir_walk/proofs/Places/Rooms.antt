@@ -13,7 +13,7 @@ use Rattle.dir_walk.specs.declared.handed.Handed.{Handed}
 use Rattle.dir_walk.specs.declared.handed.Stop.{Stop}
 use Rattle.dir_walk.specs.declared.outcome.Outcome.{Outcome}
 use Rattle.dir_walk.specs.Emissions.{Emission}
-use Rattle.dir_walk.specs.Puts.{Puts, Hands, held_at, once_at, once_within, once_over, up_of}
+use Rattle.dir_walk.specs.Puts.{Puts, HandsUpEntryAt, held_at, once_at, once_within, once_over, up_of}
 use Rattle.dir_walk.proofs.Places.Beneath.{prefix-self, prefix-up, prefix-down, prefix-apart}
 use Rattle.dir_walk.proofs.Order.Counts.{count_by-cons}
 use Rattle.dir_walk.proofs.Gives.Emitting.{front-sum}
@@ -80,11 +80,11 @@ module _ (d : List ℕ) (plain : ends_in_slash d ≡ false) (path : List ℕ) wh
 -- ---- a name
 
 pub Hands-none : {path : List ℕ} {room : List ℕ → ℕ} {a b : Option (List Emission)} {i j : Outcome} {stop : Stop} → b ≡ a → j.returned_entries ≡ i.returned_entries → j.seen_entries ≡ i.seen_entries
-    → Hands path room a b i j (Err stop)
+    → HandsUpEntryAt path room a b i j (Err stop)
 Hands-none {path} {room} {a} {b} {i} {j} is returned seen =
     record { puts = Puts-none room a b i j [] is returned (λ small. (omega (arith, seen), omega (arith, seen, small))) (λ p. omega arith); at = tt }
 
-pub Hands-leaf : {path : List ℕ} {a b : Option (List Emission)} {i j : Outcome} {result : Result Handed Stop} → Hands path (once_at path) a b i j result → Hands path (once_within path) a b i j result
+pub Hands-leaf : {path : List ℕ} {a b : Option (List Emission)} {i j : Outcome} {result : Result Handed Stop} → HandsUpEntryAt path (once_at path) a b i j result → HandsUpEntryAt path (once_within path) a b i j result
 Hands-leaf {path} {a} {b} {i} {j} {result} one = record { puts = Puts-as (once_at path) (once_within path) a b i j (up_of result) one.puts (at-prefix path); at = one.at }
 
 -- ---- a directory
@@ -99,7 +99,7 @@ Puts-start d names {a} {i} {j} returned seen none = rw none (Puts-opened returne
 
 -- it has no names
 pub Hands-empty : {path : List ℕ} {a b : Option (List Emission)} {i j k : Outcome} {result : Result Handed Stop} → j.returned_entries ≡ i.returned_entries → j.seen_entries ≡ i.seen_entries
-    → Hands path (once_at path) a b j k result → Hands path (once_within path) a b i k result
+    → HandsUpEntryAt path (once_at path) a b j k result → HandsUpEntryAt path (once_within path) a b i k result
 Hands-empty {path} {a} {b} {i} {j} {k} {result} returned seen one =
     record { puts = Puts-then (λ p. 0) (once_at path) (once_within path) a a b i j k [] (up_of result) (Puts-opened returned seen) one.puts (λ p. omega (arith, at-prefix path p)); at = one.at }
 
@@ -112,7 +112,7 @@ module _ (d : List ℕ) (names : List (List ℕ)) (i : ℕ) (q : List ℕ) {a b 
       (λ path. let f : List ℕ → ℕ = λ r. once_within (joined d r) path in omega (arith, sum_by_more f names i q inside, ap f is))
 
   -- or it is refused, or what it hands up is let go
-  pub Hands-refused : {why : Stop} → AreNames names → ends_in_slash d ≡ false → Hands d (once_within d) a c start stop (Err why)
+  pub Hands-refused : {why : Stop} → AreNames names → ends_in_slash d ≡ false → HandsUpEntryAt d (once_within d) a c start stop (Err why)
   Hands-refused are plain =
       let both : Puts (once_within d) a c start stop (held ++ up) =
       Puts-then (once_below d (take i names)) (once_within (joined d q)) (once_within d) a b c start mid stop held up so_far one
@@ -121,10 +121,10 @@ module _ (d : List ℕ) (names : List (List ℕ)) (i : ℕ) (q : List ℕ) {a b 
 
 -- what it held was put out, and nothing or its fold is handed up
 module _ (d : List ℕ) (held : List Entry) {a b : Option (List Emission)} {i j : Outcome} {result : Result Handed Stop} (put : Puts (λ path. held_at path held) a b i j []) where
-  pub Hands-put : up_of result ≡ [] → Hands d (once_over d held) a b i j result
+  pub Hands-put : up_of result ≡ [] → HandsUpEntryAt d (once_over d held) a b i j result
   Hands-put none = record { puts = rw none (Puts-up (λ path. held_at path held) (once_over d held) a b i j [] put (λ path. omega arith)); at = rw none tt }
 
-  pub Hands-fold : (f : Entry) → up_of result ≡ f ∷ [] → f.rela_path ≡ d → Hands d (once_over d held) a b i j result
+  pub Hands-fold : (f : Entry) → up_of result ≡ f ∷ [] → f.rela_path ≡ d → HandsUpEntryAt d (once_over d held) a b i j result
   Hands-fold f up path_is =
       record {
         puts = rw up (Puts-up (λ path. held_at path held) (once_over d held) a b i j (f ∷ []) put
@@ -134,7 +134,7 @@ module _ (d : List ℕ) (held : List Entry) {a b : Option (List Emission)} {i j 
 
 -- its names are done, and it is closed over what they handed up
 pub Hands-closed : (d : List ℕ) (names : List (List ℕ)) (i : ℕ) {a b c : Option (List Emission)} {start mid stop : Outcome} {held : List Entry} {result : Result Handed Stop} → AreNames names → ends_in_slash d ≡ false
-    → Puts (once_below d (take i names)) a b start mid held → Hands d (once_over d held) b c mid stop result → Hands d (once_within d) a c start stop result
+    → Puts (once_below d (take i names)) a b start mid held → HandsUpEntryAt d (once_over d held) b c mid stop result → HandsUpEntryAt d (once_within d) a c start stop result
 Hands-closed d names i {a} {b} {c} {start} {mid} {stop} {held} {result} are plain so_far one =
     record {
       puts = Puts-over (once_below d (take i names)) (once_at d) (once_within d) a b c start mid stop held (up_of result) so_far one.puts

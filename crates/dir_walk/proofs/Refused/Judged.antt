@@ -9,7 +9,7 @@ use Rattle.dir_classify.specs.declared.classify.Outcome.{Outcome as Class}
 use Rattle.dir_classify.specs.declared.entry.Kind.{Kind}
 use Rattle.dir_classify.specs.declared.entry.Kind.TheVariants.{Untrackable, File, Symlink, Directory, Repository}
 use Rattle.dir_classify.specs.Chosen.{Chosen, finds_bare_repositories}
-use Rattle.dir_classify.specs.Class.{class, class_by_rules, class_directory, class_dot_git, class_indexed, class_of_kind, class_other, class_unindexed, class_unmatched, class_worktree, dot_git_ruling, enters, is_dot_git, is_indexed, is_worktree, ruling_of, upgrade}
+use Rattle.dir_classify.specs.Class.{class, class_by_rules, class_directory, class_dot_git, class_indexed, class_of_kind, class_other, class_unindexed, class_unmatched, class_worktree, dot_git_ruling, enters, is_dot_git, index_agrees_with_disk, is_worktree, ruling_of, upgrade}
 use Rattle.dir_classify.specs.Enters.{is_open, is_looked_into}
 use Rattle.dir_classify.specs.Evidence.{Evidence}
 use Rattle.dir_classify.specs.Faults.{IsJudged, kind_read, read_as}
@@ -49,7 +49,7 @@ module _ (o : Chosen) (ev : Evidence) (p : List ℕ) (kind : Option Kind) where
       go false f = f
 
   class-kind : (class_of_kind o ev p kind).disk_kind ≡ Some Directory → kind ≡ Some Directory
-  class-kind e = go (is_worktree o p) (is_indexed (ev.in_index p) kind) e
+  class-kind e = go (is_worktree o p) (index_agrees_with_disk (ev.in_index p) kind) e
     where
       go : (a b : Bool) → (cond a (class_worktree ev p kind) (cond b (class_indexed o ev p kind) (class_unindexed o ev p kind (ruling_of o ev p kind)))).disk_kind ≡ Some Directory → kind ≡ Some Directory
       go true b f = absurd (cc f)

@@ -15,7 +15,7 @@ use Rattle.gitbase_core.specs.Path.{components, is_empty}
 use Rattle.worktree_fs.specs.Paths.{is_normal, full_path, spelled}
 use Rattle.worktree_fs.specs.Tree.{Look, look, found, absent, too_many_links, file, link, directory, other}
 use Rattle.worktree_stack.specs.declared.error.AtPathError.{AtPathError}
-use Rattle.worktree_stack.specs.Setup.{Made}
+use Rattle.worktree_stack.specs.Setup.{StackSetup}
 use Rattle.worktree_stack.specs.Reading.{Sources}
 use Rattle.dir_classify.specs.declared.classify.Outcome.{Outcome as Class}
 use Rattle.dir_classify.specs.declared.entry.Kind.TheVariants.{Directory}
@@ -78,11 +78,11 @@ module _ (v w : Walked) (P Q : Type 0) (within : HasPaths v w ⊎ Q) (f : P → 
       go (inl is) = or_failed (inl (is.asked path)) f h
       go (inr q) = inr q
 
-  access-within : (s : Sources) (made : Option Made) (e : AtPathError) → IsSomeAnd made (λ rules. IsNoAccess s rules v P e) → IsSomeAnd made (λ rules. IsNoAccess s rules w Q e)
+  access-within : (s : Sources) (made : Option StackSetup) (e : AtPathError) → IsSomeAnd made (λ rules. IsNoAccess s rules v P e) → IsSomeAnd made (λ rules. IsNoAccess s rules w Q e)
   access-within s None e h = absurd h
   access-within s (Some rules) e h = record { path = h.path; normal = h.normal; asked = asked-or h.path h.asked; access = h.access; refused = h.refused }
 
-  module _ (given : Setting) (made : Option Made) (s : Sources) (limit : ℕ) where
+  module _ (given : Setting) (made : Option StackSetup) (s : Sources) (limit : ℕ) where
     broken-within : (why : ListError) (path : List ℕ) → IsBroken s.tree (evidence given made s) given.root v P why path → IsBroken s.tree (evidence given made s) given.root w Q why path
     broken-within why path h = record { below = h.below; path_is = h.path_is; node = h.node; indexed = h.indexed; broken = broken-or h.below h.broken }
 
@@ -110,7 +110,7 @@ HasPaths-asking false path w = record { entered = λ p h. h; broken = λ p h. h;
 
 -- ---- the refusal of a class
 
-pub IsAbout-class : (made : Option Made) (root : List ℕ) (limit : ℕ) (path : List ℕ) (e : Error) → is_normal path ≡ true → depth_of path ≤ limit + 1 → classes.IsAbout made path e → IsAbout made root limit e
+pub IsAbout-class : (made : Option StackSetup) (root : List ℕ) (limit : ℕ) (path : List ℕ) (e : Error) → is_normal path ≡ true → depth_of path ≤ limit + 1 → classes.IsAbout made path e → IsAbout made root limit e
 IsAbout-class made root limit path errors.Interrupted normal near about = tt
 IsAbout-class made root limit path (errors.WorktreeRootIsFile p) normal near about = absurd about
 IsAbout-class made root limit path (errors.NormalizeRoot p) normal near about = absurd about
@@ -118,7 +118,7 @@ IsAbout-class made root limit path (errors.SymlinkInRoot p r i) normal near abou
 IsAbout-class made root limit path (errors.SymlinkMetadata p why) normal near about = absurd about
 IsAbout-class made root limit path (errors.ExcludesAccess e) normal near about = go made about
   where
-    go : (k : Option Made) → classes.IsAbout k path (errors.ExcludesAccess e) → IsSomeAnd k (λ rules. IsSomeAccess limit rules e)
+    go : (k : Option StackSetup) → classes.IsAbout k path (errors.ExcludesAccess e) → IsSomeAnd k (λ rules. IsSomeAccess limit rules e)
     go None a = absurd a
     go (Some rules) a = record { path = path; normal = normal; near = near; access = a }
 IsAbout-class made root limit path (errors.TooDeep p) normal near about = absurd about
@@ -126,7 +126,7 @@ IsAbout-class made root limit path (errors.ReadDir p why) normal near about = ab
 IsAbout-class made root limit path (errors.DirEntry p) normal near about = absurd about
 IsAbout-class made root limit path errors.OutOfMemory normal near about = tt
 
-pub IsInTree-class : (root : List ℕ) (holds : Option Objects) (s : Sources) (made : Option Made) (path : List ℕ) (e : Error) → is_normal path ≡ true → classes.IsAbout made path e → (holds ≡ Some s.objects → classes.Refuses s made path e) → IsInTree root holds s made e
+pub IsInTree-class : (root : List ℕ) (holds : Option Objects) (s : Sources) (made : Option StackSetup) (path : List ℕ) (e : Error) → is_normal path ≡ true → classes.IsAbout made path e → (holds ≡ Some s.objects → classes.Refuses s made path e) → IsInTree root holds s made e
 IsInTree-class root holds s made path errors.Interrupted normal about refused = tt
 IsInTree-class root holds s made path (errors.WorktreeRootIsFile p) normal about refused = tt
 IsInTree-class root holds s made path (errors.NormalizeRoot p) normal about refused = tt
@@ -134,7 +134,7 @@ IsInTree-class root holds s made path (errors.SymlinkInRoot p r i) normal about 
 IsInTree-class root holds s made path (errors.SymlinkMetadata p why) normal about refused = tt
 IsInTree-class root holds s made path (errors.ExcludesAccess e) normal about refused = go made about refused
   where
-    go : (k : Option Made) → classes.IsAbout k path (errors.ExcludesAccess e) → (holds ≡ Some s.objects → classes.Refuses s k path (errors.ExcludesAccess e)) → IsSomeAnd k (λ rules. holds ≡ Some s.objects → IsRefusedLookup s rules e)
+    go : (k : Option StackSetup) → classes.IsAbout k path (errors.ExcludesAccess e) → (holds ≡ Some s.objects → classes.Refuses s k path (errors.ExcludesAccess e)) → IsSomeAnd k (λ rules. holds ≡ Some s.objects → IsRefusedLookup s rules e)
     go None a r = absurd a
     go (Some rules) a r = λ known. record { path = path; normal = normal; access = a; refused = r known }
 IsInTree-class root holds s made path (errors.TooDeep p) normal about refused = tt
@@ -143,7 +143,7 @@ IsInTree-class root holds s made path (errors.DirEntry p) normal about refused =
 IsInTree-class root holds s made path errors.OutOfMemory normal about refused = tt
 
 -- a class that asks the rules is one of a path that asks them, unless the worktree failed
-pub Refuses-class : (given : Setting) (made : Option Made) (s : Sources) (limit : ℕ) (Failed Asks : Type 0) (w : Walked) (path : List ℕ) (e : Error) → is_normal path ≡ true → classes.IsAbout made path e → classes.Refuses s made path e
+pub Refuses-class : (given : Setting) (made : Option StackSetup) (s : Sources) (limit : ℕ) (Failed Asks : Type 0) (w : Walked) (path : List ℕ) (e : Error) → is_normal path ≡ true → classes.IsAbout made path e → classes.Refuses s made path e
     → classes.OnAccess Asks e ⊎ Failed → (Asks → is_among path w.asked ≡ true) → Refuses given made s limit Failed w e
 Refuses-class given made s limit Failed Asks w path errors.Interrupted normal about refused asks among = tt
 Refuses-class given made s limit Failed Asks w path (errors.WorktreeRootIsFile p) normal about refused asks among = absurd about
@@ -156,7 +156,7 @@ Refuses-class given made s limit Failed Asks w path (errors.ExcludesAccess e) no
     here (inl a) = inl (among a)
     here (inr f) = inr f
 
-    go : (k : Option Made) → classes.IsAbout k path (errors.ExcludesAccess e) → classes.Refuses s k path (errors.ExcludesAccess e) → IsSomeAnd k (λ rules. IsNoAccess s rules w Failed e)
+    go : (k : Option StackSetup) → classes.IsAbout k path (errors.ExcludesAccess e) → classes.Refuses s k path (errors.ExcludesAccess e) → IsSomeAnd k (λ rules. IsNoAccess s rules w Failed e)
     go None a r = absurd a
     go (Some rules) a r = record { path = path; normal = normal; asked = here asks; access = a; refused = r }
 Refuses-class given made s limit Failed Asks w path (errors.TooDeep p) normal about refused asks among = absurd about
@@ -166,7 +166,7 @@ Refuses-class given made s limit Failed Asks w path errors.OutOfMemory normal ab
 
 -- ---- the refusal of what lies too deep
 
-pub IsAbout-deep : (made : Option Made) (root path : List ℕ) (limit : ℕ) (Raised : Type 0) (e : Error) → is_normal path ≡ true → path ≡ spelled (components path) → depth_of path ≡ limit + 1 → IsDeep (full_path root path) Raised e
+pub IsAbout-deep : (made : Option StackSetup) (root path : List ℕ) (limit : ℕ) (Raised : Type 0) (e : Error) → is_normal path ≡ true → path ≡ spelled (components path) → depth_of path ≡ limit + 1 → IsDeep (full_path root path) Raised e
     → IsAbout made root limit e
 IsAbout-deep made root path limit Raised errors.Interrupted normal spelled_is deep h = tt
 IsAbout-deep made root path limit Raised (errors.WorktreeRootIsFile p) normal spelled_is deep h = absurd h
@@ -179,7 +179,7 @@ IsAbout-deep made root path limit Raised (errors.ReadDir p why) normal spelled_i
 IsAbout-deep made root path limit Raised (errors.DirEntry p) normal spelled_is deep h = absurd h
 IsAbout-deep made root path limit Raised errors.OutOfMemory normal spelled_is deep h = tt
 
-pub IsAbout-root : (made : Option Made) (top root : List ℕ) (limit : ℕ) (Raised : Type 0) (e : Error) → is_normal root ≡ true → root ≡ spelled (components root) → limit < depth_of root → IsDeep (full_path top root) Raised e
+pub IsAbout-root : (made : Option StackSetup) (top root : List ℕ) (limit : ℕ) (Raised : Type 0) (e : Error) → is_normal root ≡ true → root ≡ spelled (components root) → limit < depth_of root → IsDeep (full_path top root) Raised e
     → IsAboutFrom made top root limit e
 IsAbout-root made top root limit Raised errors.Interrupted normal spelled_is deep h = inl tt
 IsAbout-root made top root limit Raised (errors.WorktreeRootIsFile p) normal spelled_is deep h = absurd h
@@ -192,7 +192,7 @@ IsAbout-root made top root limit Raised (errors.ReadDir p why) normal spelled_is
 IsAbout-root made top root limit Raised (errors.DirEntry p) normal spelled_is deep h = absurd h
 IsAbout-root made top root limit Raised errors.OutOfMemory normal spelled_is deep h = inl tt
 
-pub Refuses-deep : (given : Setting) (made : Option Made) (s : Sources) (limit : ℕ) (Failed Raised : Type 0) (w : Walked) (path : List ℕ) (e : Error) → limit < depth_of path → (is_to_enter path w ≡ true) ⊎ Failed → IsDeep (full_path given.root path) Raised e
+pub Refuses-deep : (given : Setting) (made : Option StackSetup) (s : Sources) (limit : ℕ) (Failed Raised : Type 0) (w : Walked) (path : List ℕ) (e : Error) → limit < depth_of path → (is_to_enter path w ≡ true) ⊎ Failed → IsDeep (full_path given.root path) Raised e
     → Refuses given made s limit Failed w e
 Refuses-deep given made s limit Failed Raised w path errors.Interrupted deep enter h = tt
 Refuses-deep given made s limit Failed Raised w path (errors.WorktreeRootIsFile p) deep enter h = absurd h
@@ -207,7 +207,7 @@ Refuses-deep given made s limit Failed Raised w path errors.OutOfMemory deep ent
 
 -- ---- a listing that is refused
 
-pub IsInTree-open : (holds : Option Objects) (s : Sources) (made : Option Made) (root path : List ℕ) (e : Error) → OpenRefuses (full_path root path) (look s.tree (full_path root path) (is_empty path)) e
+pub IsInTree-open : (holds : Option Objects) (s : Sources) (made : Option StackSetup) (root path : List ℕ) (e : Error) → OpenRefuses (full_path root path) (look s.tree (full_path root path) (is_empty path)) e
     → IsInTree root holds s made e
 IsInTree-open holds s made root path errors.Interrupted h = tt
 IsInTree-open holds s made root path (errors.WorktreeRootIsFile p) h = tt
@@ -233,7 +233,7 @@ broken-among o ev path c (found (directory names)) why e = absurd (cc e)
 
 -- A refusal of a directory that is entered is one of its name, where its class is known, or the worktree failed. `same` says that its
 -- path is not the worktree root's.
-pub Refuses-directory : (given : Setting) (made : Option Made) (s : Sources) (limit : ℕ) (P Q : Type 0) (w : Walked) (p : List ℕ) (c : Class) (e : Error) → look_directory given s.tree p ≡ look_name given s.tree p → HasPaths (directory_told given made s p c) w ⊎ Q → (P → Q)
+pub Refuses-directory : (given : Setting) (made : Option StackSetup) (s : Sources) (limit : ℕ) (P Q : Type 0) (w : Walked) (p : List ℕ) (c : Class) (e : Error) → look_directory given s.tree p ≡ look_name given s.tree p → HasPaths (directory_told given made s p c) w ⊎ Q → (P → Q)
     → ((why : ListError) → list_of (look_name given s.tree p) ≡ Err why → ((evidence given made s).in_index p).up_to_date ≡ Some Directory) → DirectoryRefuses given made s limit P p c e → Refuses given made s limit Q w e
 Refuses-directory given made s limit P Q w p c e same within f indexed (inr h) = Refuses-within (directory_told given made s p c) w P Q within f given made s limit e h
 Refuses-directory given made s limit P Q w p c e same within f indexed (inl h) = go e h
@@ -283,7 +283,7 @@ either f g (inl a) = f a
 either f g (inr b) = g b
 
 -- what is refused within a traversal root that lies no deeper than the limit
-pub about-from : {T : Type 0} (made : Option Made) (top root : List ℕ) (limit : ℕ) (r : Result T Stop) → IfErr r (OnRefused (IsAbout made top limit)) → IfErr r (OnRefused (IsAboutFrom made top root limit))
+pub about-from : {T : Type 0} (made : Option StackSetup) (top root : List ℕ) (limit : ℕ) (r : Result T Stop) → IfErr r (OnRefused (IsAbout made top limit)) → IfErr r (OnRefused (IsAboutFrom made top root limit))
 about-from made top root limit r = IfErr-weaker r (OnRefused (IsAbout made top limit)) (OnRefused (IsAboutFrom made top root limit)) (refused-any (IsAbout made top limit) (IsAboutFrom made top root limit) (λ e about. inl about))
 
 -- a count rose, or it did not
@@ -295,7 +295,7 @@ rose-or before now = go (nat_lt now (next before)) refl
     go false e = inr (ltb-false now (next before) e)
 
 -- what is refused of a name is refused of its directory
-pub DirectoryRefuses-name : (given : Setting) (made : Option Made) (s : Sources) (limit : ℕ) (P Q : Type 0) (v : Walked) (d : List ℕ) (c : Class) → HasPaths v (directory_told given made s d c) → (P → Q) → (stop : Stop) → OnRefused (Refuses given made s limit P v) stop
+pub DirectoryRefuses-name : (given : Setting) (made : Option StackSetup) (s : Sources) (limit : ℕ) (P Q : Type 0) (v : Walked) (d : List ℕ) (c : Class) → HasPaths v (directory_told given made s d c) → (P → Q) → (stop : Stop) → OnRefused (Refuses given made s limit P v) stop
     → OnRefused (DirectoryRefuses given made s limit Q d c) stop
 DirectoryRefuses-name given made s limit P Q v d c within f stop h =
     refused-any (Refuses given made s limit P v) (DirectoryRefuses given made s limit Q d c) (λ e r. inr (Refuses-within v (directory_told given made s d c) P Q (inl within) f given made s limit e r)) stop h

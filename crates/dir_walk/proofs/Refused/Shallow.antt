@@ -1,7 +1,7 @@
 -- Refusals that are not for what lies too deep.
 use Rattle.std.proofs.Common.{◌≡◌, ℕ, List, Option, Result, Ok, Err, refl, ap}
 use Rattle.std.specs.Prelude.{IfErr}
-use Rattle.worktree_stack.specs.Setup.{Made}
+use Rattle.worktree_stack.specs.Setup.{StackSetup}
 use Rattle.dir_classify.specs.declared.classify.RootOutcome.{RootOutcome}
 use Rattle.dir_classify.specs.declared.error.Error.{Error}
 use Rattle.dir_classify.specs.declared.error.Error.TheVariants as errors
@@ -14,16 +14,16 @@ use Rattle.dir_walk.specs.Given.{OnRefused}
 use Rattle.dir_walk.specs.Kept.{WantsMemory}
 use Rattle.dir_walk.specs.Rooting.{RootAbout}
 use Rattle.dir_walk.specs.Starts.{OnlyRoot}
-use Rattle.dir_walk.specs.Unopened.{deep_one, deep_walk}
+use Rattle.dir_walk.specs.Unopened.{too_deep_count, deep_walk}
 
 -- want of memory
 pub shallow-memory : {T : Type 0} (result : Result T Stop) → WantsMemory result → deep_walk result ≡ 0
 shallow-memory (Ok done) memory = refl
 shallow-memory (Err Broken) memory = refl
-shallow-memory (Err (Refused e)) memory = ap {B = ℕ} deep_one memory
+shallow-memory (Err (Refused e)) memory = ap {B = ℕ} too_deep_count memory
 
 -- a class
-pub shallow-class : (made : Option Made) (path : List ℕ) (e : Error) → classes.IsAbout made path e → deep_one e ≡ 0
+pub shallow-class : (made : Option StackSetup) (path : List ℕ) (e : Error) → classes.IsAbout made path e → too_deep_count e ≡ 0
 shallow-class made path errors.Interrupted about = refl
 shallow-class made path (errors.WorktreeRootIsFile root) about = refl
 shallow-class made path (errors.NormalizeRoot root) about = refl
@@ -36,11 +36,11 @@ shallow-class made path (errors.DirEntry directory) about = refl
 shallow-class made path errors.OutOfMemory about = refl
 
 -- one on the way to the traversal root
-pub shallow-way : (made : Option Made) (root : List ℕ) (e : Error) → OnWayTo root (λ path. classes.IsAbout made path e) → deep_one e ≡ 0
+pub shallow-way : (made : Option StackSetup) (root : List ℕ) (e : Error) → OnWayTo root (λ path. classes.IsAbout made path e) → too_deep_count e ≡ 0
 shallow-way made root e (path, leads, about) = shallow-class made path e about
 
 -- there is no traversal root
-pub shallow-outside : (given : Setting) (explicit : Option (List ℕ)) (e : Error) → RootAbout given explicit e → deep_one e ≡ 0
+pub shallow-outside : (given : Setting) (explicit : Option (List ℕ)) (e : Error) → RootAbout given explicit e → too_deep_count e ≡ 0
 shallow-outside given explicit errors.Interrupted about = refl
 shallow-outside given explicit (errors.WorktreeRootIsFile at) about = refl
 shallow-outside given explicit (errors.NormalizeRoot root) about = refl
@@ -53,7 +53,7 @@ shallow-outside given explicit (errors.DirEntry at) about = refl
 shallow-outside given explicit errors.OutOfMemory about = refl
 
 -- or it is not entered
-shallow-root : (top root : List ℕ) (reached : RootOutcome) (e : Error) → OnlyRoot top root reached e → deep_one e ≡ 0
+shallow-root : (top root : List ℕ) (reached : RootOutcome) (e : Error) → OnlyRoot top root reached e → too_deep_count e ≡ 0
 shallow-root top root reached errors.Interrupted only = refl
 shallow-root top root reached (errors.WorktreeRootIsFile path) only = refl
 shallow-root top root reached (errors.NormalizeRoot path) only = refl

@@ -4,7 +4,7 @@ use Rattle.std.specs.List.{list_all}
 use Rattle.gitbase_core.specs.Path.{components}
 use Rattle.worktree_fs.specs.Paths.{spelled, fronts, all_but_last}
 use Rattle.std.specs.Prelude.{Err}
-use Rattle.worktree_stack.specs.Setup.{Made}
+use Rattle.worktree_stack.specs.Setup.{StackSetup}
 use Rattle.worktree_stack.specs.Reading.{Sources, Tells, Refusal, reading, is_read}
 use Rattle.worktree_stack.specs.Refused.{OfAncestor}
 use Rattle.dir_classify.specs.Layers.{is_unread_in}
@@ -36,7 +36,7 @@ all-front p (name ∷ names) (x ∷ front) rest e fails =
     and-right (p []) (list_all p (map (λ f. name ∷ f) (fronts names)))
     (all-map p (λ f. name ∷ f) (fronts names) ∙ all-front (λ f. p (name ∷ f)) names front rest (tail_is e) (ap (λ (n : List ℕ). p (n ∷ front)) (head_is e) ∙ fails))
 
-pub unread-ancestor : (s : Sources) (rules : Made) (path : List ℕ) (Holds : List ℕ → Type 0) (refusal : Refusal) → OfAncestor (components path) Holds
+pub unread-ancestor : (s : Sources) (rules : StackSetup) (path : List ℕ) (Holds : List ℕ → Type 0) (refusal : Refusal) → OfAncestor (components path) Holds
     → ((d : List ℕ) → Holds d → reading rules s d ≡ Err refusal) → is_unread_in (Some rules) s path ≡ true
 unfolding is_unread_in
 unread-ancestor s rules path Holds refusal h is =

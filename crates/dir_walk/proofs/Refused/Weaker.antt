@@ -2,7 +2,7 @@
 use Rattle.std.proofs.Common.{◌≡◌, inl, inr, ℕ, List, true, Option, Some, None}
 use Rattle.std.specs.Prelude.{◌⊎◌, IsSomeAnd}
 use Rattle.worktree_stack.specs.Reading.{Sources}
-use Rattle.worktree_stack.specs.Setup.{Made}
+use Rattle.worktree_stack.specs.Setup.{StackSetup}
 use Rattle.dir_classify.specs.declared.error.Error.{Error}
 use Rattle.dir_classify.specs.declared.error.Error.TheVariants as errors
 use Rattle.dir_classify.specs.Layers.{Setting}
@@ -24,7 +24,7 @@ OnNoRoot-weaker P Q (errors.ReadDir path why) f h = tt
 OnNoRoot-weaker P Q (errors.DirEntry path) f h = tt
 OnNoRoot-weaker P Q errors.OutOfMemory f h = tt
 
-module _ (given : Setting) (made : Option Made) (s : Sources) (limit : ℕ) (P Q : Type 0) (f : P → Q) where
+module _ (given : Setting) (made : Option StackSetup) (s : Sources) (limit : ℕ) (P Q : Type 0) (f : P → Q) where
   -- of the store
   StartRefuses-weaker : (root : List ℕ) (e : Error) → StartRefuses given made s root limit P e → StartRefuses given made s root limit Q e
   StartRefuses-weaker root errors.Interrupted h = tt
@@ -38,7 +38,7 @@ module _ (given : Setting) (made : Option Made) (s : Sources) (limit : ℕ) (P Q
       or U (inl u) = inl u
       or U (inr p) = inr (f p)
 
-      go : (m : Option Made) → IsSomeAnd m (λ rules. IsNoWay given made s root rules P x ⊎ IsNoAccess s rules (walked_or_nothing (walked_at given made s root)) ⊥ x)
+      go : (m : Option StackSetup) → IsSomeAnd m (λ rules. IsNoWay given made s root rules P x ⊎ IsNoAccess s rules (walked_or_nothing (walked_at given made s root)) ⊥ x)
           → IsSomeAnd m (λ rules. IsNoWay given made s root rules Q x ⊎ IsNoAccess s rules (walked_or_nothing (walked_at given made s root)) ⊥ x)
       go None k = k
       go (Some rules) (inl k) =

@@ -14,7 +14,7 @@ use Rattle.dir_classify.specs.declared.entry.Kind.TheVariants.{Directory, Reposi
 use Rattle.dir_classify.specs.declared.classify.Outcome.{Outcome}
 use Rattle.dir_classify.specs.declared.excludes.Ruling.{Ruling}
 use Rattle.dir_classify.specs.Chosen.{Chosen, finds_bare_repositories}
-use Rattle.dir_classify.specs.Class.{class, class_of_kind, class_dot_git, class_unmatched, class_worktree, class_indexed, class_unindexed, class_by_rules, class_directory, class_other, finds_in_ignored, upgrade, is_worktree, is_indexed, is_dot_git, settled_kind, ruling_of, dot_git_ruling}
+use Rattle.dir_classify.specs.Class.{class, class_of_kind, class_dot_git, class_unmatched, class_worktree, class_indexed, class_unindexed, class_by_rules, class_directory, class_other, finds_in_ignored, upgrade, is_worktree, index_agrees_with_disk, is_dot_git, settled_kind, ruling_of, dot_git_ruling}
 use Rattle.dir_classify.specs.Enters.{is_open, is_ignored_status}
 use Rattle.dir_classify.specs.Evidence.{Evidence}
 use Rattle.std.specs.Option.{option_or}
@@ -91,7 +91,7 @@ module _ (o : Chosen) (ev : Evidence) (path : List ℕ) (known : Option Kind) wh
       go : (dot can : Bool) → let c = if dot then class_dot_git o ev path known (dot_git_ruling o ev path known) else if not can then class_unmatched known else class_of_kind o ev path kind in holds_names c.disk_kind ≡ true → Held c
       go true can f = inr f
       go false false f = inr f
-      go false true f = held-cases (is_worktree o path) (is_indexed (ev.in_index path) kind) (ruling_of o ev path kind) refl f
+      go false true f = held-cases (is_worktree o path) (index_agrees_with_disk (ev.in_index path) kind) (ruling_of o ev path kind) refl f
 
 -- ---- what is known as a directory holds names by its class at the worktree root
 
@@ -124,7 +124,7 @@ module _ (o : Chosen) (ev : Evidence) (none : (ev.in_index []).up_to_date ≡ No
   holds-root =
       ap (λ (dot : Bool). holds_names (if dot then class_dot_git o ev [] (Some Directory) (dot_git_ruling o ev [] (Some Directory)) else if not (ev.can_match [] (Some true)) then class_unmatched (Some Directory) else class_of_kind o ev [] (settled_kind ev [] (Some Directory) None)).disk_kind) (no-dot_git o.ignore_case)
       ∙ ap (λ (u : Option Kind). holds_names (if not (ev.can_match [] (Some true)) then class_unmatched (Some Directory) else class_of_kind o ev [] (option_or u (Some Directory))).disk_kind) none
-      ∙ holds-cases (ev.can_match [] (Some true)) (is_worktree o []) (is_indexed (ev.in_index []) (Some Directory)) (ruling_of o ev [] (Some Directory))
+      ∙ holds-cases (ev.can_match [] (Some true)) (is_worktree o []) (index_agrees_with_disk (ev.in_index []) (Some Directory)) (ruling_of o ev [] (Some Directory))
 
   -- a worktree root that its class does not have as holding names is no directory
   pub no-directory : (t : Names) (top : List ℕ) → holds_names (class o ev [] (kind_at t top false) None).disk_kind ≡ false → kind_of (look t top false) ≢ Some nodes.Directory

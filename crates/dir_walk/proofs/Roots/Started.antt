@@ -4,7 +4,7 @@ use Rattle.std.specs.Prelude.{if◌then◌else◌, IsSomeAnd, OnOk}
 use Rattle.gitbase_core.specs.Path.{components, is_empty}
 use Rattle.worktree_fs.specs.declared.answers.ListError.TheVariants as lists
 use Rattle.worktree_stack.specs.Reading.{Sources}
-use Rattle.worktree_stack.specs.Setup.{Made}
+use Rattle.worktree_stack.specs.Setup.{StackSetup}
 use Rattle.dir_classify.specs.declared.classify.Outcome.{Outcome as Class}
 use Rattle.dir_classify.specs.declared.classify.RootOutcome.{RootOutcome}
 use Rattle.dir_classify.specs.declared.entry.Kind.{Kind}
@@ -25,7 +25,7 @@ use Rattle.dir_walk.specs.declared.outcome.Outcome.{Outcome}
 use Rattle.dir_walk.specs.Emissions.{Emission, plain}
 use Rattle.dir_walk.specs.Emits.{Emits, GivesAll, IsPartOfAll, Within, shown_by}
 use Rattle.dir_walk.specs.Refused.{DirectoryRefuses, IsNoAccess, IsTooDeep, IsUnlisted}
-use Rattle.dir_walk.specs.Root.{is_no_root, is_root_entered, look_root, only, walked_at}
+use Rattle.dir_walk.specs.Root.{is_non_directory_worktree_root, is_root_entered, look_root, single_entry_walked, walked_at}
 use Rattle.dir_walk.specs.Rooting.{IsRoot}
 use Rattle.dir_walk.specs.Starts.{PutsRoot, StartGives}
 use Rattle.dir_walk.specs.Told.{directory_told}
@@ -36,7 +36,7 @@ use Rattle.dir_walk.proofs.Roots.HeldRoots.{no-directory}
 use Rattle.dir_walk.proofs.Order.Lists.{same_some}
 use Rattle.dir_walk.proofs.Roots.Starting.{bare, broken-way, unindexed, walked-way, way-class, way-empty}
 
-module _ (given : Setting) (made : Option Made) (s : Sources) (root : List ℕ) (shape : IsRoot root) (r : RootOutcome) (is : reached_by r false ≡ way_to given made s root) where
+module _ (given : Setting) (made : Option StackSetup) (s : Sources) (root : List ℕ) (shape : IsRoot root) (r : RootOutcome) (is : reached_by r false ≡ way_to given made s root) where
   abbrev o : Chosen
   o = given.options
 
@@ -97,7 +97,7 @@ module _ (given : Setting) (made : Option Made) (s : Sources) (root : List ℕ) 
         go (errors.ExcludesAccess inner) (inl h) = absurd h
         go (errors.ExcludesAccess inner) (inr h) = some made (within (λ v. IsSomeAnd made (λ rules. IsNoAccess s rules v ⊥ inner)) h)
           where
-            some : (m : Option Made) → IsSomeAnd m (λ rules. IsNoAccess s rules (walked_or_nothing (walked_at given made s root)) ⊥ inner)
+            some : (m : Option StackSetup) → IsSomeAnd m (λ rules. IsNoAccess s rules (walked_or_nothing (walked_at given made s root)) ⊥ inner)
                 → IsSomeAnd m (λ rules. IsNoWay given made s root rules F inner ⊎ IsNoAccess s rules (walked_or_nothing (walked_at given made s root)) ⊥ inner)
             some None x = x
             some (Some rules) x = inr x
@@ -116,20 +116,20 @@ module _ (given : Setting) (made : Option Made) (s : Sources) (root : List ℕ) 
     out-way : is_root_entered o ev way ≡ false
     out-way = ap (is_root_entered o ev) (sym is) ∙ out
 
-    unentered : walked_at given made s root ≡ (if is_empty root && not (holds_names r.outcome.disk_kind) then None else Some (only (entry_at r.path r.outcome)))
+    unentered : walked_at given made s root ≡ (if is_empty root && not (holds_names r.outcome.disk_kind) then None else Some (single_entry_walked (entry_at r.path r.outcome)))
     unentered =
-        ap (λ (b : Bool). if b then Some (entered_at o ev way.path way.class (look_root given s.tree way.path)) else if is_no_root way then None else Some (only (entry_at way.path way.class))) out-way
-        ∙ ap (λ (b : Bool). if b && not (holds_names way.class.disk_kind) then None else Some (only (entry_at way.path way.class))) (way-empty o ev kinds root shape.spelled_is)
-        ∙ ap (λ (w : Reached). if is_empty root && not (holds_names w.class.disk_kind) then None else Some (only (entry_at w.path w.class))) (sym is)
+        ap (λ (b : Bool). if b then Some (entered_at o ev way.path way.class (look_root given s.tree way.path)) else if is_non_directory_worktree_root way then None else Some (single_entry_walked (entry_at way.path way.class))) out-way
+        ∙ ap (λ (b : Bool). if b && not (holds_names way.class.disk_kind) then None else Some (single_entry_walked (entry_at way.path way.class))) (way-empty o ev kinds root shape.spelled_is)
+        ∙ ap (λ (w : Reached). if is_empty root && not (holds_names w.class.disk_kind) then None else Some (single_entry_walked (entry_at w.path w.class))) (sym is)
 
     module _ (there : (is_empty root && not (holds_names r.outcome.disk_kind)) ≡ false) where
-      pub walked-only : walked_at given made s root ≡ Some (only (entry_at r.path r.outcome))
-      walked-only = unentered ∙ ap (λ (b : Bool). if b then None else Some (only (entry_at r.path r.outcome))) there
+      pub walked-only : walked_at given made s root ≡ Some (single_entry_walked (entry_at r.path r.outcome))
+      walked-only = unentered ∙ ap (λ (b : Bool). if b then None else Some (single_entry_walked (entry_at r.path r.outcome))) there
 
       pub gives-only : (limit : ℕ) (before after : Option (List Emission)) (start stop : Outcome) → Emits before after start stop (λ p. shown_by o p (plain (entry_at r.path r.outcome) ∷ [])) 1 0 → StartGives given made s root limit before after start stop
       gives-only limit before after start stop emits =
           record {
-            w = only (entry_at r.path r.outcome);
+            w = single_entry_walked (entry_at r.path r.outcome);
             walked_is = walked-only;
             read = read-at;
             gives = record { emits = Emits-as before after start stop _ _ 1 _ 0 _ emits (λ p. refl) (omega arith) refl; whole = refl };
@@ -138,7 +138,7 @@ module _ (given : Setting) (made : Option Made) (s : Sources) (root : List ℕ) 
     pub part-only : (w : Walked) (before after : Option (List Emission)) (start stop : Outcome) → walked_at given made s root ≡ Some w → Within before after start stop (λ p. shown_by o p (plain (entry_at r.path r.outcome) ∷ [])) 1 → IsPartOfAll o w before after start stop
     part-only w before after start stop walk part = go (is_empty root && not (holds_names r.outcome.disk_kind)) (sym unentered ∙ walk)
       where
-        go : (b : Bool) → (if b then None else Some (only (entry_at r.path r.outcome))) ≡ Some w → IsPartOfAll o w before after start stop
+        go : (b : Bool) → (if b then None else Some (single_entry_walked (entry_at r.path r.outcome))) ≡ Some w → IsPartOfAll o w before after start stop
         go true e = absurd (cc e)
         go false e = subst (λ (v : Walked). IsPartOfAll o v before after start stop) (same_some e) part
 
@@ -147,7 +147,7 @@ module _ (given : Setting) (made : Option Made) (s : Sources) (root : List ℕ) 
         record {
           top = bare root empty;
           unentered = out-way;
-          not_walked = unentered ∙ ap (λ (b : Bool). if b && not (holds_names r.outcome.disk_kind) then None else Some (only (entry_at r.path r.outcome))) empty ∙ ap (λ (b : Bool). if not b then None else Some (only (entry_at r.path r.outcome))) holds;
+          not_walked = unentered ∙ ap (λ (b : Bool). if b && not (holds_names r.outcome.disk_kind) then None else Some (single_entry_walked (entry_at r.path r.outcome))) empty ∙ ap (λ (b : Bool). if not b then None else Some (single_entry_walked (entry_at r.path r.outcome))) holds;
           node = no-node empty holds;
         }
 

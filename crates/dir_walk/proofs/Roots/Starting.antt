@@ -9,7 +9,7 @@ use Rattle.worktree_fs.specs.Answers.{list_of}
 use Rattle.worktree_fs.specs.Paths.{full_path, spelled}
 use Rattle.worktree_fs.proofs.Paths.Spelled.{component_from, grown-is, grown-components}
 use Rattle.worktree_stack.specs.Reading.{Sources}
-use Rattle.worktree_stack.specs.Setup.{Made}
+use Rattle.worktree_stack.specs.Setup.{StackSetup}
 use Rattle.dir_classify.specs.declared.classify.Outcome.{Outcome as Class}
 use Rattle.dir_classify.specs.declared.entry.Kind.{Kind}
 use Rattle.dir_classify.specs.declared.entry.Kind.TheVariants.{Directory}
@@ -21,8 +21,8 @@ use Rattle.dir_classify.specs.Evidence.{Evidence}
 use Rattle.dir_classify.specs.Kinds.{is_directory, is_symlink}
 use Rattle.dir_classify.specs.Layers.{Setting, evidence, in_index, kind_at, on_disk}
 use Rattle.dir_classify.specs.Rooted.{way_to}
-use Rattle.dir_classify.specs.Way.{Reached, onward, reached, reached_at, reached_root}
-use Rattle.dir_walk.specs.Root.{is_no_root, is_root_entered, look_root, only, root_kind, walked_at}
+use Rattle.dir_classify.specs.Way.{Reached, reached_through_components, reached, reached_at, reached_root}
+use Rattle.dir_walk.specs.Root.{is_non_directory_worktree_root, is_root_entered, look_root, single_entry_walked, root_kind, walked_at}
 use Rattle.dir_walk.specs.Rooting.{IsRoot}
 use Rattle.dir_walk.specs.Walked.{entered_at}
 use Rattle.dir_walk.specs.WalkRefused.{IsBrokenRoot, IsHeldDirectory}
@@ -44,15 +44,15 @@ module _ (o : Chosen) (ev : Evidence) (kinds : List ℕ → Option Kind) where
   step r name = reached_at o ev kinds r.in_repository r.is_unread (joined r.path name)
 
   -- a way that came to its end is spelled by the components that it went through
-  onward-path : (r : Reached) (names : List (List ℕ)) → AreNames names → r.path ≡ spelled (components r.path) → (onward o ev kinds r names).whole ≡ true → (onward o ev kinds r names).path ≡ spelled (components r.path ++ names)
+  onward-path : (r : Reached) (names : List (List ℕ)) → AreNames names → r.path ≡ spelled (components r.path) → (reached_through_components o ev kinds r names).whole ≡ true → (reached_through_components o ev kinds r names).path ≡ spelled (components r.path ++ names)
   onward-path r [] are is whole = is ∙ ap spelled (sym (append-nil (components r.path)))
   onward-path r (name ∷ names) are is whole = go (is_empty r.path || enters o r.class r.in_repository) whole
       (onward-path (step r name) names are.1
       (grown-is r.path name is (component_from name are.0) ∙ ap spelled (sym (grown-components r.path name is (component_from name are.0)))))
     where
-      go : (b : Bool) → (if b then onward o ev kinds (step r name) names else record r { whole = false }).whole ≡ true
-          → ((onward o ev kinds (step r name) names).whole ≡ true → (onward o ev kinds (step r name) names).path ≡ spelled (components (joined r.path name) ++ names))
-          → (if b then onward o ev kinds (step r name) names else record r { whole = false }).path ≡ spelled (components r.path ++ name ∷ names)
+      go : (b : Bool) → (if b then reached_through_components o ev kinds (step r name) names else record r { whole = false }).whole ≡ true
+          → ((reached_through_components o ev kinds (step r name) names).whole ≡ true → (reached_through_components o ev kinds (step r name) names).path ≡ spelled (components (joined r.path name) ++ names))
+          → (if b then reached_through_components o ev kinds (step r name) names else record r { whole = false }).path ≡ spelled (components r.path ++ name ∷ names)
       go true w later =
           later w
           ∙ ap (λ (l : List (List ℕ)). spelled (l ++ names)) (grown-components r.path name is (component_from name are.0))
@@ -63,11 +63,11 @@ module _ (o : Chosen) (ev : Evidence) (kinds : List ℕ → Option Kind) where
   unfolding reached
   way-path root is whole = onward-path (reached_root o ev kinds) (components root) (AreNames-components root) refl whole ∙ sym is
 
-  onward-some : (r : Reached) (names : List (List ℕ)) → AreNames names → is_empty r.path ≡ false → is_empty (onward o ev kinds r names).path ≡ false
+  onward-some : (r : Reached) (names : List (List ℕ)) → AreNames names → is_empty r.path ≡ false → is_empty (reached_through_components o ev kinds r names).path ≡ false
   onward-some r [] are some = some
   onward-some r (name ∷ names) are some = go (is_empty r.path || enters o r.class r.in_repository) (onward-some (step r name) names are.1 (joined-full r.path name are.0))
     where
-      go : (b : Bool) → is_empty (onward o ev kinds (step r name) names).path ≡ false → is_empty (if b then onward o ev kinds (step r name) names else record r { whole = false }).path ≡ false
+      go : (b : Bool) → is_empty (reached_through_components o ev kinds (step r name) names).path ≡ false → is_empty (if b then reached_through_components o ev kinds (step r name) names else record r { whole = false }).path ≡ false
       go true later = later
       go false later = some
 
@@ -77,7 +77,7 @@ module _ (o : Chosen) (ev : Evidence) (kinds : List ℕ → Option Kind) where
   way-empty [] is = refl
   way-empty (b ∷ root) is = go (components (b ∷ root)) refl (AreNames-components (b ∷ root))
     where
-      go : (names : List (List ℕ)) → components (b ∷ root) ≡ names → AreNames names → is_empty (onward o ev kinds (reached_root o ev kinds) names).path ≡ false
+      go : (names : List (List ℕ)) → components (b ∷ root) ≡ names → AreNames names → is_empty (reached_through_components o ev kinds (reached_root o ev kinds) names).path ≡ false
       go [] e are = absurd (let f : b ∷ root ≡ [] = is ∙ ap spelled e in cc f)
       go (name ∷ names) e are = onward-some (step (reached_root o ev kinds) name) names are.1 (joined-full [] name are.0)
 
@@ -92,22 +92,22 @@ bare [] e = refl
 bare (b ∷ path) e = absurd (cc e)
 
 -- nothing is known of the worktree root in the index
-pub unindexed : (given : Setting) (made : Option Made) (s : Sources) → ((evidence given made s).in_index []).up_to_date ≡ None
+pub unindexed : (given : Setting) (made : Option StackSetup) (s : Sources) → ((evidence given made s).in_index []).up_to_date ≡ None
 unfolding evidence in_index
 unindexed given made s = refl
 
-followed-root : (given : Setting) (made : Option Made) (s : Sources) → (evidence given made s).followed [] ≡ kind_at s.tree (full_path given.root []) true
+followed-root : (given : Setting) (made : Option StackSetup) (s : Sources) → (evidence given made s).followed [] ≡ kind_at s.tree (full_path given.root []) true
 unfolding evidence
 followed-root given made s = refl
 
 -- what a way's class is
 module _ (o : Chosen) (ev : Evidence) (kinds : List ℕ → Option Kind) where
-  onward-class : (r : Reached) (names : List (List ℕ)) → r.class ≡ class o ev r.path (kinds r.path) None → let w = onward o ev kinds r names in w.class ≡ class o ev w.path (kinds w.path) None
+  onward-class : (r : Reached) (names : List (List ℕ)) → r.class ≡ class o ev r.path (kinds r.path) None → let w = reached_through_components o ev kinds r names in w.class ≡ class o ev w.path (kinds w.path) None
   onward-class r [] is = is
   onward-class r (name ∷ names) is = go (is_empty r.path || enters o r.class r.in_repository) (onward-class (step o ev kinds r name) names refl)
     where
-      go : (b : Bool) → (let w = onward o ev kinds (step o ev kinds r name) names in w.class ≡ class o ev w.path (kinds w.path) None)
-          → let w = if b then onward o ev kinds (step o ev kinds r name) names else record r { whole = false } in w.class ≡ class o ev w.path (kinds w.path) None
+      go : (b : Bool) → (let w = reached_through_components o ev kinds (step o ev kinds r name) names in w.class ≡ class o ev w.path (kinds w.path) None)
+          → let w = if b then reached_through_components o ev kinds (step o ev kinds r name) names else record r { whole = false } in w.class ≡ class o ev w.path (kinds w.path) None
       go true later = later
       go false later = is
 
@@ -115,7 +115,7 @@ module _ (o : Chosen) (ev : Evidence) (kinds : List ℕ → Option Kind) where
   unfolding reached
   way-class names = onward-class (reached_root o ev kinds) names refl
 
-module _ (given : Setting) (made : Option Made) (s : Sources) (root : List ℕ) (shape : IsRoot root) (into : is_root_entered given.options (evidence given made s) (way_to given made s root) ≡ true) where
+module _ (given : Setting) (made : Option StackSetup) (s : Sources) (root : List ℕ) (shape : IsRoot root) (into : is_root_entered given.options (evidence given made s) (way_to given made s root) ≡ true) where
   abbrev o : Chosen
   o = given.options
 
@@ -140,7 +140,7 @@ module _ (given : Setting) (made : Option Made) (s : Sources) (root : List ℕ) 
   -- what is walked is the directory at the traversal root
   pub walked-way : walked_at given made s root ≡ Some (entered_at o ev root way.class (look_root given s.tree root))
   walked-way =
-      ap (λ (b : Bool). if b then Some (entered_at o ev way.path way.class (look_root given s.tree way.path)) else if is_no_root way then None else Some (only (entry_at way.path way.class))) into
+      ap (λ (b : Bool). if b then Some (entered_at o ev way.path way.class (look_root given s.tree way.path)) else if is_non_directory_worktree_root way then None else Some (single_entry_walked (entry_at way.path way.class))) into
       ∙ ap (λ (p : List ℕ). Some (entered_at o ev p way.class (look_root given s.tree p))) path-is
 
   abbrev open_by : Option Kind → Option Kind → Bool

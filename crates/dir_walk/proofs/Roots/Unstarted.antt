@@ -1,6 +1,6 @@
 -- What holds where there is nothing to start from.
 use Rattle.std.proofs.Common.{inl, inr, ℕ, List, Option, sym, subst}
-use Rattle.worktree_stack.specs.Setup.{Made}
+use Rattle.worktree_stack.specs.Setup.{StackSetup}
 use Rattle.dir_classify.specs.declared.error.Error.{Error}
 use Rattle.dir_classify.specs.declared.error.Error.TheVariants as errors
 use Rattle.dir_walk.specs.Refused.{IsAbout, IsAboutFrom}
@@ -31,7 +31,7 @@ no-start-weaker f (errors.DirEntry at) h = tt
 no-start-weaker f errors.OutOfMemory h = tt
 
 -- what is walked from a traversal root is not refused so
-pub no-start-about : (P : Type 0) (made : Option Made) (top : List ℕ) (limit : ℕ) (e : Error) → IsAbout made top limit e → OnNoStart P e
+pub no-start-about : (P : Type 0) (made : Option StackSetup) (top : List ℕ) (limit : ℕ) (e : Error) → IsAbout made top limit e → OnNoStart P e
 no-start-about P made top limit errors.Interrupted about = tt
 no-start-about P made top limit (errors.WorktreeRootIsFile root) about = absurd about
 no-start-about P made top limit (errors.NormalizeRoot root) about = absurd about
@@ -43,6 +43,6 @@ no-start-about P made top limit (errors.ReadDir at why) about = tt
 no-start-about P made top limit (errors.DirEntry at) about = tt
 no-start-about P made top limit errors.OutOfMemory about = tt
 
-pub no-start-from : (P : Type 0) (made : Option Made) (top root : List ℕ) (limit : ℕ) (e : Error) → IsAboutFrom made top root limit e → OnNoStart P e
+pub no-start-from : (P : Type 0) (made : Option StackSetup) (top root : List ℕ) (limit : ℕ) (e : Error) → IsAboutFrom made top root limit e → OnNoStart P e
 no-start-from P made top root limit e (inl about) = no-start-about P made top limit e about
 no-start-from P made top root limit e (inr (path, is, deep)) = subst (OnNoStart P) (sym is) tt

@@ -6,7 +6,7 @@ use Rattle.gitbase_core.specs.Path.{components, is_empty}
 use Rattle.worktree_fs.specs.Paths.{is_normal}
 use Rattle.worktree_stack.specs.Reading.{Sources}
 use Rattle.worktree_stack.specs.Refused as lookups
-use Rattle.worktree_stack.specs.Setup.{Made}
+use Rattle.worktree_stack.specs.Setup.{StackSetup}
 use Rattle.dir_classify.specs.declared.classify.RootOutcome.{RootOutcome}
 use Rattle.dir_classify.specs.declared.error.Error.{Error}
 use Rattle.dir_classify.specs.declared.error.Error.TheVariants as errors
@@ -28,7 +28,7 @@ use Rattle.dir_walk.specs.WalkRefused.{IsNoRoot, IsNoWay, OnNoRoot, StartAbout, 
 on-way-normal : (root path : List ℕ) → IsRoot root → LeadsTo root path → is_normal path ≡ true
 on-way-normal root path shape leads = normal-front root path leads.rest shape.normal leads.components_are leads.spelled_is
 
-pub way-about : (made : Option Made) (top root : List ℕ) (limit : ℕ) (e : Error) → IsRoot root → OnWayTo root (λ path. classes.IsAbout made path e) → StartAbout made top root limit e
+pub way-about : (made : Option StackSetup) (top root : List ℕ) (limit : ℕ) (e : Error) → IsRoot root → OnWayTo root (λ path. classes.IsAbout made path e) → StartAbout made top root limit e
 way-about made top root limit errors.Interrupted shape h = tt
 way-about made top root limit (errors.WorktreeRootIsFile p) shape (path, leads, h) = absurd h
 way-about made top root limit (errors.NormalizeRoot p) shape (path, leads, h) = h
@@ -41,7 +41,7 @@ way-about made top root limit (errors.ReadDir p why) shape (path, leads, h) = ab
 way-about made top root limit (errors.DirEntry p) shape (path, leads, h) = absurd h
 way-about made top root limit errors.OutOfMemory shape h = tt
 
-pub way-found : (top : List ℕ) (holds : Option Objects) (s : Sources) (made : Option Made) (root : List ℕ) (e : Error) → IsRoot root → OnWayTo root (λ path. classes.IsAbout made path e)
+pub way-found : (top : List ℕ) (holds : Option Objects) (s : Sources) (made : Option StackSetup) (root : List ℕ) (e : Error) → IsRoot root → OnWayTo root (λ path. classes.IsAbout made path e)
     → ((is_some made ≡ true → holds ≡ Some s.objects) → OnWayTo root (λ path. classes.IsAbout made path e × classes.Refuses s made path e)) → StartFound top holds s made e
 way-found top holds s made root errors.Interrupted shape h refused = tt
 way-found top holds s made root (errors.WorktreeRootIsFile p) shape h refused = tt
@@ -57,7 +57,7 @@ way-found top holds s made root (errors.ReadDir p why) shape (path, leads, h) re
 way-found top holds s made root (errors.DirEntry p) shape h refused = tt
 way-found top holds s made root errors.OutOfMemory shape h refused = tt
 
-pub way-refuses : (given : Setting) (made : Option Made) (s : Sources) (root : List ℕ) (limit : ℕ) (Failed : Type 0) (e : Error)
+pub way-refuses : (given : Setting) (made : Option StackSetup) (s : Sources) (root : List ℕ) (limit : ℕ) (Failed : Type 0) (e : Error)
     → OnWayTo root (λ path. classes.IsAbout made path e × classes.Refuses s made path e) → OnAccess (((way_to given made s root).is_unread ≡ true) ⊎ Failed) e → StartRefuses given made s root limit Failed e
 way-refuses given made s root limit F errors.Interrupted h asked = tt
 way-refuses given made s root limit F (errors.WorktreeRootIsFile p) (path, leads, h) asked = absurd h.0
@@ -66,7 +66,7 @@ way-refuses given made s root limit F (errors.SymlinkInRoot p worktree_root inde
 way-refuses given made s root limit F (errors.SymlinkMetadata p why) (path, leads, h) asked = h.0
 way-refuses given made s root limit F (errors.ExcludesAccess x) (path, leads, h) asked = go made refl h
   where
-    go : (m : Option Made) → made ≡ m → IsSomeAnd m (λ rules. IsAccess rules path x) × IsSomeAnd m (λ rules. lookups.RefusesIn s rules (components path) x)
+    go : (m : Option StackSetup) → made ≡ m → IsSomeAnd m (λ rules. IsAccess rules path x) × IsSomeAnd m (λ rules. lookups.RefusesIn s rules (components path) x)
         → IsSomeAnd m (λ rules. IsNoWay given made s root rules F x ⊎ IsNoAccess s rules (walked_or_nothing (walked_at given made s root)) ⊥ x)
     go None is k = k.0
     go (Some rules) is k = inl (record { path = path; leads = leads; access = k.0; refused = k.1; unread = asked })
@@ -75,7 +75,7 @@ way-refuses given made s root limit F (errors.ReadDir p why) (path, leads, h) as
 way-refuses given made s root limit F (errors.DirEntry p) (path, leads, h) asked = absurd h.0
 way-refuses given made s root limit F errors.OutOfMemory h asked = tt
 
-pub way-no_root : (Holds : Type 0) (made : Option Made) (root : List ℕ) (e : Error) → OnWayTo root (λ path. classes.IsAbout made path e) → OnNoRoot Holds e
+pub way-no_root : (Holds : Type 0) (made : Option StackSetup) (root : List ℕ) (e : Error) → OnWayTo root (λ path. classes.IsAbout made path e) → OnNoRoot Holds e
 way-no_root Holds made root errors.Interrupted h = tt
 way-no_root Holds made root (errors.WorktreeRootIsFile p) (path, leads, h) = absurd h
 way-no_root Holds made root (errors.NormalizeRoot p) h = tt
@@ -93,7 +93,7 @@ bare : (path : List ℕ) → is_empty path ≡ true → path ≡ []
 bare [] e = refl
 bare (b ∷ path) e = absurd (cc e)
 
-pub only-about : (made : Option Made) (top root : List ℕ) (limit : ℕ) (reached : RootOutcome) (e : Error) → OnlyRoot top root reached e → StartAbout made top root limit e
+pub only-about : (made : Option StackSetup) (top root : List ℕ) (limit : ℕ) (reached : RootOutcome) (e : Error) → OnlyRoot top root reached e → StartAbout made top root limit e
 only-about made top root limit reached errors.Interrupted h = absurd h
 only-about made top root limit reached (errors.WorktreeRootIsFile p) h = (h.0, bare root h.1)
 only-about made top root limit reached (errors.NormalizeRoot p) h = h
@@ -105,7 +105,7 @@ only-about made top root limit reached (errors.ReadDir p why) h = absurd h
 only-about made top root limit reached (errors.DirEntry p) h = absurd h
 only-about made top root limit reached errors.OutOfMemory h = tt
 
-pub only-found : (holds : Option Objects) (s : Sources) (made : Option Made) (top root : List ℕ) (reached : RootOutcome) (e : Error) → OnlyRoot top root reached e → StartFound top holds s made e
+pub only-found : (holds : Option Objects) (s : Sources) (made : Option StackSetup) (top root : List ℕ) (reached : RootOutcome) (e : Error) → OnlyRoot top root reached e → StartFound top holds s made e
 only-found holds s made top root reached errors.Interrupted h = tt
 only-found holds s made top root reached (errors.WorktreeRootIsFile p) h = tt
 only-found holds s made top root reached (errors.NormalizeRoot p) h = h
@@ -117,7 +117,7 @@ only-found holds s made top root reached (errors.ReadDir p why) h = absurd h
 only-found holds s made top root reached (errors.DirEntry p) h = tt
 only-found holds s made top root reached errors.OutOfMemory h = tt
 
-pub only-refuses : (given : Setting) (made : Option Made) (s : Sources) (top root : List ℕ) (limit : ℕ) (StoreFailed : Type 0) (reached : RootOutcome) (e : Error)
+pub only-refuses : (given : Setting) (made : Option StackSetup) (s : Sources) (top root : List ℕ) (limit : ℕ) (StoreFailed : Type 0) (reached : RootOutcome) (e : Error)
     → (is_empty root ≡ true → holds_names reached.outcome.disk_kind ≡ false → IsNoRoot given made s root) → OnlyRoot top root reached e → StartRefuses given made s root limit StoreFailed e
 only-refuses given made s top root limit F reached errors.Interrupted none h = tt
 only-refuses given made s top root limit F reached (errors.WorktreeRootIsFile p) none h = none h.1 h.2

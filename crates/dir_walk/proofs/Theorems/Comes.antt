@@ -12,7 +12,7 @@ use Rattle.dir_walk.specs.Covered.{IsIn}
 use Rattle.dir_walk.specs.Emissions.{Emission, is_empty_directory, plain, within}
 use Rattle.dir_walk.specs.Fold.{fold, shows_collapsed, tally}
 use Rattle.dir_walk.specs.Report.{out_of}
-use Rattle.dir_walk.specs.Walked.{Walked, both, closed, empty_directory, empty_entry, folded_if, folded_to, handed_up, is_held, leaf, put_out, report_of, unfolded}
+use Rattle.dir_walk.specs.Walked.{Walked, merge_walked, closed, empty_directory, empty_entry, folded_if, folded_to, handed_up, is_held, leaf, put_out, report_of, unfolded}
 use Rattle.dir_walk.proofs.Places.Beneath.{not_beneath, not_beneath-self}
 use Rattle.dir_walk.proofs.Theorems.Induct.{Cases, NoneEmpty, at_report}
 use Rattle.dir_walk.proofs.Order.Lists.{all_append, all_filter, all_join, all_map, all_weaker}
@@ -55,7 +55,7 @@ module _ (o : Chosen) (ev : Evidence) where
   unfolding empty_directory
   empty-comes lies d c = let h : Comes lies (leaf o (empty_entry ev d c)) = leaf-comes lies (empty_entry ev d c) in record { out = h.out; up = h.up; flat = h.flat }
 
-  both-comes : (here there lies : List ℕ → Bool) (a b : Walked) → Apart here there lies → LieIn here a → LieIn there b → Comes here a → Comes there b → Comes lies (both a b)
+  both-comes : (here there lies : List ℕ → Bool) (a b : Walked) → Apart here there lies → LieIn here a → LieIn there b → Comes here a → Comes there b → Comes lies (merge_walked a b)
   both-comes here there lies a b apart at bt left right =
       let met : List Entry = a.met ++ b.met in
       let folds : List Entry = a.folds ++ b.folds in

@@ -15,7 +15,7 @@ use Rattle.worktree_stack.specs.declared.error.AtPathError.TheVariants as inner
 use Rattle.worktree_stack.specs.declared.error.RulesWhy.TheVariants as whys
 use Rattle.worktree_stack.specs.declared.error.BlobWhy.TheVariants as blob_whys
 use Rattle.worktree_stack.specs.Refused as lookups
-use Rattle.worktree_stack.specs.Setup.{Made}
+use Rattle.worktree_stack.specs.Setup.{StackSetup}
 use Rattle.worktree_stack.specs.Reading.{Sources, Refusal, of_file, of_blob, reading}
 use Rattle.dir_classify.specs.declared.error.Error.{Error}
 use Rattle.dir_classify.specs.declared.error.Error.TheVariants as errors
@@ -93,11 +93,11 @@ unfolding deep_or_broken
 asked-refused limit ev w path e unread =
     or-right (deep_or_broken limit w) (list_any ev.is_unread w.asked) (any-implies (bytes_eq path) ev.is_unread w.asked (λ d same. ap ev.is_unread (sym (same_text path d (sym same))) ∙ unread) e)
 
-unread-is : (given : Setting) (made : Option Made) (s : Sources) (path : List ℕ) → (evidence given made s).is_unread path ≡ is_unread_in made s path
+unread-is : (given : Setting) (made : Option StackSetup) (s : Sources) (path : List ℕ) → (evidence given made s).is_unread path ≡ is_unread_in made s path
 unfolding evidence
 unread-is given made s path = refl
 
-module _ (s : Sources) (rules : Made) (given : Setting) (limit before now store_before store_now : ℕ) (w : Walked) (quiet : NotIncreased before now) (store_quiet : NotIncreased store_before store_now) where
+module _ (s : Sources) (rules : StackSetup) (given : Setting) (limit before now store_before store_now : ℕ) (w : Walked) (quiet : NotIncreased before now) (store_quiet : NotIncreased store_before store_now) where
   ev : Evidence
   ev = evidence given (Some rules) s
 
@@ -121,14 +121,14 @@ module _ (s : Sources) (rules : Made) (given : Setting) (limit before now store_
   access-refused (inner.Blob id blob_whys.Fault) cause h = absurd (omega (arith, cause, store_quiet))
   access-refused inner.OutOfMemory cause h = absurd (h.access.some_memory refl)
 
-no-access : (s : Sources) (made : Option Made) (given : Setting) (limit before now store_before store_now : ℕ) (w : Walked) (e : AtPathError) → NotIncreased before now → NotIncreased store_before store_now
+no-access : (s : Sources) (made : Option StackSetup) (given : Setting) (limit before now store_before store_now : ℕ) (w : Walked) (e : AtPathError) → NotIncreased before now → NotIncreased store_before store_now
     → lookups.OnFault (Increased before now) (Increased store_before store_now) e → IsSomeAnd made (λ rules. IsNoAccess s rules w ⊥ e) → is_refused limit (evidence given made s) w ≡ true
 no-access s None given limit before now store_before store_now w e quiet store_quiet cause h = absurd h
 no-access s (Some rules) given limit before now store_before store_now w e quiet store_quiet cause h = access-refused s rules given limit before now store_before store_now w quiet store_quiet e cause h
 
 -- ---- what is walked from a traversal root
 
-module _ (s : Sources) (made : Option Made) (given : Setting) (explicit : Option (List ℕ)) (limit before now store_before store_now raised_before raised_now : ℕ) where
+module _ (s : Sources) (made : Option StackSetup) (given : Setting) (explicit : Option (List ℕ)) (limit before now store_before store_now raised_before raised_now : ℕ) where
   abbrev all : Evidence
   all = evidence given made s
 
@@ -179,11 +179,11 @@ module _ (s : Sources) (made : Option Made) (given : Setting) (explicit : Option
         unread (inl is) = absurd (let f : false ≡ true = sym d.read ∙ is in cc f)
         unread (inr more) = absurd (omega (arith, more, store_quiet))
 
-        access : {X : Type 0} (m : Option Made) → made ≡ m → IsSomeAnd m (λ rules. IsNoWay given made s d.root rules (Increased store_before store_now) e ⊎ IsNoAccess s rules (walked_or_nothing (walked_at given made s d.root)) ⊥ e) → X
+        access : {X : Type 0} (m : Option StackSetup) → made ≡ m → IsSomeAnd m (λ rules. IsNoWay given made s d.root rules (Increased store_before store_now) e ⊎ IsNoAccess s rules (walked_or_nothing (walked_at given made s d.root)) ⊥ e) → X
         access None is k = absurd k
         access (Some rules) is (inl k) = unread k.unread
         access (Some rules) is (inr k) =
-            refused (ap (λ (m : Option Made). is_refused limit (evidence given m s) d.w) is ∙ access-refused s rules given limit before now store_before store_now d.w quiet store_quiet e cause (of-walk (λ v. IsNoAccess s rules v ⊥ e) k))
+            refused (ap (λ (m : Option StackSetup). is_refused limit (evidence given m s) d.w) is ∙ access-refused s rules given limit before now store_before store_now d.w quiet store_quiet e cause (of-walk (λ v. IsNoAccess s rules v ⊥ e) k))
     start-memory (errors.TooDeep path) cause raised h =
         let k = of-walk (λ v. IsTooDeep given.root limit v ⊥ path) h in refused (deep-refused limit all d.w k.below k.deep (not-failed k.to_enter))
     start-memory (errors.ReadDir path reads.Absent) cause raised (inl h) = broken lists.Absent path h

@@ -6,7 +6,7 @@ use Rattle.worktree_fs.specs.Naming.{IsTree}
 use Rattle.worktree_fs.specs.Tree.{Node, Look, file, link, directory, other, found, absent, too_many_links}
 use Rattle.worktree_fs.proofs.Trees.Subtree.{IsTree-look}
 use Rattle.worktree_stack.specs.Reading.{Sources}
-use Rattle.worktree_stack.specs.Setup.{Made}
+use Rattle.worktree_stack.specs.Setup.{StackSetup}
 use Rattle.dir_classify.specs.declared.classify.Outcome.{Outcome as Class}
 use Rattle.dir_classify.specs.declared.entry.Entry.{Entry}
 use Rattle.dir_classify.specs.declared.entry.Kind.{Kind}
@@ -19,7 +19,7 @@ use Rattle.dir_classify.specs.Way.{Reached, reached}
 use Rattle.dir_walk.specs.Covered.{Covers, StandsAlone, as_matching, is_over, without_folding}
 use Rattle.dir_walk.specs.Emissions.{is_empty_directory, plain, shows}
 use Rattle.dir_walk.specs.Report.{out_of, shown}
-use Rattle.dir_walk.specs.Root.{Rooted, Walk, is_no_root, is_root_entered, look_root, missing, only, outside, rooted, through_link, traversal_root, walk_from, walk_in, walk_of, walked_from}
+use Rattle.dir_walk.specs.Root.{Rooted, Walk, is_non_directory_worktree_root, is_root_entered, look_root, missing, single_entry_walked, outside, rooted, through_link, traversal_root, walk_from, walk_in, walk_of, walked_from}
 use Rattle.dir_walk.specs.Walked.{Walked, entered_at}
 use Rattle.dir_walk.proofs.Places.Beneath.{not_beneath-self}
 use Rattle.dir_walk.proofs.Order.Counts.{count_by-cons}
@@ -56,23 +56,23 @@ covers-entered o ev d c too_many_links clear plain_d own tree = tt
 covers-walked : (o : Chosen) (ev : Evidence) (r : Reached) (at : Look) (w v : Walked) → NoneEmpty ev → ends_in_slash r.path ≡ false → is_empty_directory r.class.property ≡ false
     → ((node : Node) → at ≡ found node → IsTree node) → walked_from o ev r at ≡ Some w → walked_from (as_matching o) ev r at ≡ Some v
     → Covers w.folds (shown o (out_of w)) (shown (as_matching o) (out_of v))
-covers-walked o ev r at w v clear plain_r own tree e f = go (is_root_entered o ev r) (is_no_root r) e f
+covers-walked o ev r at w v clear plain_r own tree e f = go (is_root_entered o ev r) (is_non_directory_worktree_root r) e f
   where
     both : (a b : Walked) → Covers a.folds (shown o (out_of a)) (shown (as_matching o) (out_of b)) → a ≡ w → b ≡ v → Covers w.folds (shown o (out_of w)) (shown (as_matching o) (out_of v))
     both a b h p q =
         subst (λ (x : Walked). Covers w.folds (shown o (out_of w)) (shown (as_matching o) (out_of x))) q
         (subst (λ (x : Walked). Covers x.folds (shown o (out_of x)) (shown (as_matching o) (out_of b))) p h)
 
-    go : (b k : Bool) → (if b then Some (entered_at o ev r.path r.class at) else if k then None else Some (only (entry_at r.path r.class))) ≡ Some w
-        → (if b then Some (entered_at (as_matching o) ev r.path r.class at) else if k then None else Some (only (entry_at r.path r.class))) ≡ Some v
+    go : (b k : Bool) → (if b then Some (entered_at o ev r.path r.class at) else if k then None else Some (single_entry_walked (entry_at r.path r.class))) ≡ Some w
+        → (if b then Some (entered_at (as_matching o) ev r.path r.class at) else if k then None else Some (single_entry_walked (entry_at r.path r.class))) ≡ Some v
         → Covers w.folds (shown o (out_of w)) (shown (as_matching o) (out_of v))
     go true k p q =
         both (entered_at o ev r.path r.class at) (entered_at (as_matching o) ev r.path r.class at) (covers-entered o ev r.path r.class at clear plain_r own tree) (same_some p) (same_some q)
     go false true p q = absurd (cc p)
-    go false false p q = both (only (entry_at r.path r.class)) (only (entry_at r.path r.class)) (covers-only o (entry_at r.path r.class)) (same_some p) (same_some q)
+    go false false p q = both (single_entry_walked (entry_at r.path r.class)) (single_entry_walked (entry_at r.path r.class)) (covers-only o (entry_at r.path r.class)) (same_some p) (same_some q)
 
 -- both walks are of one root
-roots-same : (given : Setting) (made : Option Made) (s : Sources) (explicit : Option (List ℕ)) (w v : Walk) → walk_in given made s explicit ≡ Some w → walk_in (without_folding given) made s explicit ≡ Some v → v.root ≡ w.root
+roots-same : (given : Setting) (made : Option StackSetup) (s : Sources) (explicit : Option (List ℕ)) (w v : Walk) → walk_in given made s explicit ≡ Some w → walk_in (without_folding given) made s explicit ≡ Some v → v.root ≡ w.root
 unfolding walk_in traversal_root evidence
 roots-same given made s explicit w v e f = go (traversal_root given s.tree explicit) e f
   where
@@ -93,7 +93,7 @@ roots-same given made s explicit w v e f = go (traversal_root given s.tree expli
     go (rooted path) p q = sym (from (without_folding given) (evidence (without_folding given) made s) path v q) ∙ from given (evidence given made s) path w p
 
 -- A walk of a tree covers the one without folding.
-pub covers-walk : (given : Setting) (made : Option Made) (s : Sources) (explicit : Option (List ℕ)) (w v : Walk) → IsTree (directory s.tree) → walk_in given made s explicit ≡ Some w
+pub covers-walk : (given : Setting) (made : Option StackSetup) (s : Sources) (explicit : Option (List ℕ)) (w v : Walk) → IsTree (directory s.tree) → walk_in given made s explicit ≡ Some w
     → walk_in (without_folding given) made s explicit ≡ Some v → Covers w.gives.folds (shown given.options (out_of w.gives)) (shown (as_matching given.options) (out_of v.gives))
 unfolding evidence
 covers-walk given made s explicit w v tree e f =
@@ -115,16 +115,16 @@ covers-walk given made s explicit w v tree e f =
 -- ---- and there is one
 
 walked-too : (o : Chosen) (ev : Evidence) (r : Reached) (at : Look) (w : Walked) → walked_from o ev r at ≡ Some w → (v : Walked) × (walked_from (as_matching o) ev r at ≡ Some v)
-walked-too o ev r at w e = go (is_root_entered o ev r) (is_no_root r) e
+walked-too o ev r at w e = go (is_root_entered o ev r) (is_non_directory_worktree_root r) e
   where
-    go : (b k : Bool) → (if b then Some (entered_at o ev r.path r.class at) else if k then None else Some (only (entry_at r.path r.class))) ≡ Some w
-        → (v : Walked) × ((if b then Some (entered_at (as_matching o) ev r.path r.class at) else if k then None else Some (only (entry_at r.path r.class))) ≡ Some v)
+    go : (b k : Bool) → (if b then Some (entered_at o ev r.path r.class at) else if k then None else Some (single_entry_walked (entry_at r.path r.class))) ≡ Some w
+        → (v : Walked) × ((if b then Some (entered_at (as_matching o) ev r.path r.class at) else if k then None else Some (single_entry_walked (entry_at r.path r.class))) ≡ Some v)
     go true k p = (entered_at (as_matching o) ev r.path r.class at, refl)
     go false true p = absurd (cc p)
-    go false false p = (only (entry_at r.path r.class), refl)
+    go false false p = (single_entry_walked (entry_at r.path r.class), refl)
 
 -- a tree that is walked is walked without folding too
-pub unfolded-walk : (given : Setting) (made : Option Made) (s : Sources) (explicit : Option (List ℕ)) (w : Walk) → walk_in given made s explicit ≡ Some w → (v : Walk) × (walk_in (without_folding given) made s explicit ≡ Some v)
+pub unfolded-walk : (given : Setting) (made : Option StackSetup) (s : Sources) (explicit : Option (List ℕ)) (w : Walk) → walk_in given made s explicit ≡ Some w → (v : Walk) × (walk_in (without_folding given) made s explicit ≡ Some v)
 unfolding walk_in traversal_root evidence
 unfolded-walk given made s explicit w e = go (traversal_root given s.tree explicit) e
   where
@@ -153,7 +153,7 @@ unfolded-walk given made s explicit w e = go (traversal_root given s.tree explic
         (from path (reached given.options ev (λ q. on_disk given s.tree q true) (components path)) p)
 
 -- so it covers what that one shows
-pub covers-unfolded : (given : Setting) (made : Option Made) (s : Sources) (explicit : Option (List ℕ)) (w : Walk) → IsTree (directory s.tree) → walk_in given made s explicit ≡ Some w
+pub covers-unfolded : (given : Setting) (made : Option StackSetup) (s : Sources) (explicit : Option (List ℕ)) (w : Walk) → IsTree (directory s.tree) → walk_in given made s explicit ≡ Some w
     → IsSomeAnd (walk_in (without_folding given) made s explicit) (λ unfolded. Covers w.gives.folds (shown given.options (out_of w.gives)) (shown (as_matching given.options) (out_of unfolded.gives)))
 covers-unfolded given made s explicit w tree e =
     let too = unfolded-walk given made s explicit w e in

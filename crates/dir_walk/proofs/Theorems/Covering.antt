@@ -13,7 +13,7 @@ use Rattle.dir_classify.specs.Evidence.{Evidence}
 use Rattle.dir_walk.specs.Covered.{is_over}
 use Rattle.dir_walk.specs.Emissions.{Emission, is_empty_directory, path_of, plain, shows, within}
 use Rattle.dir_walk.specs.Fold.{fold, is_pruned, shows_collapsed, tally}
-use Rattle.dir_walk.specs.Walked.{Walked, both, closed, empty_directory, empty_entry, folded_if, folded_to, handed_up, is_held, leaf, put_out, report_of, unfolded}
+use Rattle.dir_walk.specs.Walked.{Walked, merge_walked, closed, empty_directory, empty_entry, folded_if, folded_to, handed_up, is_held, leaf, put_out, report_of, unfolded}
 use Rattle.dir_walk.proofs.Places.Beneath.{beneath-prefix, prefix-self, strictly-beneath}
 use Rattle.dir_walk.proofs.Folding.Closing.{leaf-gives}
 use Rattle.dir_walk.proofs.Order.Counts.{count_by-append, count_by-cons, count_by-map, count_by-map_filter, count-none}
@@ -167,7 +167,7 @@ module _ (o : Chosen) (ev : Evidence) where
       record { covered = h.covered; free = λ f b. h.free f (leaf-gives o e).blocks }
 
   module _ (here there lies : List ℕ → Bool) (a b : Walked) (apart : Apart here there lies) (at : LieIn here a) (bt : LieIn there b) (left : Covering o here a) (right : Covering o there b) where
-    sums : (p : Emission → Bool) → number_by p (both a b) ≡ number_by p a + number_by p b
+    sums : (p : Emission → Bool) → number_by p (merge_walked a b) ≡ number_by p a + number_by p b
     sums p = omega (arith, count_by-append p a.out b.out, count_by-append (λ (e : Entry). p (plain e)) a.up b.up)
 
     far_there : (l : Entry) → here l.rela_path ≡ true → (count_by (covers l) b.out ≡ 0) × (count_by (λ e. covers l (plain e)) b.up ≡ 0)
@@ -176,7 +176,7 @@ module _ (o : Chosen) (ev : Evidence) where
     far_here : (l : Entry) → there l.rela_path ≡ true → (count_by (covers l) a.out ≡ 0) × (count_by (λ e. covers l (plain e)) a.up ≡ 0)
     far_here l is = covers-far here l a (λ q k. apart.one q l.rela_path k is) at
 
-    covered-left : (l : Entry) → here l.rela_path ≡ true → IsCovered o a l → IsCovered o (both a b) l
+    covered-left : (l : Entry) → here l.rela_path ≡ true → IsCovered o a l → IsCovered o (merge_walked a b) l
     covered-left l is h n =
         let far = far_there l is in
         let one = h n in (
@@ -184,7 +184,7 @@ module _ (o : Chosen) (ev : Evidence) where
           λ s. omega (arith, sums (covers_hidden o l), one.1 s, hidden-few o l b.out, hidden-few_up o l b.up, far.0, far.1),
         )
 
-    covered-right : (l : Entry) → there l.rela_path ≡ true → IsCovered o b l → IsCovered o (both a b) l
+    covered-right : (l : Entry) → there l.rela_path ≡ true → IsCovered o b l → IsCovered o (merge_walked a b) l
     covered-right l is h n =
         let far = far_here l is in
         let one = h n in (
@@ -192,12 +192,12 @@ module _ (o : Chosen) (ev : Evidence) where
           λ s. omega (arith, sums (covers_hidden o l), one.1 s, hidden-few o l a.out, hidden-few_up o l a.up, far.0, far.1),
         )
 
-    both-covering : Covering o lies (both a b)
+    both-covering : Covering o lies (merge_walked a b)
     both-covering =
         record {
-          covered = all_append (IsCovered o (both a b)) a.met b.met
-              (all_join (λ (l : Entry). here l.rela_path ≡ true) (IsCovered o a) (IsCovered o (both a b)) a.met covered-left at.met left.covered)
-              (all_join (λ (l : Entry). there l.rela_path ≡ true) (IsCovered o b) (IsCovered o (both a b)) b.met covered-right bt.met right.covered);
+          covered = all_append (IsCovered o (merge_walked a b)) a.met b.met
+              (all_join (λ (l : Entry). here l.rela_path ≡ true) (IsCovered o a) (IsCovered o (merge_walked a b)) a.met covered-left at.met left.covered)
+              (all_join (λ (l : Entry). there l.rela_path ≡ true) (IsCovered o b) (IsCovered o (merge_walked a b)) b.met covered-right bt.met right.covered);
           free = λ f e.
               let each = neither a.blocks b.blocks e in
               all_append (λ (l : Entry). is_pruned l ≡ false → count_by (covers l) (a.out ++ b.out) ≡ 0) a.met b.met

@@ -8,7 +8,7 @@ use Rattle.worktree_fs.specs.Naming.{IsTree}
 use Rattle.worktree_fs.specs.Tree.{Node, Look, file, link, directory, other, found, absent, too_many_links}
 use Rattle.worktree_fs.proofs.Trees.Subtree.{IsTree-look}
 use Rattle.worktree_stack.specs.Reading.{Sources}
-use Rattle.worktree_stack.specs.Setup.{Made}
+use Rattle.worktree_stack.specs.Setup.{StackSetup}
 use Rattle.dir_classify.specs.declared.classify.Outcome.{Outcome as Class}
 use Rattle.dir_classify.specs.declared.entry.Entry.{Entry}
 use Rattle.dir_classify.specs.declared.entry.Kind.{Kind}
@@ -22,7 +22,7 @@ use Rattle.dir_walk.specs.declared.report.Report.{Report}
 use Rattle.dir_walk.specs.Distinct.{AreFlat, IsOverNone}
 use Rattle.dir_walk.specs.Emissions.{Emission, by_path, is_empty_directory, path_of, plain}
 use Rattle.dir_walk.specs.Report.{out_of, report, shown}
-use Rattle.dir_walk.specs.Root.{is_no_root, is_root_entered, look_root, only, walked_from}
+use Rattle.dir_walk.specs.Root.{is_non_directory_worktree_root, is_root_entered, look_root, single_entry_walked, walked_from}
 use Rattle.dir_walk.specs.Walked.{Walked, entered_at, report_of}
 use Rattle.dir_walk.proofs.Places.Beneath.{not_beneath-self}
 use Rattle.dir_walk.proofs.Theorems.Comes.{Comes, NoneBeneath, report-comes}
@@ -64,15 +64,15 @@ flat-report o ev d c too_many_links off clear plain_d own tree = tt
 
 flat-walked : (o : Chosen) (ev : Evidence) (r : Reached) (at : Look) (w : Walked) → is_folding o ≡ false → NoneEmpty ev → ends_in_slash r.path ≡ false → is_empty_directory r.class.property ≡ false
     → ((node : Node) → at ≡ found node → IsTree node) → walked_from o ev r at ≡ Some w → AreFlat (out_of w)
-flat-walked o ev r at w off clear plain_r own tree e = go (is_root_entered o ev r) (is_no_root r) e
+flat-walked o ev r at w off clear plain_r own tree e = go (is_root_entered o ev r) (is_non_directory_worktree_root r) e
   where
-    go : (b k : Bool) → (if b then Some (entered_at o ev r.path r.class at) else if k then None else Some (only (entry_at r.path r.class))) ≡ Some w → AreFlat (out_of w)
+    go : (b k : Bool) → (if b then Some (entered_at o ev r.path r.class at) else if k then None else Some (single_entry_walked (entry_at r.path r.class))) ≡ Some w → AreFlat (out_of w)
     go true k p = subst (λ (x : Walked). AreFlat (out_of x)) (same_some p) (flat-report o ev r.path r.class at off clear plain_r own tree)
     go false true p = absurd (cc p)
     go false false p = subst (λ (x : Walked). AreFlat (out_of x)) (same_some p) ((not_beneath-self r.path, tt), tt)
 
 -- A report of a tree without folding is flat.
-pub flat-entries : (given : Setting) (made : Option Made) (s : Sources) (explicit : Option (List ℕ)) (limit : ℕ) (r : Report) → IsTree (directory s.tree)
+pub flat-entries : (given : Setting) (made : Option StackSetup) (s : Sources) (explicit : Option (List ℕ)) (limit : ℕ) (r : Report) → IsTree (directory s.tree)
     → is_folding given.options ≡ false → report given made s explicit limit ≡ Some r → AreFlat r.entries
 unfolding evidence
 flat-entries given made s explicit limit r tree off e =

@@ -16,10 +16,10 @@ use Rattle.dir_classify.specs.Evidence.{Evidence, is_blocked}
 use Rattle.dir_classify.specs.Kinds.{is_repository}
 use Rattle.dir_walk.specs.declared.tally.Tally.{Tally}
 use Rattle.dir_walk.specs.Emissions.{Emission, is_empty_directory, is_tracked_status, path_of, plain, shows, within}
-use Rattle.dir_walk.specs.Fold.{are_loose, are_some, fold, fold_status, folds_expendable, folds_precious, folds_untracked, is_barring, is_expendable, is_expendable_status, is_foldable, is_matched, is_precious, is_precious_status, is_pruned, is_untracked, is_untracked_status, may_delete_all, shows_collapsed, tally}
+use Rattle.dir_walk.specs.Fold.{are_all_untracked_or_ignored, are_some, fold, fold_status, folds_expendable, folds_precious, folds_untracked, is_barring, is_expendable, is_expendable_status, is_foldable, is_matched, is_precious, is_precious_status, is_pruned, is_untracked, is_untracked_status, may_delete_all, shows_collapsed, tally}
 use Rattle.dir_walk.specs.Guarded.{hides_guarded, is_guarded}
 use Rattle.dir_walk.specs.Report.{out_of, shown}
-use Rattle.dir_walk.specs.Walked.{Walked, both, closed, empty_directory, empty_entry, folded_if, folded_to, handed_up, is_held, leaf, put_out, report_of, unfolded}
+use Rattle.dir_walk.specs.Walked.{Walked, merge_walked, closed, empty_directory, empty_entry, folded_if, folded_to, handed_up, is_held, leaf, put_out, report_of, unfolded}
 use Rattle.dir_walk.proofs.Places.Beneath.{not_beneath, not_beneath-self}
 use Rattle.dir_walk.proofs.Folding.Closing.{leaf-gives}
 use Rattle.dir_walk.proofs.Order.Counts.{count_by-append, count_by-cons, count-none, list_any-count, list_any-none}
@@ -110,7 +110,7 @@ status-loose o n s e = go (folds_untracked o n) (folds_expendable o n) (folds_pr
     go : (a b k : Bool) → folds_untracked o n ≡ a → folds_expendable o n ≡ b → folds_precious o n ≡ k
         → cond a (Some Untracked) (cond b (Some (Ignored Expendable)) (cond k (Some (Ignored Precious)) None)) ≡ Some s → AllLoose o n
     go true b k p q r e =
-        let front : (untracked && are_some n.untracked && are_loose n) ≡ true = and_left _ (may_delete_all o n) p in
+        let front : (untracked && are_some n.untracked && are_all_untracked_or_ignored n) ≡ true = and_left _ (may_delete_all o n) p in
         record {
           all = omega (arith, eqb-true (n.untracked + n.expendable + n.precious) n.all (and_right (untracked && are_some n.untracked) _ front));
           folding = or_left untracked ignored (and_left untracked (are_some n.untracked) (and_left (untracked && are_some n.untracked) _ front));
@@ -189,7 +189,7 @@ module _ (o : Chosen) (ev : Evidence) where
     hides-right x is none =
         (hides-with x b.met a.met (all_weaker (λ (l : Entry). here l.rela_path ≡ true) (λ (l : Entry). is_path_prefix x l.rela_path ≡ false) a.met (λ l h. apart.other x l.rela_path is h) at.met) none).1
 
-    both-hides : HidesNone o lies (both a b)
+    both-hides : HidesNone o lies (merge_walked a b)
     both-hides =
         let met : List Entry = a.met ++ b.met in
         record {

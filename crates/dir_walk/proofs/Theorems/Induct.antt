@@ -11,13 +11,13 @@ use Rattle.dir_classify.specs.declared.classify.Outcome.{Outcome as Class}
 use Rattle.dir_classify.specs.declared.entry.Entry.{Entry}
 use Rattle.dir_classify.specs.declared.entry.Kind.{Kind}
 use Rattle.dir_classify.specs.Chosen.{Chosen}
-use Rattle.dir_classify.specs.Class.{class, class_by_rules, class_dot_git, class_indexed, class_unindexed, class_unmatched, class_worktree, dot_git_ruling, enters, is_dot_git, is_indexed, is_worktree, leaf_class, ruling_of, settled_kind}
+use Rattle.dir_classify.specs.Class.{class, class_by_rules, class_dot_git, class_indexed, class_unindexed, class_unmatched, class_worktree, dot_git_ruling, enters, is_dot_git, index_agrees_with_disk, is_worktree, leaf_class, ruling_of, settled_kind}
 use Rattle.dir_classify.specs.Entries.{entry_at}
 use Rattle.dir_classify.specs.Evidence.{Evidence}
 use Rattle.dir_classify.specs.Kinds.{is_dir, holds_names}
 use Rattle.dir_classify.specs.declared.excludes.Ruling.{Ruling}
 use Rattle.dir_walk.specs.Emissions.{is_empty_directory}
-use Rattle.dir_walk.specs.Walked.{Walked, asking, both, broken_at, child_asks, child_class, closed, directory_of, empty_directory, entering, item, items, leaf, leaf_at, nothing, report_of}
+use Rattle.dir_walk.specs.Walked.{Walked, asking, merge_walked, broken_at, child_asks, child_class, closed, directory_of, empty_directory, entering, item, items, leaf, leaf_at, nothing, report_of}
 use Rattle.dir_walk.proofs.Places.Beneath.{prefix-apart, prefix-down, prefix-self, prefix-up}
 use Rattle.dir_walk.proofs.Places.JoinedPaths.{joined-ends}
 use Rattle.dir_walk.proofs.Order.Lists.{or_left, or_right}
@@ -30,7 +30,7 @@ pub record Cases (o : Chosen) (ev : Evidence) (P : (List ℕ → Bool) → Walke
   pub at_asking : (lies : List ℕ → Bool) (b : Bool) (path : List ℕ) (w : Walked) → lies path ≡ true → P lies w → P lies (asking b path w)
   pub at_leaf : (lies : List ℕ → Bool) (e : Entry) → lies e.rela_path ≡ true → P lies (leaf o e)
   pub at_empty : (lies : List ℕ → Bool) (d : List ℕ) (c : Class) → lies d ≡ true → P lies (empty_directory o ev d c)
-  pub at_both : (here there lies : List ℕ → Bool) (a b : Walked) → Apart here there lies → LieIn here a → LieIn there b → P here a → P there b → P lies (both a b)
+  pub at_both : (here there lies : List ℕ → Bool) (a b : Walked) → Apart here there lies → LieIn here a → LieIn there b → P here a → P there b → P lies (merge_walked a b)
   pub at_closed : (below : List ℕ → Bool) (d : List ℕ) (c : Class) (w : Walked) → Inside d below → is_empty_directory c.property ≡ false → LieIn below w → P below w
       → P (at_or_beneath d) (closed o ev d c w)
 
@@ -56,7 +56,7 @@ class-clear o ev clear path known on_disk =
     either-clear (is_dot_git o.ignore_case path) (class_dot_git o ev path known (dot_git_ruling o ev path known)) _ refl
     (either-clear (not (ev.can_match path (is_dir known))) (class_unmatched known) _ refl
     (either-clear (is_worktree o path) (class_worktree ev path k) _ refl
-    (either-clear (is_indexed (ev.in_index path) k) (class_indexed o ev path k) (class_unindexed o ev path k ruling) (clear path) (by_rules-clear o ev path k ruling.kind))))
+    (either-clear (index_agrees_with_disk (ev.in_index path) k) (class_indexed o ev path k) (class_unindexed o ev path k ruling) (clear path) (by_rules-clear o ev path k ruling.kind))))
 
 -- ---- the names of a directory
 

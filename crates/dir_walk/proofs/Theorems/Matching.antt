@@ -14,7 +14,7 @@ use Rattle.dir_classify.specs.declared.entry.Status.TheVariants.{Pruned, Tracked
 use Rattle.dir_classify.specs.declared.excludes.Ruling.{Ruling}
 use Rattle.dir_classify.specs.declared.options.EmissionMode.{EmissionMode}
 use Rattle.dir_classify.specs.Chosen.{Chosen, is_folding}
-use Rattle.dir_classify.specs.Class.{class, class_by_rules, class_dot_git, class_indexed, class_unmatched, class_worktree, dot_git_ruling, enters, is_dot_git, is_indexed, is_worktree, leaf_class, ruling_of, settled_kind}
+use Rattle.dir_classify.specs.Class.{class, class_by_rules, class_dot_git, class_indexed, class_unmatched, class_worktree, dot_git_ruling, enters, is_dot_git, index_agrees_with_disk, is_worktree, leaf_class, ruling_of, settled_kind}
 use Rattle.dir_classify.specs.Entries.{entry_at}
 use Rattle.dir_classify.specs.Evidence.{Evidence}
 use Rattle.dir_classify.specs.Kinds.{is_dir}
@@ -46,7 +46,7 @@ class-same o ev path known on_disk =
     if is_dot_git o.ignore_case path then class_dot_git o ev path known (dot_git_ruling o ev path known)
     else if not (ev.can_match path (is_dir known)) then class_unmatched known
     else if is_worktree o path then class_worktree ev path k
-    else if is_indexed (ev.in_index path) k then class_indexed o ev path k
+    else if index_agrees_with_disk (ev.in_index path) k then class_indexed o ev path k
     else record z { origin = ruling.origin }) (by_rules-same o ev path k ruling.kind)
 
 -- and so is what is shown

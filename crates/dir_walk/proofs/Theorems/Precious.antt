@@ -16,9 +16,9 @@ use Rattle.dir_classify.specs.Evidence.{Evidence}
 use Rattle.dir_walk.specs.declared.tally.Tally.{Tally}
 use Rattle.dir_walk.specs.Deleted.{is_ordinary, loses_precious, mixes_precious}
 use Rattle.dir_walk.specs.Emissions.{Emission, is_empty_directory, path_of, plain, shows, within}
-use Rattle.dir_walk.specs.Fold.{are_loose, are_some, fold, fold_status, folds_expendable, folds_precious, folds_untracked, is_expendable, is_expendable_status, is_precious, is_precious_status, may_delete_all, shows_collapsed, tally}
+use Rattle.dir_walk.specs.Fold.{are_all_untracked_or_ignored, are_some, fold, fold_status, folds_expendable, folds_precious, folds_untracked, is_expendable, is_expendable_status, is_precious, is_precious_status, may_delete_all, shows_collapsed, tally}
 use Rattle.dir_walk.specs.Report.{out_of, shown}
-use Rattle.dir_walk.specs.Walked.{Walked, both, closed, empty_directory, empty_entry, folded_if, folded_to, handed_up, is_held, leaf, put_out, report_of, unfolded}
+use Rattle.dir_walk.specs.Walked.{Walked, merge_walked, closed, empty_directory, empty_entry, folded_if, folded_to, handed_up, is_held, leaf, put_out, report_of, unfolded}
 use Rattle.dir_walk.proofs.Places.Beneath.{not_beneath, not_beneath-self}
 use Rattle.dir_walk.proofs.Folding.Closing.{leaf-gives}
 use Rattle.dir_walk.proofs.Order.Counts.{count_by-append, count_by-cons, count-none, list_any-count, list_any-none}
@@ -76,7 +76,7 @@ status-kind o held s deletes e = go (folds_untracked o n) (folds_expendable o n)
     go : (a b k : Bool) → folds_untracked o n ≡ a → folds_expendable o n ≡ b → folds_precious o n ≡ k
         → cond a (Some Untracked) (cond b (Some (Ignored Expendable)) (cond k (Some (Ignored Precious)) None)) ≡ Some s → AreOfKind held s
     go true b k p q r e =
-        let last : may_delete_all o n ≡ true = and_right (collapses o.emit_untracked && are_some n.untracked && are_loose n) (may_delete_all o n) p in
+        let last : may_delete_all o n ≡ true = and_right (collapses o.emit_untracked && are_some n.untracked && are_all_untracked_or_ignored n) (may_delete_all o n) p in
         let none : n.precious ≡ 0 = not_some n.precious (and_left (not (are_some n.precious)) _ (or_then (is_none o.for_deletion) _ deletes last)) in
         subst (AreOfKind held) (same e) (inl (none, refl))
     go false true k p q r e =
@@ -173,7 +173,7 @@ module _ (o : Chosen) (ev : Evidence) where
         unmixed-prepend x a.met b.met
         (all_weaker (λ (l : Entry). here l.rela_path ≡ true) (λ (l : Entry). lies_beneath x l.rela_path ≡ false) a.met (λ l h. not_beneath x l.rela_path (apart.other x l.rela_path is h)) at.met)
 
-    both-apart : KeepsApart o lies (both a b)
+    both-apart : KeepsApart o lies (merge_walked a b)
     unfolding met
     both-apart =
         record {

@@ -8,7 +8,7 @@ use Rattle.worktree_fs.specs.Naming.{IsTree}
 use Rattle.worktree_fs.specs.Tree.{Names, Node, Look, file, link, directory, other, found, absent, too_many_links}
 use Rattle.worktree_fs.proofs.Trees.Subtree.{IsTree-look}
 use Rattle.worktree_stack.specs.Reading.{Sources}
-use Rattle.worktree_stack.specs.Setup.{Made}
+use Rattle.worktree_stack.specs.Setup.{StackSetup}
 use Rattle.dir_classify.specs.declared.classify.Outcome.{Outcome as Class}
 use Rattle.dir_classify.specs.declared.entry.Entry.{Entry}
 use Rattle.dir_classify.specs.declared.entry.Kind.{Kind}
@@ -24,7 +24,7 @@ use Rattle.dir_walk.specs.Emissions.{Emission, by_path, is_empty_directory, path
 use Rattle.dir_walk.specs.Fold.{is_precious}
 use Rattle.dir_walk.specs.Guarded.{hides_guarded, is_guarded}
 use Rattle.dir_walk.specs.Report.{out_of, shown}
-use Rattle.dir_walk.specs.Root.{Rooted, Walk, is_no_root, is_root_entered, look_root, missing, only, outside, rooted, through_link, traversal_root, walk_in, walk_of, walked_from}
+use Rattle.dir_walk.specs.Root.{Rooted, Walk, is_non_directory_worktree_root, is_root_entered, look_root, missing, single_entry_walked, outside, rooted, through_link, traversal_root, walk_in, walk_of, walked_from}
 use Rattle.dir_walk.specs.Safe.{IsSafe}
 use Rattle.dir_walk.specs.Walked.{Walked, broken_at, entered_at, report_of}
 use Rattle.dir_walk.proofs.Folding.Accounts.{accounts-shown, report-accounts}
@@ -58,7 +58,7 @@ safe-report o ev d c names clear plain_d own tree =
 safe-broken : (o : Chosen) (ev : Evidence) (d : List ℕ) → IsSafe o ev (broken_at d) (shown o (out_of (broken_at d)))
 safe-broken o ev d = record { once = record { once = λ p. omega arith }; guarded = refl; accounted = refl; precious = λ deletes. refl; blocked = refl }
 
-safe-only : (o : Chosen) (ev : Evidence) (e : Entry) → IsSafe o ev (only e) (shown o (out_of (only e)))
+safe-only : (o : Chosen) (ev : Evidence) (e : Entry) → IsSafe o ev (single_entry_walked e) (shown o (out_of (single_entry_walked e)))
 safe-only o ev e =
     record {
       once = distinct-shown o (plain e ∷ []) (record { once = λ p. omega (arith, count_by-cons (λ x. bytes_eq p (path_of x)) (plain e) [], one-le (bytes_eq p e.rela_path)) });
@@ -100,12 +100,12 @@ safe-entered o ev d c too_many_links clear plain_d own tree = safe-broken o ev d
 
 pub safe-walked : (o : Chosen) (ev : Evidence) (r : Reached) (at : Look) (w : Walked) → NoneEmpty ev → ends_in_slash r.path ≡ false → is_empty_directory r.class.property ≡ false → IsLookTree at
     → walked_from o ev r at ≡ Some w → IsSafe o ev w (shown o (out_of w))
-safe-walked o ev r at w clear plain_r own tree e = go (is_root_entered o ev r) (is_no_root r) e
+safe-walked o ev r at w clear plain_r own tree e = go (is_root_entered o ev r) (is_non_directory_worktree_root r) e
   where
     entered : Walked
     entered = entered_at o ev r.path r.class at
 
-    go : (b k : Bool) → (if b then Some (entered_at o ev r.path r.class at) else if k then None else Some (only (entry_at r.path r.class))) ≡ Some w → IsSafe o ev w (shown o (out_of w))
+    go : (b k : Bool) → (if b then Some (entered_at o ev r.path r.class at) else if k then None else Some (single_entry_walked (entry_at r.path r.class))) ≡ Some w → IsSafe o ev w (shown o (out_of w))
     go true k f = subst (λ (v : Walked). IsSafe o ev v (shown o (out_of v))) (same_some f) (safe-entered o ev r.path r.class at clear plain_r own tree)
     go false true f = absurd (cc f)
     go false false f = subst (λ (v : Walked). IsSafe o ev v (shown o (out_of v))) (same_some f) (safe-only o ev (entry_at r.path r.class))
@@ -136,13 +136,13 @@ walk-from given ev t (rooted path) walk e = go (walked_from given.options ev way
           walked_is = is ∙ ap (λ (k : Walk). Some k.gives) walk_is;
         }
 
-pub walk-in : (given : Setting) (made : Option Made) (s : Sources) (explicit : Option (List ℕ)) (walk : Walk) → walk_in given made s explicit ≡ Some walk
+pub walk-in : (given : Setting) (made : Option StackSetup) (s : Sources) (explicit : Option (List ℕ)) (walk : Walk) → walk_in given made s explicit ≡ Some walk
     → IsWalkFrom given (evidence given made s) s.tree walk
 unfolding walk_in
 walk-in given made s explicit walk e = walk-from given (evidence given made s) s.tree (traversal_root given s.tree explicit) walk e
 
 -- A walk of a tree is safe.
-pub safe-walk : (given : Setting) (made : Option Made) (s : Sources) (explicit : Option (List ℕ)) (walk : Walk) → IsTree (directory s.tree) → walk_in given made s explicit ≡ Some walk
+pub safe-walk : (given : Setting) (made : Option StackSetup) (s : Sources) (explicit : Option (List ℕ)) (walk : Walk) → IsTree (directory s.tree) → walk_in given made s explicit ≡ Some walk
     → IsSafe given.options (evidence given made s) walk.gives (shown given.options (out_of walk.gives))
 safe-walk given made s explicit walk tree e =
     let ev : Evidence = evidence given made s in

@@ -19,7 +19,7 @@ use Rattle.worktree_stack.specs.declared.error.RulesWhy.TheVariants as whys
 use Rattle.worktree_stack.specs.declared.error.BlobWhy.TheVariants as blob_whys
 use Rattle.worktree_stack.specs.Reading.{OneReading, Place, Refusal, Sources, Text, Texts, blob_at, file_at, first_text, in_store, in_tree, is_read, list_at, of_blob, of_file, or_next, path_of, places_in, places_of, reading, readings_of, text_at, texts_of, with_text}
 use Rattle.worktree_stack.specs.Refused as lookups
-use Rattle.worktree_stack.specs.Setup.{Made}
+use Rattle.worktree_stack.specs.Setup.{StackSetup}
 use Rattle.dir_classify.specs.declared.error.Error.{Error}
 use Rattle.dir_classify.specs.declared.error.Error.TheVariants as errors
 use Rattle.dir_classify.specs.declared.error.MetadataWhy.TheVariants as metadata
@@ -98,11 +98,11 @@ fit-texts s (r ∷ readings) e =
       ap (λ (t : Result (Option Text) Refusal). with_text t (texts_of s readings)) text.1 ∙ ap (λ (ts : Texts). with_text (Ok text.0) ts) rest.1,
     )
 
-fit-read : (s : Sources) (rules : Made) (d : List ℕ) → list_all (is_fit s) (places_of rules d) ≡ true → is_read (reading rules s d) ≡ true
+fit-read : (s : Sources) (rules : StackSetup) (d : List ℕ) → list_all (is_fit s) (places_of rules d) ≡ true → is_read (reading rules s d) ≡ true
 unfolding reading
 fit-read s rules d e = let read = fit-texts s (readings_of rules d) e in ap is_read read.1
 
-module _ (s : Sources) (rules : Made) (path : List ℕ) (fits : AreFitAbove s rules path) where
+module _ (s : Sources) (rules : StackSetup) (path : List ℕ) (fits : AreFitAbove s rules path) where
   no-ancestor : {X : Type 0} (Holds : List ℕ → Type 0) (refusal : Refusal) → lookups.OfAncestor (components path) Holds → ((d : List ℕ) → Holds d → reading rules s d ≡ Err refusal) → X
   no-ancestor Holds refusal h is =
       absurd
@@ -136,13 +136,13 @@ is-listed t full true why is e =
     let at = directory-names (look t full false) is in
     absurd (let f : list_of (found (directory at.0)) ≡ Err why = ap list_of (sym (look-follow at.0 t full at.1)) ∙ e in cc f)
 
-some-rules : {X : Type 0} (made : Option Made) {P Q : Made → Type 0} → IfSome made P → IsSomeAnd made Q → ((rules : Made) → P rules → Q rules → X) → X
+some-rules : {X : Type 0} (made : Option StackSetup) {P Q : StackSetup → Type 0} → IfSome made P → IsSomeAnd made Q → ((rules : StackSetup) → P rules → Q rules → X) → X
 some-rules None all h so = absurd h
 some-rules (Some rules) all h so = so rules all h
 
 -- ---- the walk
 
-module _ (s : Sources) (made : Option Made) (given : Setting) (explicit : Option (List ℕ)) (limit before now store_before store_now raised_before raised_now : ℕ)
+module _ (s : Sources) (made : Option StackSetup) (given : Setting) (explicit : Option (List ℕ)) (limit before now store_before store_now raised_before raised_now : ℕ)
     (quiet : NotIncreased before now) (store_quiet : NotIncreased store_before store_now) (calm : NotIncreased raised_before raised_now) (v : IsWalkable given made s explicit limit) where
   abbrev Cause : Error → Type 0
   Cause e = OnFault (Increased before now) (Increased store_before store_now) e
@@ -172,7 +172,7 @@ module _ (s : Sources) (made : Option Made) (given : Setting) (explicit : Option
       → IsSomeAnd made (λ rules. IsNoWay given made s v.start rules (Increased store_before store_now) e ⊎ IsNoAccess s rules w ⊥ e) → X
   not-refused e cause h = some-rules made v.rules h go
     where
-      go : {X : Type 0} (rules : Made) → ((path : List ℕ) → LeadsTo v.start path ⊎ (is_among path w.asked ≡ true) → AreFitAbove s rules path) → IsNoWay given made s v.start rules (Increased store_before store_now) e ⊎ IsNoAccess s rules w ⊥ e → X
+      go : {X : Type 0} (rules : StackSetup) → ((path : List ℕ) → LeadsTo v.start path ⊎ (is_among path w.asked ≡ true) → AreFitAbove s rules path) → IsNoWay given made s v.start rules (Increased store_before store_now) e ⊎ IsNoAccess s rules w ⊥ e → X
       go rules fits (inl k) = no-refusal s rules k.path (fits k.path (inl k.leads)) before now store_before store_now e quiet store_quiet cause k.access.some_memory k.refused
       go rules fits (inr k) = no-refusal s rules k.path (fits k.path (inr (not-failed k.asked))) before now store_before store_now e quiet store_quiet cause k.access.some_memory k.refused
 
@@ -211,7 +211,7 @@ module _ (s : Sources) (made : Option Made) (given : Setting) (explicit : Option
   walkable-memory e cause raised (inl h) = no-end e cause h
   walkable-memory e cause raised (inr h) = start-memory e cause raised (subst (λ (p : List ℕ). StartRefuses given made s p limit (Increased store_before store_now) e) (same_root (sym h.1 ∙ v.start_is)) h.2)
 
-module _ (s : Sources) (made : Option Made) (given : Setting) (explicit : Option (List ℕ)) (limit before now store_before store_now raised_before raised_now : ℕ) where
+module _ (s : Sources) (made : Option StackSetup) (given : Setting) (explicit : Option (List ℕ)) (limit before now store_before store_now raised_before raised_now : ℕ) where
   pub valid-memory : (e : Error) → OnFault (Increased before now) (Increased store_before store_now) e → OnInterrupt (Increased raised_before raised_now) e → WalkRefuses given made s explicit limit (Increased store_before store_now) e
       → NotIncreased before now → NotIncreased store_before store_now → NotIncreased raised_before raised_now → IsValid given made s explicit limit → e ≡ errors.OutOfMemory
   valid-memory e cause raised h quiet store_quiet calm (inl is) =

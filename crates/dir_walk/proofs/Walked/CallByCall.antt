@@ -7,7 +7,7 @@ use Rattle.worktree_fs.specs.declared.worktree.Worktree.{Ghosts as WorktreeOf}
 use Rattle.worktree_fs.specs.Causes.{Increased}
 use Rattle.worktree_fs.specs.Kept.{Asks, AsksStore}
 use Rattle.worktree_stack.specs.Reading.{Sources}
-use Rattle.worktree_stack.specs.Setup.{Made}
+use Rattle.worktree_stack.specs.Setup.{StackSetup}
 use Rattle.worktree_stack.specs.Stacked.{Stacked}
 use Rattle.dir_classify.specs.declared.classify.RootOutcome.{RootOutcome}
 use Rattle.dir_classify.specs.declared.error.Error.{Error}
@@ -19,7 +19,7 @@ use Rattle.dir_walk.specs.declared.delegate.Delegate.{Ghosts as DelegateOf}
 use Rattle.dir_walk.specs.declared.handed.Stop.{Stop}
 use Rattle.dir_walk.specs.declared.handed.Stop.TheVariants.{Refused, Broken}
 use Rattle.dir_walk.specs.Given.{OnRefused}
-use Rattle.dir_walk.specs.Kept.{AsksInterrupt, Heeds, KeepsDelegate, KeepsTree, OnInterrupt, WantsMemory, OnListingFault}
+use Rattle.dir_walk.specs.Kept.{AsksInterrupt, HeedsDelegateBreak, KeepsDelegate, KeepsTree, OnInterrupt, WantsMemory, OnListingFault}
 use Rattle.dir_walk.specs.Refused.{IsDeep}
 use Rattle.dir_walk.specs.Starts.{OnlyRoot}
 use Rattle.dir_walk.specs.Walks.{Ends, Tells}
@@ -104,7 +104,7 @@ module _ {W F I D T : Type 0} (w : WorktreeOf W) (f : FindOf F) (i : InterruptOf
       }
 
   -- only the delegate was given something
-  pub Ends-put : {w0 : W} {o0 : F} {i0 : I} {r0 : Option Stacked} {d0 d1 : D} (result : Result T Stop) → KeepsDelegate d d0 d1 → Heeds d d0 d1 result
+  pub Ends-put : {w0 : W} {o0 : F} {i0 : I} {r0 : Option Stacked} {d0 d1 : D} (result : Result T Stop) → KeepsDelegate d d0 d1 → HeedsDelegateBreak d d0 d1 result
       → IfErr result (OnRefused (OnFault (Increased (w.faults w0) (w.faults w0)) (Increased (f.faults o0) (f.faults o0)))) → IfErr result (OnRefused (OnInterrupt (Increased (i.raised i0) (i.raised i0))))
       → IfErr result (OnRefused (OnListingFault (Increased (w.list_faults w0) (w.list_faults w0))))
       → Ends w f i d w0 w0 o0 o0 i0 i0 r0 r0 d0 d1 result
@@ -167,7 +167,7 @@ Ends-err w f i d Broken h =
 
 -- one call, and then what is put out
 pub Ends-then : {W F I D S T : Type 0} (w : WorktreeOf W) (f : FindOf F) (i : InterruptOf I) (d : DelegateOf D) {w0 w1 : W} {o0 o1 : F} {i0 i1 : I} {r0 r1 : Option Stacked} {d0 d1 d2 : D} (handed : S) (result : Result T Stop)
-    → Ends w f i d w0 w1 o0 o1 i0 i1 r0 r1 d0 d1 (Ok handed) → KeepsDelegate d d1 d2 → Heeds d d1 d2 result → WantsMemory result → Ends w f i d w0 w1 o0 o1 i0 i1 r0 r1 d0 d2 result
+    → Ends w f i d w0 w1 o0 o1 i0 i1 r0 r1 d0 d1 (Ok handed) → KeepsDelegate d d1 d2 → HeedsDelegateBreak d d1 d2 result → WantsMemory result → Ends w f i d w0 w1 o0 o1 i0 i1 r0 r1 d0 d2 result
 Ends-then w f i d {w0} {w1} {o0} {o1} {i0} {i1} {d0 = d0} {d1 = d1} {d2 = d2} handed result e keeps heeds memory =
     record {
       worktree = e.worktree;
@@ -211,7 +211,7 @@ interrupt-root P top root reached (errors.ReadDir path why) h = tt
 interrupt-root P top root reached (errors.DirEntry path) h = tt
 interrupt-root P top root reached errors.OutOfMemory h = tt
 
-pub interrupt-class : (P : Type 0) (made : Option Made) (path : List ℕ) (e : Error) → classes.IsAbout made path e → OnInterrupt P e
+pub interrupt-class : (P : Type 0) (made : Option StackSetup) (path : List ℕ) (e : Error) → classes.IsAbout made path e → OnInterrupt P e
 interrupt-class P made path errors.Interrupted h = absurd h
 interrupt-class P made path (errors.WorktreeRootIsFile root) h = tt
 interrupt-class P made path (errors.NormalizeRoot root) h = tt

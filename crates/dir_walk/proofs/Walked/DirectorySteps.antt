@@ -9,7 +9,7 @@ use Rattle.worktree_fs.specs.Answers.{ListsNames}
 use Rattle.worktree_fs.specs.Causes.{Increased, NotIncreased}
 use Rattle.worktree_fs.specs.Kept.{AsksStore}
 use Rattle.worktree_stack.specs.Reading.{Sources}
-use Rattle.worktree_stack.specs.Setup.{Made}
+use Rattle.worktree_stack.specs.Setup.{StackSetup}
 use Rattle.dir_classify.specs.declared.classify.Outcome.{Outcome as Class}
 use Rattle.dir_classify.specs.declared.entry.Entry.{Entry}
 use Rattle.dir_classify.specs.declared.error.Error.TheVariants as errors
@@ -37,7 +37,7 @@ use Rattle.dir_walk.proofs.Folding.Steps.{IsEvidence-told, Stands-later}
 -- what the names so far have given, in whatever is told
 abbrev pub GivenSoFar : {W F I D : Type 0} → WorktreeOf W → FindOf F → DelegateOf D → Moment W F I D → Moment W F I D → Setting → Option (List ℕ) → ℕ → List ℕ → List (List ℕ) → List Entry → Bool → Type 0
 GivenSoFar w f d before now given blocked levels path taken held blocks =
-    (made : Option Made) (s : Sources) → Stands given (w.told before.worktree) (f.holds before.objects) before.rules blocked made s → NotIncreased (w.faults before.worktree) (w.faults now.worktree)
+    (made : Option StackSetup) (s : Sources) → Stands given (w.told before.worktree) (f.holds before.objects) before.rules blocked made s → NotIncreased (w.faults before.worktree) (w.faults now.worktree)
     → d.is_default before.delegate ≡ true → (limit : ℕ) → levels + depth_of path ≡ limit
     → SoFar given made s limit path taken (d.given before.delegate) (d.given now.delegate) before.outcome now.outcome held blocks
 

@@ -9,7 +9,7 @@ use Rattle.dir_classify.specs.Refused.{OnFault}
 use Rattle.dir_walk.specs.declared.handed.Stop.{Stop}
 use Rattle.dir_walk.specs.declared.handed.Stop.TheVariants.{Refused, Broken}
 use Rattle.dir_walk.specs.Given.{UnlessRefused}
-use Rattle.dir_walk.specs.Kept.{Caused, OnInterrupt, OnListingFault, WantsMemory}
+use Rattle.dir_walk.specs.Kept.{RefusalsHaveCauses, OnInterrupt, OnListingFault, WantsMemory}
 use Rattle.dir_walk.proofs.Refused.Refusals.{memory-only}
 
 fault-later : (a b c k l m : ℕ) (e : Error) → a ≤ b → k ≤ l → OnFault (Increased b c) (Increased l m) e → OnFault (Increased a c) (Increased k m) e
@@ -26,7 +26,7 @@ always (Err (Refused e)) p = tt
 module _ {W F I T : Type 0} {w : WorktreeOf W} {f : FindOf F} {i : InterruptOf I} where
   -- what was before raised no count that a refusal names
   pub Caused-later : {w0 w1 w2 : W} {o0 o1 o2 : F} {i0 i1 i2 : I} (result : Result T Stop) → w.faults w0 ≤ w.faults w1 → f.faults o0 ≤ f.faults o1 → i.raised i1 ≡ i.raised i0
-      → w.list_faults w1 ≡ w.list_faults w0 → Caused w f i w1 w2 o1 o2 i1 i2 result → Caused w f i w0 w2 o0 o2 i0 i2 result
+      → w.list_faults w1 ≡ w.list_faults w0 → RefusalsHaveCauses w f i w1 w2 o1 o2 i1 i2 result → RefusalsHaveCauses w f i w0 w2 o0 o2 i0 i2 result
   Caused-later (Ok done) faults stores raised lists later = record { fault = tt; interrupt = tt; listing = tt; listed = later.listed ∙ lists; calm = later.calm ∙ raised }
   Caused-later (Err Broken) faults stores raised lists later = record { fault = tt; interrupt = tt; listing = tt; listed = later.listed ∙ lists; calm = later.calm ∙ raised }
   Caused-later {w0} {w1} {w2} {o0} {o1} {o2} {i0} {i1} {i2} (Err (Refused e)) faults stores raised lists later =
@@ -39,5 +39,5 @@ module _ {W F I T : Type 0} {w : WorktreeOf W} {f : FindOf F} {i : InterruptOf I
       }
 
   -- where only memory may be wanted
-  pub Caused-memory : {w0 : W} {o0 : F} {i0 : I} (result : Result T Stop) → WantsMemory result → Caused w f i w0 w0 o0 o0 i0 i0 result
+  pub Caused-memory : {w0 : W} {o0 : F} {i0 : I} (result : Result T Stop) → WantsMemory result → RefusalsHaveCauses w f i w0 w0 o0 o0 i0 i0 result
   Caused-memory result memory = record { fault = memory-only result _ tt memory; interrupt = memory-only result _ tt memory; listing = memory-only result _ tt memory; listed = always result refl; calm = always result refl }

@@ -6,7 +6,7 @@ use Rattle.worktree_fs.specs.declared.interrupt.Interrupt.{Ghosts as InterruptOf
 use Rattle.worktree_fs.specs.declared.worktree.Worktree.{Ghosts as WorktreeOf}
 use Rattle.worktree_fs.specs.Causes.{Increased, NotIncreased, with_more}
 use Rattle.worktree_stack.specs.Reading.{Sources}
-use Rattle.worktree_stack.specs.Setup.{Made}
+use Rattle.worktree_stack.specs.Setup.{StackSetup}
 use Rattle.worktree_stack.specs.Stacked.{Stacked}
 use Rattle.dir_classify.specs.declared.classify.Outcome.{Outcome as Class}
 use Rattle.dir_classify.specs.declared.error.Error.{Error}
@@ -28,7 +28,7 @@ use Rattle.dir_walk.specs.Kept.{OnInterrupt, OnListingFault}
 use Rattle.dir_walk.specs.Moments.{Moment}
 use Rattle.dir_walk.specs.Refused.{DirectoryRefuses}
 use Rattle.dir_walk.specs.Told.{Stands}
-use Rattle.dir_walk.specs.WalkSteps.{EntersStep, WalksAny, WalksTold, at_directory, over_worktree}
+use Rattle.dir_walk.specs.WalkSteps.{OpensAtMostEntered, WalksAny, WalksTold, at_directory, CountsOpenedDirectories}
 use Rattle.dir_walk.proofs.Gives.Emitting.{Within-none}
 use Rattle.dir_walk.proofs.Gives.HandedOn.{DirectoryRefuses-weaker}
 use Rattle.dir_walk.proofs.Opens.Keeping.{AsksStore-same, KeepsDelegate-same}
@@ -97,7 +97,7 @@ listing-weaker P Q (Err (Refused e)) f h = listing-more P Q e f h
 -- a directory that is walked is a job, of which the walk alone counts what is opened
 pub job-directory : {W F I D : Type 0} {w : WorktreeOf W} {f : FindOf F} {i : InterruptOf I} {d : DelegateOf D} {before now : Moment W F I D} {given : Setting} {blocked : Option (List ℕ)} {levels : ℕ} {path : List ℕ} {class : Class} {result : Result Handed Stop} {o : Chosen} {names : List (List ℕ)} {own : ℕ}
     → WalksTold w f d before now given blocked levels (at_directory path class) result → WalksAny w f i d before now given levels (at_directory path class) result
-    → over_worktree w i o names own before now result (EntersStep w f d before now given blocked levels (at_directory path class) result)
+    → CountsOpenedDirectories w i o names own before now result (OpensAtMostEntered w f d before now given blocked levels (at_directory path class) result)
     → WalksJob w f i d before now given blocked levels path class result
 job-directory told walks opens = record { told = told; walks = walks; opens = record { opened = opens.opened; counted = opens.opens.counted; asked = opens.opens.asked; within = opens.within } }
 
@@ -136,7 +136,7 @@ module _ {W F I D : Type 0} (w : WorktreeOf W) (f : FindOf F) (i : InterruptOf I
       (list_faults1 : w.list_faults w1 ≡ with_more (w.list_faults w0) (w.list_faults x1)) (list_later : w.list_faults w0 ≤ w.list_faults w1) (read_later : w.reads w0 ≤ w.reads w1) (lists1 : w.lists w1 ≡ w.lists w0) (precomposes1 : w.precomposes w1 ≡ w.precomposes w0) where
     pub job-worktree : WalksJob w f i d (record { worktree = x0; objects = o0; interrupt = i0; delegate = d0; rules = rules; outcome = start }) (record { worktree = x1; objects = o1; interrupt = i1; delegate = d1; rules = rules_now; outcome = stop }) given blocked levels path class result → WalksJob w f i d (record { worktree = w0; objects = o0; interrupt = i0; delegate = d0; rules = rules; outcome = start }) (record { worktree = w1; objects = o1; interrupt = i1; delegate = d1; rules = rules_now; outcome = stop }) given blocked levels path class result
     job-worktree job =
-        let on_fork : (made : Option Made) (s : Sources) → Stands given (w.told w0) (f.holds o0) rules blocked made s → Stands given (w.told x0) (f.holds o0) rules blocked made s =
+        let on_fork : (made : Option StackSetup) (s : Sources) → Stands given (w.told w0) (f.holds o0) rules blocked made s → Stands given (w.told x0) (f.holds o0) rules blocked made s =
         λ made s stands. record { tree = tree0 ∙ stands.tree; objects = stands.objects; made_is = stands.made_is; in_step = stands.in_step; blocked_is = stands.blocked_is } in
         let no_fault : NotIncreased (w.faults w0) (w.faults w1) → NotIncreased (w.faults x0) (w.faults x1) = quiet-fork (w.faults w0) (w.faults x0) (w.faults w1) (w.faults x1) faults0 faults1 in
         let rose : Increased (w.faults x0) (w.faults x1) → Increased (w.faults w0) (w.faults w1) = rose-more (w.faults w0) (w.faults x0) (w.faults w1) (w.faults x1) faults0 faults1 in
@@ -180,7 +180,7 @@ module _ {W F I D : Type 0} (w : WorktreeOf W) (f : FindOf F) (i : InterruptOf I
       (holds1 : f.holds o1 ≡ f.holds o0) (faults1 : f.faults o1 ≡ with_more (f.faults o0) (f.faults x1)) (later : f.faults o0 ≤ f.faults o1) where
     pub job-store : WalksJob w f i d (record { worktree = w0; objects = x0; interrupt = i0; delegate = d0; rules = rules; outcome = start }) (record { worktree = w1; objects = x1; interrupt = i1; delegate = d1; rules = rules_now; outcome = stop }) given blocked levels path class result → WalksJob w f i d (record { worktree = w0; objects = o0; interrupt = i0; delegate = d0; rules = rules; outcome = start }) (record { worktree = w1; objects = o1; interrupt = i1; delegate = d1; rules = rules_now; outcome = stop }) given blocked levels path class result
     job-store job =
-        let in_fork : (made : Option Made) (s : Sources) → Stands given (w.told w0) (f.holds o0) rules blocked made s → Stands given (w.told w0) (f.holds x0) rules blocked made s =
+        let in_fork : (made : Option StackSetup) (s : Sources) → Stands given (w.told w0) (f.holds o0) rules blocked made s → Stands given (w.told w0) (f.holds x0) rules blocked made s =
         λ made s stands. record { tree = stands.tree; objects = λ some. holds0 ∙ stands.objects some; made_is = stands.made_is; in_step = stands.in_step; blocked_is = stands.blocked_is } in
         record {
           told = record {
@@ -250,7 +250,7 @@ module _ {W F I D : Type 0} (w : WorktreeOf W) (f : FindOf F) (i : InterruptOf I
       → made_with fresh ≡ made_with rules → ((s : Sources) → InStepIf s fresh)
       → WalksJob w f i d (record { worktree = w0; objects = o0; interrupt = i0; delegate = d0; rules = fresh; outcome = start }) (record { worktree = w1; objects = o1; interrupt = i1; delegate = d1; rules = fresh_now; outcome = stop }) given blocked levels path class result → WalksJob w f i d (record { worktree = w0; objects = o0; interrupt = i0; delegate = d0; rules = rules; outcome = start }) (record { worktree = w1; objects = o1; interrupt = i1; delegate = d1; rules = rules_now; outcome = stop }) given blocked levels path class result
   job-rules {w0} {o0 = o0} {rules = rules} {fresh = fresh} {given = given} {blocked = blocked} alike step job =
-      let with_fresh : (made : Option Made) (s : Sources) → Stands given (w.told w0) (f.holds o0) rules blocked made s → Stands given (w.told w0) (f.holds o0) fresh blocked made s =
+      let with_fresh : (made : Option StackSetup) (s : Sources) → Stands given (w.told w0) (f.holds o0) rules blocked made s → Stands given (w.told w0) (f.holds o0) fresh blocked made s =
       λ made s stands. record { tree = stands.tree; objects = stands.objects; made_is = alike ∙ stands.made_is; in_step = step s; blocked_is = stands.blocked_is } in
       record {
         told = record {

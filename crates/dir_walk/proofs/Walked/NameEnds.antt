@@ -14,9 +14,9 @@ use Rattle.dir_walk.specs.declared.handed.Handed.{Handed}
 use Rattle.dir_walk.specs.declared.handed.Stop.{Stop}
 use Rattle.dir_walk.specs.declared.handed.Stop.TheVariants.{Refused}
 use Rattle.dir_walk.specs.declared.outcome.Outcome.{Outcome}
-use Rattle.dir_walk.specs.Kept.{Heeds, KeepsDelegate, WantsMemory}
+use Rattle.dir_walk.specs.Kept.{HeedsDelegateBreak, KeepsDelegate, WantsMemory}
 use Rattle.dir_walk.specs.Moments.{Moment}
-use Rattle.dir_walk.specs.Puts.{AddsShown, Hands, once_at}
+use Rattle.dir_walk.specs.Puts.{AddsShown, HandsUpEntryAt, once_at}
 use Rattle.dir_walk.specs.Report.{depth_of}
 use Rattle.dir_walk.specs.WalkSteps.{Step, WalksAny, at_directory, at_name}
 use Rattle.dir_walk.proofs.Walked.CallByCall.{Before, unlisted}
@@ -54,8 +54,8 @@ any-entered {d = d} {before = before} {now = now} asked {given = given} {result 
 pub any-leaf : {W F I D : Type 0} {w : WorktreeOf W} {f : FindOf F} {i : InterruptOf I} {d : DelegateOf D} {before : Moment W F I D} {w1 : W} {o1 : F} (d1 : D) {d2 : D} {r1 : Option Stacked} {stop : Outcome} {given : Setting} {levels : ℕ} {directory name p : List ℕ} (result : Result Handed Stop)
     → Before w f before.worktree w1 before.objects o1 before.rules r1
     → d.is_default d1 ≡ d.is_default before.delegate → d.given d1 ≡ d.given before.delegate → d.breaks d1 ≡ d.breaks before.delegate → d.refusals before.delegate ≤ d.refusals d1
-    → KeepsDelegate d d1 d2 → AddsShown given.options (d.given d1) (d.given d2) → Heeds d d1 d2 result
-    → p ≡ joined directory name → Hands p (once_at p) (d.given d1) (d.given d2) before.outcome stop result → WantsMemory result
+    → KeepsDelegate d d1 d2 → AddsShown given.options (d.given d1) (d.given d2) → HeedsDelegateBreak d d1 d2 result
+    → p ≡ joined directory name → HandsUpEntryAt p (once_at p) (d.given d1) (d.given d2) before.outcome stop result → WantsMemory result
     → WalksAny w f i d before (record { worktree = w1; objects = o1; interrupt = before.interrupt; delegate = d2; rules = r1; outcome = stop }) given levels (at_name directory name) result
 any-leaf {d = d} {before = before} d1 {d2 = d2} {given = given} result b default same_given same_breaks refusals keeps shown heeds path_is hands memory =
     record {

@@ -1,7 +1,7 @@
 -- A walk is what is walked from its traversal root.
 use Rattle.std.proofs.Common.{◌≡◌, ◌≤◌, ◌+◌, ℕ, List, arith, Option, Some, None, refl, sym, ap, ◌∙◌}
 use Rattle.std.specs.Prelude.{option_map}
-use Rattle.worktree_stack.specs.Setup.{Made}
+use Rattle.worktree_stack.specs.Setup.{StackSetup}
 use Rattle.worktree_stack.specs.Reading.{Sources}
 use Rattle.dir_classify.specs.Layers.{Setting, evidence}
 use Rattle.dir_classify.specs.Rooted.{way_to}
@@ -14,7 +14,7 @@ use Rattle.dir_walk.proofs.Order.Lists.{same_some}
 pub same_root : {a b : List ℕ} → rooted a ≡ rooted b → a ≡ b
 same_root e = cc
 
-module _ (given : Setting) (made : Option Made) (s : Sources) (explicit : Option (List ℕ)) where
+module _ (given : Setting) (made : Option StackSetup) (s : Sources) (explicit : Option (List ℕ)) where
   abbrev pub walk_made : List ℕ → Walked → Walk
   walk_made root w = record { root = root; is_way_unread = (way_to given made s root).is_unread; gives = w }
 

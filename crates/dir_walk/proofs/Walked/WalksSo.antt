@@ -10,7 +10,7 @@ use Rattle.worktree_fs.specs.Paths.{full_path}
 use Rattle.worktree_fs.specs.Tree.{Names}
 use Rattle.worktree_stack.specs.Lookups.{refused_one}
 use Rattle.worktree_stack.specs.Reading.{Sources}
-use Rattle.worktree_stack.specs.Setup.{Made}
+use Rattle.worktree_stack.specs.Setup.{StackSetup}
 use Rattle.worktree_stack.specs.Stacked.{Stacked}
 use Rattle.dir_classify.specs.declared.error.Error.{Error}
 use Rattle.dir_classify.specs.declared.error.Error.TheVariants as errors
@@ -116,7 +116,7 @@ began-at {Is} {Top} n0 n1 n2 more exact way = go way (rose-or n0 n1)
 
 -- ---- it was refused on the way from there
 
-no_root-start : (P Q : Type 0) (made : Option Made) (top root : List ℕ) (limit : ℕ) (e : Error) → StartAbout made top root limit e → (root ≡ [] → P → Q) → OnNoRoot P e → OnNoRoot Q e
+no_root-start : (P Q : Type 0) (made : Option StackSetup) (top root : List ℕ) (limit : ℕ) (e : Error) → StartAbout made top root limit e → (root ≡ [] → P → Q) → OnNoRoot P e → OnNoRoot Q e
 no_root-start P Q made top root limit errors.Interrupted about f h = tt
 no_root-start P Q made top root limit (errors.WorktreeRootIsFile path) about f h = f about.1 h
 no_root-start P Q made top root limit (errors.NormalizeRoot path) about f h = tt

@@ -5,7 +5,7 @@ use Rattle.worktree_fs.specs.Naming.{IsTree}
 use Rattle.worktree_fs.specs.Paths.{full_path}
 use Rattle.worktree_fs.specs.Tree.{directory}
 use Rattle.worktree_stack.specs.Reading.{Sources}
-use Rattle.worktree_stack.specs.Setup.{Made}
+use Rattle.worktree_stack.specs.Setup.{StackSetup}
 use Rattle.dir_classify.specs.Layers.{Setting, evidence}
 use Rattle.dir_walk.specs.declared.outcome.Outcome.{Outcome}
 use Rattle.dir_walk.specs.Covered.{as_matching, without_folding}
@@ -36,14 +36,14 @@ same-counts s a b d e f g =
     ∙ ap (λ (n : ℕ). record { read_dir_calls = a; returned_entries = b; seen_entries = n }) g
 
 -- all that is given is a part of what is walked
-pub part-gives : (given : Setting) (made : Option Made) (s : Sources) (limit : ℕ) (root : List ℕ) (before after : Option (List Emission)) (start stop : Outcome) → StartGives given made s root limit before after start stop
+pub part-gives : (given : Setting) (made : Option StackSetup) (s : Sources) (limit : ℕ) (root : List ℕ) (before after : Option (List Emission)) (start stop : Outcome) → StartGives given made s root limit before after start stop
     → (w : Walked) → walked_at given made s root ≡ Some w → IsPartOfAll given.options w before after start stop
 part-gives given made s limit root before after start stop gives w e =
     let all : (Emission → Bool) → ℕ = λ p. shown_by given.options p (out_of gives.w) in
     subst (λ (v : Walked). IsPartOfAll given.options v before after start stop) (same_some (sym gives.walked_is ∙ e))
     (Within-all before after start stop all all (size (out_of gives.w) + gives.w.merged) (size (out_of gives.w) + gives.w.merged) (size gives.w.entered) gives.gives.emits (λ p. omega arith) (omega arith))
 
-module _ (given : Setting) (made : Option Made) (s : Sources) (explicit : Option (List ℕ)) (limit : ℕ) (root : List ℕ) (is : traversal_root given s.tree explicit ≡ rooted root) (before after : Option (List Emission)) (start stop : Outcome) where
+module _ (given : Setting) (made : Option StackSetup) (s : Sources) (explicit : Option (List ℕ)) (limit : ℕ) (root : List ℕ) (is : traversal_root given s.tree explicit ≡ rooted root) (before after : Option (List Emission)) (start stop : Outcome) where
   -- what is walked from the traversal root is what the walk gives
   pub part-walk : (walk : Walk) → walk_in given made s explicit ≡ Some walk → ((w : Walked) → walked_at given made s root ≡ Some w → IsPartOfAll given.options w before after start stop) → IsPartOfAll given.options walk.gives before after start stop
   part-walk walk e part =

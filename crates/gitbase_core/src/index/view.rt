@@ -8,7 +8,7 @@ ghost use Rattle.gitbase_core.specs.Path.{is_empty, joined, directory_prefix};
 ghost use Rattle.gitbase_core.specs.View.{IsBeneath, kinds_in_view};
 ghost use Rattle.gitbase_core.specs.declared.entry.IndexEntry.{IndexEntry};
 
-use super::{State, lower_bound, path_after, run};
+use super::{State, find_prefix_range, lower_bound, path_after};
 use crate::entry::IndexEntry;
 use crate::kinds::{IndexKinds, NO_KINDS, directory_kinds, entry_kinds, has_up_to_date};
 use crate::path::needs_slash;
@@ -107,7 +107,7 @@ impl<'a> Beneath<'a> {
         if is_top(self.skip, name) {
             return NO_KINDS;
         }
-        let (start, end) = run(self.entries, self.skip, name, b"/");
+        let (start, end) = find_prefix_range(self.entries, self.skip, name, b"/");
         directory_kinds(&self.entries[start..end], self.has_up_to_date)
     }
 
@@ -118,7 +118,7 @@ impl<'a> Beneath<'a> {
             → IsBeneath index (joined directory name.now) result }
     {
         let back = slash_behind(name);
-        let (start, end) = run(self.entries, self.skip, name, back);
+        let (start, end) = find_prefix_range(self.entries, self.skip, name, back);
         if start == end {
             return Beneath {
                 entries: &[],
@@ -126,7 +126,7 @@ impl<'a> Beneath<'a> {
                 has_up_to_date: false,
             };
         }
-        let skip = longer(&self.entries[start], self.skip, name, back);
+        let skip = extended_prefix_length(&self.entries[start], self.skip, name, back);
         let has_up_to_date = has_up_to_date(&self.entries[start..end], self.has_up_to_date);
         Beneath {
             entries: &self.entries[start..end],
@@ -145,7 +145,7 @@ fn is_top(skip: usize, name: &[u8]) -> bool
 
 /// How many bytes are skipped, and those of `front` and `back` behind them, which the entry's path
 /// has.
-fn longer(entry: &IndexEntry, skip: usize, front: &[u8], back: &[u8]) -> usize
+fn extended_prefix_length(entry: &IndexEntry, skip: usize, front: &[u8], back: &[u8]) -> usize
     requires { key_begins (path_after skip) (front.now ++ back.now) entry.now ≡ true }
     ensures { result ≡ skip + length (front.now ++ back.now) }
 {

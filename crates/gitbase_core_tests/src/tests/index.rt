@@ -1,12 +1,12 @@
 //! Lists of entries, and what an index says of a path.
 ghost use Rattle.gitbase_core.specs.Lookup.{IsLookupOf};
 
-use super::parted;
 use gitbase_core::{
     AccelerateLookup, EntryKind, Flags, IndexEntry, IndexError, IndexKinds, Mode, ObjectId,
     PathText, State,
 };
 use std::alloc::Global;
+use test_cases::split_at_byte;
 
 /// Rows, parted by bars: what is asked, of what, and what is wanted, parted by backquotes. An entry
 /// is its path, then behind a colon a digit for its stage, a letter for its mode and letters for
@@ -244,8 +244,8 @@ fn of_folded(alloc: Global, question: &[u8], path: &[u8], want: &[u8]) -> bool {
 }
 
 fn holds(alloc: Global, row: &[u8]) -> bool {
-    let (question, rest) = parted(row);
-    let (about, want) = parted(rest);
+    let (question, rest) = split_at_byte(row, b'`');
+    let (about, want) = split_at_byte(rest, b'`');
     match question {
         b"refused" => is_refused(alloc, about, want),
         b"grown" => is_grown(alloc, about, want),

@@ -1,8 +1,8 @@
 //! Stores of objects.
-use super::parted;
 use crate::forks::{FailingStore, find_in_fork};
 use gitbase_core::{Bytes, Find, FindError, Found, MemoryStore, ObjectId};
 use std::alloc::Global;
+use test_cases::split_at_byte;
 
 /// Steps over one store, parted by bars: what is done or asked, an id and bytes, parted by
 /// backquotes. The ids are those of a blob of the line `hello`, of the empty blob and of the empty
@@ -52,8 +52,8 @@ fn is_kept_from_fork(alloc: Global, store: &mut MemoryStore, id: ObjectId, want:
 }
 
 fn holds(alloc: Global, store: &mut MemoryStore, step: &[u8]) -> bool {
-    let (question, rest) = parted(step);
-    let (id, bytes) = parted(rest);
+    let (question, rest) = split_at_byte(step, b'`');
+    let (id, bytes) = split_at_byte(rest, b'`');
     let Ok(id) = ObjectId::from_hex(id) else {
         return false;
     };

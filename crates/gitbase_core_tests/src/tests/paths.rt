@@ -1,9 +1,9 @@
 //! Paths, bytes and ids.
-use super::parted;
 use gitbase_core::{Bytes, HexError, ObjectId, PathText};
 use std::alloc::Global;
 use std::collections::BTreeSet;
 use std::hash::{DefaultHasher, Hash, Hasher};
+use test_cases::split_at_byte;
 
 /// Rows, parted by bars: what is asked, of what, and what is wanted, parted by backquotes. The id
 /// is that of the empty blob, as git prints it.
@@ -160,8 +160,8 @@ fn of_bytes(alloc: Global, text: &[u8], question: &[u8], want: &[u8]) -> bool {
 }
 
 fn holds(alloc: Global, row: &[u8]) -> bool {
-    let (question, rest) = parted(row);
-    let (text, want) = parted(rest);
+    let (question, rest) = split_at_byte(row, b'`');
+    let (text, want) = split_at_byte(rest, b'`');
     match question {
         b"id" => is_id(text, want),
         b"no id" => is_no_id(text, want),

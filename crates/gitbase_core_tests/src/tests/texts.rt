@@ -1,8 +1,8 @@
 //! The texts of errors.
-use super::parted;
 use gitbase_core::{FindError, HexError, IndexError, OutOfMemory};
 use std::alloc::Global;
 use std::fmt::Display;
+use test_cases::split_at_byte;
 
 /// Rows, parted by bars: an error and its text, parted by a backquote.
 const ROWS: &[u8] = b"\
@@ -25,7 +25,7 @@ fn is_shown<E: Display + Drop>(alloc: Global, error: E, want: &[u8]) -> bool {
 }
 
 fn holds(alloc: Global, row: &[u8]) -> bool {
-    let (error, text) = parted(row);
+    let (error, text) = split_at_byte(row, b'`');
     match error {
         b"no room" => is_shown(alloc, OutOfMemory, text),
         b"no room for a blob" => is_shown(alloc, FindError::OutOfMemory, text),

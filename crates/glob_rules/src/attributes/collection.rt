@@ -70,7 +70,7 @@ impl MetadataCollection {
     }
 
     /// Sees a name. Where memory is refused, the collection is as before.
-    fn see(&mut self, alloc: Global, name: &Bytes) -> Result<(), OutOfMemory>
+    fn add_name_once(&mut self, alloc: Global, name: &Bytes) -> Result<(), OutOfMemory>
         ensures seen { OnOk result (self.new ≡ names.with_name self.old name.now) }
         ensures refused { OnErr result (self.new ≡ self.old) }
     {
@@ -89,7 +89,11 @@ impl MetadataCollection {
     }
 
     /// Sees the names of which words speak.
-    fn see_words(&mut self, alloc: Global, assignments: &[Assigned]) -> Result<(), OutOfMemory>
+    fn add_assigned_names(
+        &mut self,
+        alloc: Global,
+        assignments: &[Assigned],
+    ) -> Result<(), OutOfMemory>
         ensures seen { OnOk result (self.new
             ≡ names.with_names self.old (names.said_names assignments.now)) }
         ensures refused { OnErr result (names.SeesPart self.old
@@ -97,28 +101,32 @@ impl MetadataCollection {
     {
         let mut rest = assignments;
         while let Some((assigned, after)) = rest.split_first() {
-            self.see(alloc, &assigned.name)?;
+            self.add_name_once(alloc, &assigned.name)?;
             rest = after;
         }
         Ok(())
     }
 
     /// Sees the names of which a line speaks.
-    fn see_line(&mut self, alloc: Global, line: &Line) -> Result<(), OutOfMemory>
+    fn add_names_of_line(&mut self, alloc: Global, line: &Line) -> Result<(), OutOfMemory>
         ensures seen { OnOk result (self.new
             ≡ names.with_names self.old (names.line_names line.now)) }
         ensures refused { OnErr result (names.SeesPart self.old
             (names.line_names line.now) self.new) }
     {
         if let Head::Macro(name) = &line.head {
-            self.see(alloc, name)?;
+            self.add_name_once(alloc, name)?;
         }
-        self.see_words(alloc, line.assignments.as_slice())
+        self.add_assigned_names(alloc, line.assignments.as_slice())
     }
 
     /// Sees the names of which lines speak. Where memory is refused, the first of them may have
     /// been seen.
-    pub(super) fn see_lines(&mut self, alloc: Global, lines: &[Line]) -> Result<(), OutOfMemory>
+    pub(super) fn add_names_of_lines(
+        &mut self,
+        alloc: Global,
+        lines: &[Line],
+    ) -> Result<(), OutOfMemory>
         ensures seen { OnOk result (self.new
             ≡ names.with_names self.old (names.names_in lines.now)) }
         ensures refused { OnErr result (names.SeesPart self.old
@@ -126,7 +134,7 @@ impl MetadataCollection {
     {
         let mut rest = lines;
         while let Some((line, after)) = rest.split_first() {
-            self.see_line(alloc, line)?;
+            self.add_names_of_line(alloc, line)?;
             rest = after;
         }
         Ok(())

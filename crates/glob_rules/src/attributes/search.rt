@@ -92,7 +92,7 @@ impl Search {
             (names_in (texts.lines allow_macros bytes.now)) collection.new }
     {
         let lines = read_lines(alloc, allow_macros, bytes)?;
-        collection.see_lines(alloc, &lines)?;
+        collection.add_names_of_lines(alloc, &lines)?;
         let list = List::from_lines(alloc, lines, source, base)?;
         self.lists.push(list)?;
         Ok(())

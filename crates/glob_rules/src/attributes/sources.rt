@@ -44,7 +44,7 @@ impl<'a> Sources<'a> {
     }
 
     /// What is said too where this is said first of its attribute, the last at first.
-    pub fn follows(&self, assigned: &Assigned) -> &'a [Assigned]
+    pub fn macro_expansion_of(&self, assigned: &Assigned) -> &'a [Assigned]
         ensures { reverse result.now ≡ values.follows (reverse self.now) assigned.now }
     {
         match assigned.state {

@@ -22,14 +22,14 @@ pub struct Standing<'a> {
 
 impl<'a> Model for Standing<'a> {
     ghost use Rattle.std.specs.Prelude.{List};
-    ghost use Rattle.glob_rules.specs.Standing.{told, HasStates};
+    ghost use Rattle.glob_rules.specs.Standing.{dereferenced_assignments, HasStates};
     ghost use Rattle.glob_rules.specs.declared.attributes.word.Assigned as declared;
 
     ghost Value = { List declared.Assigned };
 
-    ghost view = { λ s. told s.said.items };
+    ghost view = { λ s. dereferenced_assignments s.said.items };
 
-    ghost invariant = { λ s. HasStates s.states.entries (told s.said.items) };
+    ghost invariant = { λ s. HasStates s.states.entries (dereferenced_assignments s.said.items) };
 }
 
 impl<'a> Standing<'a> {
@@ -54,9 +54,9 @@ impl<'a> Standing<'a> {
     }
 
     /// Says something of an attribute, and tells whether it is the first.
-    pub fn say(&mut self, assigned: &'a Assigned) -> Result<bool, OutOfMemory>
+    pub fn add_if_first(&mut self, assigned: &'a Assigned) -> Result<bool, OutOfMemory>
         ensures first { IfOk result (λ is_first. is_first
-            ≡ not (values.stands assigned.now.name self.old)) }
+            ≡ not (values.has_assigned_name assigned.now.name self.old)) }
         ensures said { OnOk result (self.new ≡ with_said self.old assigned.now) }
     {
         let name = assigned.name.as_bytes();

@@ -1,7 +1,7 @@
 //! What holds of a path, by lists.
 ghost use Rattle.std.specs.Prelude.{◌≡◌, ◌++◌, reverse, IfOk, OnOk, option_copied};
 ghost use Rattle.glob_rules.specs.AttributeValues as values;
-ghost use Rattle.glob_rules.specs.AttributeValues.{heard, line_says, lines_say, list_says};
+ghost use Rattle.glob_rules.specs.AttributeValues.{path_assignments_reversed, line_says, lines_say, list_says};
 ghost use Rattle.glob_rules.specs.Rule as rules;
 ghost use Rattle.glob_rules.specs.Standing.{standing_after};
 
@@ -18,7 +18,7 @@ use std::alloc::Global;
 use std::marker::Model;
 
 /// Says words, from the last back, and at once what follows where one sets a macro.
-fn say_words<'a>(
+fn apply_assignments<'a>(
     alloc: Global,
     sources: &Sources<'a>,
     words: &'a [Assigned],
@@ -29,8 +29,8 @@ fn say_words<'a>(
 {
     let mut left = Left::new(alloc, words);
     while let Some(assigned) = left.take() {
-        if standing.say(assigned)? {
-            left.put(sources.follows(assigned))?;
+        if standing.add_if_first(assigned)? {
+            left.put(sources.macro_expansion_of(assigned))?;
         }
     }
     Ok(())
@@ -60,7 +60,11 @@ impl<'a> Model for Question<'a> {
 }
 
 /// What a line says of a path that reads `relative` from its directory.
-fn said<'a>(line: &'a PathLine, question: &Question<'_>, relative: Option<&[u8]>) -> &'a [Assigned]
+fn assignments_for_path<'a>(
+    line: &'a PathLine,
+    question: &Question<'_>,
+    relative: Option<&[u8]>,
+) -> &'a [Assigned]
     ensures { result.now
         ≡ line_says (rules.last_component question.now.path) (option_copied relative.entry)
         question.now.is_dir question.now.case line.now }
@@ -77,7 +81,7 @@ fn said<'a>(line: &'a PathLine, question: &Question<'_>, relative: Option<&[u8]>
 }
 
 /// Says what lines say of a path that reads `relative` from their directory, from the last up.
-fn say_lines<'a>(
+fn apply_matching_lines<'a>(
     alloc: Global,
     sources: &Sources<'a>,
     lines: &'a [PathLine],
@@ -91,14 +95,19 @@ fn say_lines<'a>(
 {
     let mut rest = lines;
     while let Some((line, before)) = rest.split_last() {
-        say_words(alloc, sources, said(line, question, relative), standing)?;
+        apply_assignments(
+            alloc,
+            sources,
+            assignments_for_path(line, question, relative),
+            standing,
+        )?;
         rest = before;
     }
     Ok(())
 }
 
 /// Says what a list says of a path.
-fn say_list<'a>(
+fn apply_list_to_path<'a>(
     alloc: Global,
     sources: &Sources<'a>,
     list: &'a List,
@@ -109,11 +118,11 @@ fn say_list<'a>(
         (reverse (list_says question.now.path question.now.is_dir question.now.case list.now))) }
 {
     let relative = relative_to(question.path, list.base());
-    say_lines(alloc, sources, list.lines(), question, relative, standing)
+    apply_matching_lines(alloc, sources, list.lines(), question, relative, standing)
 }
 
 /// Says what lists say of a path, from the highest down.
-fn say_lists<'a>(
+fn apply_lists_to_path<'a>(
     alloc: Global,
     sources: &Sources<'a>,
     lists: &'a [List],
@@ -121,11 +130,11 @@ fn say_lists<'a>(
     standing: &mut Standing<'a>,
 ) -> Result<(), OutOfMemory>
     ensures { OnOk result (standing.new ≡ standing_after sources.now standing.old
-        (heard lists.now question.now.path question.now.is_dir question.now.case)) }
+        (path_assignments_reversed lists.now question.now.path question.now.is_dir question.now.case)) }
 {
     let mut rest = lists;
     while let Some((list, before)) = rest.split_last() {
-        say_list(alloc, sources, list, question, standing)?;
+        apply_list_to_path(alloc, sources, list, question, standing)?;
         rest = before;
     }
     Ok(())
@@ -151,7 +160,7 @@ pub fn standing_at<'a>(
         case,
     };
     let mut standing = Standing::new(alloc);
-    say_lists(alloc, &sources, stack.lists(), &question, &mut standing)?;
-    say_lists(alloc, &sources, globals.lists(), &question, &mut standing)?;
+    apply_lists_to_path(alloc, &sources, stack.lists(), &question, &mut standing)?;
+    apply_lists_to_path(alloc, &sources, globals.lists(), &question, &mut standing)?;
     Ok(standing)
 }

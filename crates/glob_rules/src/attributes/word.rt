@@ -139,8 +139,12 @@ pub fn is_name(text: &[u8]) -> bool
 }
 
 /// What is said of a name; nothing where it is none.
-fn said(alloc: Global, name: &[u8], state: Assignment) -> Result<Option<Assigned>, OutOfMemory>
-    ensures { IfOk result (λ made. made ≡ words.said name.now state) }
+fn assignment_for_name(
+    alloc: Global,
+    name: &[u8],
+    state: Assignment,
+) -> Result<Option<Assigned>, OutOfMemory>
+    ensures { IfOk result (λ made. made ≡ words.assignment_for_name name.now state) }
 {
     if !is_name(name) {
         return Ok(None);
@@ -180,7 +184,7 @@ fn said_plainly(alloc: Global, word: &[u8]) -> Result<Option<Assigned>, OutOfMem
 {
     let (name, rest) = word.split_at(name_length(word));
     let state = state_from(alloc, rest)?;
-    said(alloc, name, state)
+    assignment_for_name(alloc, name, state)
 }
 
 /// What a word says.
@@ -189,8 +193,8 @@ fn assignment_of(alloc: Global, word: &[u8]) -> Result<Option<Assigned>, OutOfMe
 {
     match word {
         [] => Ok(None),
-        [b'-', name @ ..] => said(alloc, name, Assignment::Unset),
-        [b'!', name @ ..] => said(alloc, name, Assignment::Unspecified),
+        [b'-', name @ ..] => assignment_for_name(alloc, name, Assignment::Unset),
+        [b'!', name @ ..] => assignment_for_name(alloc, name, Assignment::Unspecified),
         _ => said_plainly(alloc, word),
     }
 }

@@ -114,7 +114,8 @@ impl Entries {
         }
     }
 
-    /// The rules in the bytes of an ignore file; fails only where memory is refused.
+    /// The rules in the bytes of an ignore file; fails only where memory is refused, or the bytes
+    /// have more than 4,294,967,295 lines.
     pub fn from_bytes(
         alloc: Global,
         bytes: &[u8],

@@ -8,7 +8,7 @@ ghost use Rattle.gitbase_core.specs.Index.{path_cmp};
 ghost use Rattle.glob_rules.specs.declared.Case.TheVariants.{Sensitive};
 ghost use Rattle.glob_rules.specs.Ignore.{last_match};
 ghost use Rattle.glob_rules.specs.Tables as tables;
-ghost use Rattle.glob_rules.specs.Tables.{IsTable, AreFound, EndsWell, HasCore, HasEndings, HasAll, core_at, matches_at, number_cmp};
+ghost use Rattle.glob_rules.specs.Tables.{IsTable, AreFound, LastCountedPasses, HasCore, HasEndings, BoundsPassingNumbers, core_at, matches_at, number_cmp};
 
 use super::line::Entry;
 use crate::Case;
@@ -39,7 +39,7 @@ fn is_found_at(entries: &[Entry], number: usize) -> bool
     ensures { result ≡ tables.is_found_at entries.now number }
 {
     match entries.get(number) {
-        Some(entry) => entry.pattern.is_found(),
+        Some(entry) => entry.pattern.is_found_by_core(),
         None => false,
     }
 }
@@ -71,7 +71,7 @@ fn has_core(entries: &[Entry], number: usize, text: &[u8]) -> bool
 }
 
 /// The number behind that of a rule.
-fn behind(entries: &[Entry], number: usize) -> usize
+fn number_after(entries: &[Entry], number: usize) -> usize
     requires { number < length entries.now }
     ensures { result ≡ number + 1 }
 {
@@ -95,7 +95,7 @@ fn is_up_to(entries: &[Entry], number: usize, text: &[u8]) -> bool
 
 /// How many rules there are up to the last of those in the table that have this core and match; or
 /// `found` where that is more.
-fn up_to_core(
+fn last_match_by_core(
     entries: &[Entry],
     sorted: &[usize],
     text: &[u8],
@@ -105,8 +105,8 @@ fn up_to_core(
     found: usize,
 ) -> usize
     requires ordered { IsSorted (number_cmp entries.now) sorted.now }
-    requires so_far { EndsWell (matches_at entries.now name.now (option_copied relative) is_dir) found }
-    ensures ends { EndsWell (matches_at entries.now name.now (option_copied relative.entry) is_dir)
+    requires so_far { LastCountedPasses (matches_at entries.now name.now (option_copied relative) is_dir) found }
+    ensures ends { LastCountedPasses (matches_at entries.now name.now (option_copied relative.entry) is_dir)
         result }
     ensures more { found ≤ result }
     ensures all { HasCore (matches_at entries.now name.now (option_copied relative.entry) is_dir)
@@ -123,14 +123,14 @@ fn up_to_core(
             return found;
         }
         if matches_at(entries, number, name, relative, is_dir) {
-            return behind(entries, number);
+            return number_after(entries, number);
         }
     }
     found
 }
 
 /// The same of the rules whose core is what the name has from one of its dots on.
-fn up_to_ending(
+fn last_match_by_ending(
     entries: &[Entry],
     sorted: &[usize],
     name: &[u8],
@@ -139,8 +139,8 @@ fn up_to_ending(
     found: usize,
 ) -> usize
     requires ordered { IsSorted (number_cmp entries.now) sorted.now }
-    requires so_far { EndsWell (matches_at entries.now name.now (option_copied relative) is_dir) found }
-    ensures ends { EndsWell (matches_at entries.now name.now (option_copied relative.entry) is_dir)
+    requires so_far { LastCountedPasses (matches_at entries.now name.now (option_copied relative) is_dir) found }
+    ensures ends { LastCountedPasses (matches_at entries.now name.now (option_copied relative.entry) is_dir)
         result }
     ensures more { found ≤ result }
     ensures all { HasEndings (matches_at entries.now name.now (option_copied relative.entry) is_dir)
@@ -150,14 +150,14 @@ fn up_to_ending(
     for at in 0..name.len() {
         if name[at] == b'.' {
             let (_, ending) = name.split_at(at);
-            last = up_to_core(entries, sorted, ending, name, relative, is_dir, last);
+            last = last_match_by_core(entries, sorted, ending, name, relative, is_dir, last);
         }
     }
     last
 }
 
 /// The same of all rules in the table.
-fn up_to_sorted(
+fn last_match_in_sorted(
     entries: &[Entry],
     sorted: &[usize],
     name: &[u8],
@@ -166,21 +166,21 @@ fn up_to_sorted(
 ) -> usize
     requires ordered { IsSorted (number_cmp entries.now) sorted.now }
     requires cores { AreFound entries.now sorted.now }
-    ensures ends { EndsWell (matches_at entries.now name.now (option_copied relative.entry) is_dir)
+    ensures ends { LastCountedPasses (matches_at entries.now name.now (option_copied relative.entry) is_dir)
         result }
-    ensures all { HasAll (matches_at entries.now name.now (option_copied relative.entry) is_dir)
+    ensures all { BoundsPassingNumbers (matches_at entries.now name.now (option_copied relative.entry) is_dir)
         sorted.now result }
 {
-    let found = up_to_core(entries, sorted, name, name, relative, is_dir, 0);
-    let found = up_to_ending(entries, sorted, name, relative, is_dir, found);
+    let found = last_match_by_core(entries, sorted, name, name, relative, is_dir, 0);
+    let found = last_match_by_ending(entries, sorted, name, relative, is_dir, found);
     match relative {
-        Some(path) => up_to_core(entries, sorted, path, name, relative, is_dir, found),
+        Some(path) => last_match_by_core(entries, sorted, path, name, relative, is_dir, found),
         None => found,
     }
 }
 
 /// The same of these rules.
-fn up_to_rest(
+fn last_match_in_rest(
     entries: &[Entry],
     rest: &[usize],
     name: &[u8],
@@ -189,11 +189,11 @@ fn up_to_rest(
     found: usize,
 ) -> usize
     requires rises { IsStrictlyIncreasing rest.now }
-    requires so_far { EndsWell (matches_at entries.now name.now (option_copied relative) is_dir) found }
-    ensures ends { EndsWell (matches_at entries.now name.now (option_copied relative.entry) is_dir)
+    requires so_far { LastCountedPasses (matches_at entries.now name.now (option_copied relative) is_dir) found }
+    ensures ends { LastCountedPasses (matches_at entries.now name.now (option_copied relative.entry) is_dir)
         result }
     ensures more { found ≤ result }
-    ensures all { HasAll (matches_at entries.now name.now (option_copied relative.entry) is_dir)
+    ensures all { BoundsPassingNumbers (matches_at entries.now name.now (option_copied relative.entry) is_dir)
         rest.now result }
 {
     let mut at = rest.len();
@@ -204,7 +204,7 @@ fn up_to_rest(
             return found;
         }
         if matches_at(entries, number, name, relative, is_dir) {
-            return behind(entries, number);
+            return number_after(entries, number);
         }
     }
     found
@@ -292,8 +292,8 @@ impl Table {
         ensures { option_copied result
             ≡ last_match entries.now name.now (option_copied relative.entry) is_dir Sensitive }
     {
-        let found = up_to_sorted(entries, &self.sorted, name, relative, is_dir);
-        let found = up_to_rest(entries, &self.rest, name, relative, is_dir, found);
+        let found = last_match_in_sorted(entries, &self.sorted, name, relative, is_dir);
+        let found = last_match_in_rest(entries, &self.rest, name, relative, is_dir, found);
         if found == 0 {
             return None;
         }

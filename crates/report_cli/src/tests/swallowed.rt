@@ -22,7 +22,7 @@ static SWALLOWED: [Failing; 5] = [
 ];
 
 /// Whether both end so where this fails in them.
-fn end_so(alloc: Global, failing: Failing, clean: Ending, status: Ending) -> bool {
+fn clean_and_status_end_so(alloc: Global, failing: Failing, clean: Ending, status: Ending) -> bool {
     ends_so(alloc, CLEAN, NESTED, b"", failing, clean)
         && ends_so(alloc, STATUS, NESTED, b"", failing, status)
 }
@@ -40,7 +40,7 @@ fn asks_for_one_real_path(rt: HostRuntime) {
 fn plans_nothing_by_a_report_with_a_fault(rt: HostRuntime) {
     let found = b"untracked file - always - -\td/a\nuntracked repository - always - -\td/r\n";
     assert!(rt;
-        end_so(
+        clean_and_status_end_so(
             rt.alloc(),
             Failing::Nothing,
             (0, b"d/a\n", 0),
@@ -48,6 +48,9 @@ fn plans_nothing_by_a_report_with_a_fault(rt: HostRuntime) {
         )
     );
     for failing in &SWALLOWED {
-        assert!(rt; end_so(rt.alloc(), *failing, FAULT, FAULT), "{failing:?}");
+        assert!(rt;
+            clean_and_status_end_so(rt.alloc(), *failing, FAULT, FAULT),
+            "{failing:?}"
+        );
     }
 }

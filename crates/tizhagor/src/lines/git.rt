@@ -5,7 +5,7 @@ ghost use Rattle.tizhagor.specs.Refusals as words;
 use crate::lines::files::files_line;
 use crate::lines::index::{entry_reason, file_reason};
 use crate::lines::places::places_line;
-use crate::lines::{FAULT, MEMORY, fixed, foreign_line, value_line, with_path};
+use crate::lines::{FAULT, MEMORY, elsewhere_line, fixed, foreign_line, value_line, with_path};
 use git_index::IndexFileError;
 use git_setup::GitRefusal;
 use gitbase_core::{Bytes, IndexError, OutOfMemory};
@@ -13,7 +13,8 @@ use std::alloc::Global;
 
 /// The line of an index file outside its grammar.
 fn file_line(alloc: Global, path: &[u8], error: &IndexFileError) -> Result<Bytes, OutOfMemory>
-    ensures { IfOk result (λ line. line ≡ words.git_line (GitRefusal.IndexFile path.now error.now)) }
+    ensures { IfOk result (λ line. line ≡ words.git_line (GitRefusal.IndexFile path.now
+        error.now)) }
 {
     let reason = file_reason(alloc, error)?;
     with_path(alloc, b"fatal: ", path, reason.as_bytes())
@@ -21,10 +22,35 @@ fn file_line(alloc: Global, path: &[u8], error: &IndexFileError) -> Result<Bytes
 
 /// The line of an entry that breaks a rule.
 fn entry_line(alloc: Global, path: &[u8], error: &IndexError) -> Result<Bytes, OutOfMemory>
-    ensures { IfOk result (λ line. line ≡ words.git_line (GitRefusal.IndexEntry path.now error.now)) }
+    ensures { IfOk result (λ line. line ≡ words.git_line (GitRefusal.IndexEntry path.now
+        error.now)) }
 {
     let reason = entry_reason(alloc, error)?;
     with_path(alloc, b"fatal: ", path, reason.as_bytes())
+}
+
+/// The line of a directory that the index leaves out as sparse, and in which something is.
+fn sparse_directory_line(alloc: Global, path: &[u8]) -> Result<Bytes, OutOfMemory>
+    ensures { IfOk result (λ line. line ≡ words.git_line (GitRefusal.SparseDirectory path.now)) }
+{
+    with_path(
+        alloc,
+        b"fatal: the index leaves out directory '",
+        path,
+        b"', and something is there; undo it with 'git sparse-checkout reapply --no-sparse-index'\n",
+    )
+}
+
+/// The line of a submodule where names compare without regard to case.
+fn submodule_case_line(alloc: Global, path: &[u8]) -> Result<Bytes, OutOfMemory>
+    ensures { IfOk result (λ line. line ≡ words.git_line (GitRefusal.SubmoduleCase path.now)) }
+{
+    with_path(
+        alloc,
+        b"fatal: nothing to remove is named with core.ignoreCase and a submodule; ask git: '",
+        path,
+        b"'\n",
+    )
 }
 
 /// The line of a directory outside the work tree.
@@ -54,12 +80,7 @@ pub fn git_line(alloc: Global, refusal: &GitRefusal) -> Result<Bytes, OutOfMemor
     ensures { IfOk result (λ line. line ≡ words.git_line refusal.now) }
 {
     match refusal {
-        GitRefusal::Elsewhere { name } => with_path(
-            alloc,
-            b"fatal: ",
-            name.as_bytes(),
-            b" is set, which is not heeded; unset it\n",
-        ),
+        GitRefusal::Elsewhere { name } => elsewhere_line(alloc, name.as_bytes()),
         GitRefusal::Places(error) => places_line(alloc, error),
         GitRefusal::Foreign { path } => foreign_line(alloc, path.as_bytes()),
         GitRefusal::IndexNode { path } => with_path(
@@ -72,12 +93,7 @@ pub fn git_line(alloc: Global, refusal: &GitRefusal) -> Result<Bytes, OutOfMemor
         GitRefusal::IndexEntry { path, error } => entry_line(alloc, path.as_bytes(), error),
         GitRefusal::Files(error) => files_line(alloc, error),
         GitRefusal::Boolean { path, key } => value_line(alloc, path, key.as_bytes()),
-        GitRefusal::SparseDirectory { path } => with_path(
-            alloc,
-            b"fatal: the index leaves out directory '",
-            path.as_bytes(),
-            b"', and something is there; undo it with 'git sparse-checkout reapply --no-sparse-index'\n",
-        ),
+        GitRefusal::SparseDirectory { path } => sparse_directory_line(alloc, path.as_bytes()),
         GitRefusal::OutsideRoot { directory, root } => {
             outside_line(alloc, directory.as_bytes(), root.as_bytes())
         }
@@ -96,12 +112,7 @@ pub fn git_line(alloc: Global, refusal: &GitRefusal) -> Result<Bytes, OutOfMemor
         GitRefusal::Prefix { text, prefix } => {
             prefix_line(alloc, text.as_bytes(), prefix.as_bytes())
         }
-        GitRefusal::SubmoduleCase { path } => with_path(
-            alloc,
-            b"fatal: nothing to remove is named with core.ignoreCase and a submodule; ask git: '",
-            path.as_bytes(),
-            b"'\n",
-        ),
+        GitRefusal::SubmoduleCase { path } => submodule_case_line(alloc, path.as_bytes()),
         GitRefusal::Fault => fixed(alloc, FAULT),
         GitRefusal::OutOfMemory => fixed(alloc, MEMORY),
     }

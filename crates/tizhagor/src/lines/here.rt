@@ -56,8 +56,8 @@ fn cleaning_line(alloc: Global, wrong: WrongClean) -> Result<Bytes, OutOfMemory>
 }
 
 /// The line of a form that is not answered, with the path of its entry.
-fn form_line(alloc: Global, refused: &Unanswered) -> Result<Bytes, OutOfMemory>
-    ensures { IfOk result (λ line. line ≡ words.form_line refused.now) }
+fn unsupported_form_line(alloc: Global, refused: &Unanswered) -> Result<Bytes, OutOfMemory>
+    ensures { IfOk result (λ line. line ≡ words.unsupported_form_line refused.now) }
 {
     let mut front = Bytes::from_slice(alloc, b"fatal: ")?;
     front.extend(alloc, refused.form.text())?;
@@ -74,7 +74,7 @@ fn uncompared_line(alloc: Global, reason: &Uncompared) -> Result<Bytes, OutOfMem
             alloc,
             b"fatal: options '--name-only', '--name-status', '--check', and '-s' cannot be used together\n",
         ),
-        Uncompared::Form(refused) => form_line(alloc, refused),
+        Uncompared::Form(refused) => unsupported_form_line(alloc, refused),
     }
 }
 

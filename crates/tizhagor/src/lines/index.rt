@@ -12,7 +12,7 @@ const MEND: &[u8] = b"; move it away, and make it anew from HEAD with 'git reset
 
 /// How an index file is broken, and what mends it.
 fn broken(alloc: Global, reason: &[u8]) -> Result<Bytes, OutOfMemory>
-    ensures { IfOk result (λ line. line ≡ reason.now ++ words.mend) }
+    ensures { IfOk result (λ line. line ≡ reason.now ++ words.index_repair_advice) }
 {
     let mut line = Bytes::from_slice(alloc, reason)?;
     line.extend(alloc, MEND)?;

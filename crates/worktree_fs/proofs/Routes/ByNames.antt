@@ -5,7 +5,7 @@ use Rattle.std.specs.Str.{bytes_eq}
 use Rattle.std.specs.List.{AllByRecursion, IsDistinct}
 use mathlib.Core.List.{reverse-cons}
 use Rattle.gitbase_core.specs.Path.{components, is_absolute}
-use Rattle.worktree_fs.specs.Tree.{Names, Node, Level, Place, Jump, Spot, reached, missing, nowhere, trail, spot, file, link, directory, other, none, named, names_of, child, is_text, is_dot, is_dot_dot, along, behind, resolve, start, parent_place, root_of, enter, is_nil, is_directory, onward, walking}
+use Rattle.worktree_fs.specs.Tree.{Names, Node, Level, Place, Jump, Spot, reached, missing, nowhere, trail, spot, file, link, directory, other, none, named, names_of, child, is_text, is_dot, is_dot_dot, along, behind, resolve, start, parent_place, root_of, enter, is_nil, is_directory, resolve_from_node, walking}
 use Rattle.worktree_fs.specs.Naming.{IsTree, AreTrees}
 use Rattle.worktree_fs.specs.Grow.{children_of, obstacle}
 use Rattle.worktree_fs.specs.Changes.{cut, cut_names, after_remove}
@@ -63,7 +63,7 @@ abbrev Goes : Names → Bool → Jump → List (List ℕ) → Type 0
 Goes root follow jump rest = (place : Place) → IsPlaced root place → LeadsByNames root (along jump follow place rest)
 
 through : (root : Names) (follow : Bool) (jump : Jump) → Keeps root jump → (rest : List (List ℕ)) → Goes root follow jump rest → (place : Place) → IsPlaced root place → (name : List ℕ) (o : Option Node) → child place.here name ≡ o
-    → LeadsByNames root (onward (walking (λ p. along jump follow p rest) jump follow) place rest name o)
+    → LeadsByNames root (resolve_from_node (walking (λ p. along jump follow p rest) jump follow) place rest name o)
 through root follow jump keeps rest goes place is name None e = (place.here, chain-node root place.here place.above is, e)
 through root follow jump keeps rest goes place is name (Some (directory names)) e = goes (enter place name names) (e, is)
 through root follow jump keeps rest goes place is name (Some (link target)) e = go (follow || not (is_nil rest))
@@ -87,7 +87,7 @@ steps root follow jump keeps [] place is = chain-node root place.here place.abov
 steps root follow jump keeps (component ∷ rest) place is = go (steps root follow jump keeps rest) (is_dot component) (is_dot_dot component)
   where
     go : Goes root follow jump rest → (dot up : Bool)
-        → LeadsByNames root (if dot then along jump follow place rest else if up then along jump follow (parent_place place) rest else onward (walking (λ p. along jump follow p rest) jump follow) place rest component (child place.here component))
+        → LeadsByNames root (if dot then along jump follow place rest else if up then along jump follow (parent_place place) rest else resolve_from_node (walking (λ p. along jump follow p rest) jump follow) place rest component (child place.here component))
     go goes true up = goes place is
     go goes false true = goes (parent_place place) (in_parent root place.here place.above is)
     go goes false false = through root follow jump keeps rest goes place is component (child place.here component) refl

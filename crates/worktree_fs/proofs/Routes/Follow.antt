@@ -1,7 +1,7 @@
 -- A path that leads to a directory with its last link not followed leads there with it followed.
 use Rattle.std.proofs.Common.{◌≡◌, ℕ, zero, suc, Bool, true, false, List, [], ◌∷◌, ◌++◌, Option, Some, None, if◌then◌else◌}
 use Rattle.gitbase_core.specs.Path.{components}
-use Rattle.worktree_fs.specs.Tree.{Names, Node, Place, Spot, Jump, look_at, nowhere, spot, found, file, link, directory, other, child, is_text, is_dot, is_dot_dot, along, behind, resolve, look, start, parent_place, enter, onward, walking}
+use Rattle.worktree_fs.specs.Tree.{Names, Node, Place, Spot, Jump, look_at, nowhere, spot, found, file, link, directory, other, child, is_text, is_dot, is_dot_dot, along, behind, resolve, look, start, parent_place, enter, resolve_from_node, walking}
 
 module _ (names : Names) where
   -- a jump that leads to the directory leads there following too
@@ -12,8 +12,8 @@ module _ (names : Names) where
   Goes staying following rest = (place : Place) → look_at (along staying false place rest) ≡ found (directory names) → look_at (along following true place rest) ≡ found (directory names)
 
   through : (staying following : Jump) → Jumps staying following → (rest : List (List ℕ)) → Goes staying following rest → (place : Place) (component : List ℕ) (o : Option Node)
-      → look_at (onward (walking (λ p. along staying false p rest) staying false) place rest component o) ≡ found (directory names)
-      → look_at (onward (walking (λ p. along following true p rest) following true) place rest component o) ≡ found (directory names)
+      → look_at (resolve_from_node (walking (λ p. along staying false p rest) staying false) place rest component o) ≡ found (directory names)
+      → look_at (resolve_from_node (walking (λ p. along following true p rest) following true) place rest component o) ≡ found (directory names)
   through staying following jumps rest goes place component None e = absurd (cc e)
   through staying following jumps rest goes place component (Some (directory sub)) e = goes (enter place component sub) e
   through staying following jumps [] goes place component (Some (link target)) e = absurd (cc e)
@@ -24,8 +24,8 @@ module _ (names : Names) where
   through staying following jumps (r ∷ rest) goes place component (Some other) e = absurd (cc e)
 
   split : (staying following : Jump) → Jumps staying following → (rest : List (List ℕ)) → Goes staying following rest → (place : Place) (component : List ℕ) (dot up : Bool)
-      → look_at (if dot then along staying false place rest else if up then along staying false (parent_place place) rest else onward (walking (λ p. along staying false p rest) staying false) place rest component (child place.here component)) ≡ found (directory names)
-      → look_at (if dot then along following true place rest else if up then along following true (parent_place place) rest else onward (walking (λ p. along following true p rest) following true) place rest component (child place.here component)) ≡ found (directory names)
+      → look_at (if dot then along staying false place rest else if up then along staying false (parent_place place) rest else resolve_from_node (walking (λ p. along staying false p rest) staying false) place rest component (child place.here component)) ≡ found (directory names)
+      → look_at (if dot then along following true place rest else if up then along following true (parent_place place) rest else resolve_from_node (walking (λ p. along following true p rest) following true) place rest component (child place.here component)) ≡ found (directory names)
   split staying following jumps rest goes place component true up e = goes place e
   split staying following jumps rest goes place component false true e = goes (parent_place place) e
   split staying following jumps rest goes place component false false e = through staying following jumps rest goes place component (child place.here component) e

@@ -5,7 +5,7 @@ use Rattle.worktree_fs.specs.Answers.{read_of}
 use Rattle.worktree_fs.specs.declared.answers.ReadAnswer.{ReadAnswer}
 use Rattle.worktree_fs.specs.declared.answers.ReadAnswer.TheVariants as answers
 use Rattle.worktree_fs.specs.declared.answers.ReadError.{ReadError}
-use Rattle.worktree_fs.specs.Tree.{Node, Names, file, link, directory, other, Place, Jump, Look, Spot, look_at, reached, nowhere, trail, spot, found, absent, too_many_links, child, enter, parent_place, start, is_text, is_dot, is_dot_dot, is_nil, onward, walking, along, behind, look}
+use Rattle.worktree_fs.specs.Tree.{Node, Names, file, link, directory, other, Place, Jump, Look, Spot, look_at, reached, nowhere, trail, spot, found, absent, too_many_links, child, enter, parent_place, start, is_text, is_dot, is_dot_dot, is_nil, resolve_from_node, walking, along, behind, look}
 
 -- a path leads to no link
 abbrev pub NoLink : Look → Type 0
@@ -21,7 +21,7 @@ NoLink-if true x y nx ny = nx
 NoLink-if false x y nx ny = ny
 
 NoLink-onward : (go : Place → Spot) (jump : Jump) (place : Place) (rest : List (List ℕ)) (name : List ℕ) (node : Option Node)
-    → ((p : Place) → NoLink (look_at (go p))) → ((p : Place) (target : List ℕ) (more : List (List ℕ)) → NoLink (look_at (jump p target more))) → NoLink (look_at (onward (walking go jump true) place rest name node))
+    → ((p : Place) → NoLink (look_at (go p))) → ((p : Place) (target : List ℕ) (more : List (List ℕ)) → NoLink (look_at (jump p target more))) → NoLink (look_at (resolve_from_node (walking go jump true) place rest name node))
 NoLink-onward go jump place rest name None along_on jumps = tt
 NoLink-onward go jump place rest name (Some (directory names)) along_on jumps = along_on (enter place name names)
 NoLink-onward go jump place rest name (Some (link target)) along_on jumps = jumps place target rest

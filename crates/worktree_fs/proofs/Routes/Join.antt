@@ -2,7 +2,7 @@
 use Rattle.std.proofs.Common.{◌≡◌, ℕ, zero, suc, ◌-◌, length, get_or, arith, eqb-true, Bool, true, false, List, [], ◌∷◌, ◌++◌, Option, Some, None, refl, not, if◌then◌else◌, sym, ap, ◌∙◌, append_assoc}
 use Rattle.std.proofs.lemmas.List.{append-nil}
 use Rattle.gitbase_core.specs.Path.{components, is_slash, ends_in_slash, joined}
-use Rattle.worktree_fs.specs.Tree.{Names, Node, Place, Spot, Jump, Look, look_at, absent, reached, missing, nowhere, endless, trail, spot, found, file, link, directory, other, child, is_text, is_dot, is_dot_dot, along, behind, resolve, look, start, parent_place, enter, is_nil, onward, walking}
+use Rattle.worktree_fs.specs.Tree.{Names, Node, Place, Spot, Jump, Look, look_at, absent, reached, missing, nowhere, endless, trail, spot, found, file, link, directory, other, child, is_text, is_dot, is_dot_dot, along, behind, resolve, look, start, parent_place, enter, is_nil, resolve_from_node, walking}
 use Rattle.worktree_fs.specs.Naming.{IsName}
 use Rattle.worktree_fs.specs.Last.{at_child, Last, last_of}
 use Rattle.worktree_fs.proofs.Paths.Texts.{is_text-append, is_text-slash, pieces-join}
@@ -60,7 +60,7 @@ module _ (names : Names) (name : List ℕ) (is_name : IsName name) where
   abbrev Goes : Jump → Jump → List (List ℕ) → Type 0
   Goes following staying rest = (place : Place) → look_at (along following true place rest) ≡ found (directory names) → last_of (along staying false place (rest ++ name ∷ [])) ≡ at_name
 
-  last : (staying : Jump) (place : Place) (component : List ℕ) (o : Option Node) → last_of (onward (walking (λ p. reached (trail p) (directory p.here)) staying false) place [] component o) ≡ Some (record { name = component; node = o })
+  last : (staying : Jump) (place : Place) (component : List ℕ) (o : Option Node) → last_of (resolve_from_node (walking (λ p. reached (trail p) (directory p.here)) staying false) place [] component o) ≡ Some (record { name = component; node = o })
   last staying place component None = refl
   last staying place component (Some (directory sub)) = refl
   last staying place component (Some (link target)) = refl
@@ -68,8 +68,8 @@ module _ (names : Names) (name : List ℕ) (is_name : IsName name) where
   last staying place component (Some other) = refl
 
   through : (following staying : Jump) → Jumps following staying → (rest : List (List ℕ)) → Goes following staying rest → (place : Place) (component : List ℕ) (o : Option Node)
-      → look_at (onward (walking (λ p. along following true p rest) following true) place rest component o) ≡ found (directory names)
-      → last_of (onward (walking (λ p. along staying false p (rest ++ name ∷ [])) staying false) place (rest ++ name ∷ []) component o) ≡ at_name
+      → look_at (resolve_from_node (walking (λ p. along following true p rest) following true) place rest component o) ≡ found (directory names)
+      → last_of (resolve_from_node (walking (λ p. along staying false p (rest ++ name ∷ [])) staying false) place (rest ++ name ∷ []) component o) ≡ at_name
   through following staying jumps rest goes place component None e = absurd (cc e)
   through following staying jumps rest goes place component (Some (directory sub)) e = goes (enter place component sub) e
   through following staying jumps rest goes place component (Some (link target)) e =
@@ -80,16 +80,16 @@ module _ (names : Names) (name : List ℕ) (is_name : IsName name) where
   through following staying jumps (r ∷ rest) goes place component (Some other) e = absurd (cc e)
 
   split : (following staying : Jump) → Jumps following staying → (rest : List (List ℕ)) → Goes following staying rest → (place : Place) (component : List ℕ) (dot up : Bool)
-      → look_at (if dot then along following true place rest else if up then along following true (parent_place place) rest else onward (walking (λ p. along following true p rest) following true) place rest component (child place.here component)) ≡ found (directory names)
-      → last_of (if dot then along staying false place (rest ++ name ∷ []) else if up then along staying false (parent_place place) (rest ++ name ∷ []) else onward (walking (λ p. along staying false p (rest ++ name ∷ [])) staying false) place (rest ++ name ∷ []) component (child place.here component)) ≡ at_name
+      → look_at (if dot then along following true place rest else if up then along following true (parent_place place) rest else resolve_from_node (walking (λ p. along following true p rest) following true) place rest component (child place.here component)) ≡ found (directory names)
+      → last_of (if dot then along staying false place (rest ++ name ∷ []) else if up then along staying false (parent_place place) (rest ++ name ∷ []) else resolve_from_node (walking (λ p. along staying false p (rest ++ name ∷ [])) staying false) place (rest ++ name ∷ []) component (child place.here component)) ≡ at_name
   split following staying jumps rest goes place component true up e = goes place e
   split following staying jumps rest goes place component false true e = goes (parent_place place) e
   split following staying jumps rest goes place component false false e = through following staying jumps rest goes place component (child place.here component) e
 
   steps : (following staying : Jump) → Jumps following staying → (rest : List (List ℕ)) → Goes following staying rest
   steps following staying jumps [] place e =
-      ap (λ b. last_of (if b then along staying false place [] else if is_dot_dot name then along staying false (parent_place place) [] else onward (walking (λ p. along staying false p []) staying false) place [] name (child place.here name))) (name_parts name is_name).no_dot
-      ∙ ap (λ b. last_of (if b then along staying false (parent_place place) [] else onward (walking (λ p. along staying false p []) staying false) place [] name (child place.here name))) (name_parts name is_name).no_dot_dot
+      ap (λ b. last_of (if b then along staying false place [] else if is_dot_dot name then along staying false (parent_place place) [] else resolve_from_node (walking (λ p. along staying false p []) staying false) place [] name (child place.here name))) (name_parts name is_name).no_dot
+      ∙ ap (λ b. last_of (if b then along staying false (parent_place place) [] else resolve_from_node (walking (λ p. along staying false p []) staying false) place [] name (child place.here name))) (name_parts name is_name).no_dot_dot
       ∙ last staying place name (child place.here name)
       ∙ ap (λ (n : Names). Some (record { name = name; node = child n name })) (cc e)
   steps following staying jumps (component ∷ rest) place e = split following staying jumps rest (steps following staying jumps rest) place component (is_dot component) (is_dot_dot component) e

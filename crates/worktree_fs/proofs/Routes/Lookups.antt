@@ -3,7 +3,7 @@ use Rattle.std.proofs.Common.{◌≡◌, ℕ, ◌+◌, ◌-◌, ◌<◌, ◌≤�
 use Rattle.std.proofs.lemmas.List.{append-nil, take_more, take_all}
 use Rattle.std.proofs.lemmas.Grind.{replicate_next}
 use Rattle.worktree_fs.specs.Paths.{spelled, is_nil, all_but_last}
-use Rattle.worktree_fs.specs.PathStack.{PathStackModel, Given, Call, pop_directory, push, called, one_up, deepest_names, back_at_deepest, looked_up, surplus, kept, root_calls, lookup_calls, calls_for, calls_below, Granted, IsOnWay}
+use Rattle.worktree_fs.specs.PathStack.{PathStackModel, CallWithRefusal, Call, pop_directory, push, called, one_up, deepest_names, back_at_deepest, looked_up, surplus, kept, root_calls, lookup_calls, calls_for, calls_below, Granted, IsOnWay}
 use Rattle.worktree_fs.specs.Stops.{Stopped, OfDelegate, UnlessDelegate}
 use Rattle.worktree_fs.specs.Causes.{Increased}
 use Rattle.worktree_fs.specs.declared.path_stack.delegate.PathStackError.{PathStackError}
@@ -18,11 +18,11 @@ abbrev pub at_directory : List ℕ → List (List ℕ) → PathStackModel
 at_directory root names = record { root = root; deepest = Some names; current = names }
 
 -- so many directories were popped
-pub record Popped (s0 s : PathStackModel) (old new : List Given) (count : ℕ) : Type 0 where
+pub record Popped (s0 s : PathStackModel) (old new : List CallWithRefusal) (count : ℕ) : Type 0 where
   pub stands : s ≡ at_directory s0.root (take (length s0.current - count) s0.current)
   pub given : Granted old new s0.deepest s.deepest (replicate count pop_directory)
 
-pub popped-none : (s : PathStackModel) (old : List Given) → s.deepest ≡ Some s.current → Popped s s old old 0
+pub popped-none : (s : PathStackModel) (old : List CallWithRefusal) → s.deepest ≡ Some s.current → Popped s s old old 0
 popped-none s old top = record {
   stands =
       let all : take (length s.current - 0) s.current ≡ s.current = take_all (length s.current - 0) s.current (omega arith) in
@@ -30,7 +30,7 @@ popped-none s old top = record {
   given = record { given = sym (append-nil old); left = refl };
 }
 
-pub popped-more : (s0 s s' : PathStackModel) (old mid new : List Given) (count : ℕ) → count < length s0.current
+pub popped-more : (s0 s s' : PathStackModel) (old mid new : List CallWithRefusal) (count : ℕ) → count < length s0.current
     → Popped s0 s old mid count → new ≡ mid ++ called pop_directory false ∷ []
     → s' ≡ back_at_deepest (record { root = s.root; deepest = one_up s.deepest; current = s.current })
     → Popped s0 s' old new (count + 1)
@@ -58,7 +58,7 @@ popped-more s0 s s' old mid new count low popped given after =
     }
 
 -- until the proper ancestors are left
-pub popped-end : (s0 s : PathStackModel) (old new : List Given) (count : ℕ) (parts : List (List ℕ)) → Popped s0 s old new count
+pub popped-end : (s0 s : PathStackModel) (old new : List CallWithRefusal) (count : ℕ) (parts : List (List ℕ)) → Popped s0 s old new count
     → s0.deepest ≡ Some s0.current → count ≡ surplus s0.deepest parts → s ≡ at_directory s0.root (kept s0.current parts)
 popped-end s0 s old new count parts popped top all =
     let names_is : deepest_names s0.deepest ≡ s0.current = ap deepest_names top in
@@ -69,7 +69,7 @@ popped-end s0 s old new count parts popped top all =
     ∙ ap (at_directory s0.root) (ap (λ n. take n s0.current) place ∙ kept-names s0.current parts)
 
 -- so much of the path behind a directory was pushed, and some is left
-pub record Descended (s0 s : PathStackModel) (old new : List Given) (whole rest : List (List ℕ)) : Type 0 where
+pub record Descended (s0 s : PathStackModel) (old new : List CallWithRefusal) (whole rest : List (List ℕ)) : Type 0 where
   pub made : List Call
   pub given : Granted old new s0.deepest s.deepest made
   pub calls : calls_below s0.current whole ≡ made ++ calls_below s.current rest
@@ -78,7 +78,7 @@ pub record Descended (s0 s : PathStackModel) (old new : List Given) (whole rest 
   pub end : rest ≡ [] → s.current ≡ []
   pub root : s.root ≡ s0.root
 
-pub descended-none : (s : PathStackModel) (old : List Given) (whole : List (List ℕ)) → s.deepest ≡ Some s.current → (whole ≡ [] → s.current ≡ [])
+pub descended-none : (s : PathStackModel) (old : List CallWithRefusal) (whole : List (List ℕ)) → s.deepest ≡ Some s.current → (whole ≡ [] → s.current ≡ [])
     → Descended s s old old whole whole
 descended-none s old whole top end = record {
   made = [];
@@ -90,7 +90,7 @@ descended-none s old whole top end = record {
   root = refl;
 }
 
-module _ (s0 s : PathStackModel) (old mid new : List Given) (whole rest more : List (List ℕ)) (name : List ℕ)
+module _ (s0 s : PathStackModel) (old mid new : List CallWithRefusal) (whole rest more : List (List ℕ)) (name : List ℕ)
     (so_far : Descended s0 s old mid whole rest) (rest_is : rest ≡ name ∷ more) where
   names_is : deepest_names s.deepest ≡ s.current
   names_is = ap deepest_names so_far.top
@@ -178,7 +178,7 @@ module _ (s0 s : PathStackModel) (old mid new : List Given) (whole rest more : L
         rw calls_is (Granted-append old mid new s0.deepest s.deepest s'.deepest so_far.made (push (spelled (deepest_names s.deepest ++ name ∷ [])) true ∷ []) so_far.given given)
 
 -- nothing was left from the first
-module _ (s0 s : PathStackModel) (old new : List Given) (whole rest : List (List ℕ)) (so_far : Descended s0 s old new whole rest) (none : rest ≡ []) where
+module _ (s0 s : PathStackModel) (old new : List CallWithRefusal) (whole rest : List (List ℕ)) (so_far : Descended s0 s old new whole rest) (none : rest ≡ []) where
   pub root-state : s ≡ looked_up s0 (s0.current ++ whole)
   root-state =
       let empty : s.current ≡ [] = so_far.end none in
@@ -244,7 +244,7 @@ module _ (s0 p q : PathStackModel) (parts rest : List (List ℕ))
       ∙ same_standing (looked_up q (q.current ++ rest)) (looked_up s0 parts) (ap (λ (x : PathStackModel). x.root) stays)
       (ap (λ (l : List (List ℕ)). Some (all_but_last l)) whole) whole
 
-  module _ (g0 g1 g2 g3 : List Given) (d : Option (List (List ℕ)))
+  module _ (g0 g1 g2 g3 : List CallWithRefusal) (d : Option (List (List ℕ)))
       (root_given : Granted g0 g1 s0.deepest p.deepest (root_calls s0.deepest))
       (pops_given : Granted g1 g2 p.deepest q.deepest (replicate (surplus p.deepest parts) pop_directory)) where
     abbrev pops : List Call

@@ -4,7 +4,7 @@ use Rattle.std.proofs.Common.{◌≡◌, ℕ, zero, suc, Bool, true, false, not,
 use Rattle.std.specs.List.{AllByRecursion}
 use mathlib.Core.List.{reverse-cons}
 use Rattle.gitbase_core.specs.Path.{components}
-use Rattle.worktree_fs.specs.Tree.{Node, Names, Place, Jump, Spot, reached, missing, nowhere, endless, file, link, directory, other, child, is_text, is_dot, is_dot_dot, is_nil, trail, enter, parent_place, start, onward, walking, along, behind, resolve, spot}
+use Rattle.worktree_fs.specs.Tree.{Node, Names, Place, Jump, Spot, reached, missing, nowhere, endless, file, link, directory, other, child, is_text, is_dot, is_dot_dot, is_nil, trail, enter, parent_place, start, resolve_from_node, walking, along, behind, resolve, spot}
 use Rattle.worktree_fs.specs.Naming.{IsName, IsTree}
 use Rattle.worktree_fs.specs.Paths.{IsComponent}
 use Rattle.worktree_fs.specs.Changes.{slashed}
@@ -39,7 +39,7 @@ abbrev Jumps : Jump → Type 0
 Jumps jump = (place : Place) (target : List ℕ) (rest : List (List ℕ)) → AreParts rest → MissesName (jump place target rest)
 
 through : (follow : Bool) (jump : Jump) → Jumps jump → (rest : List (List ℕ)) → AreParts rest → ((place : Place) → MissesName (along jump follow place rest)) → (place : Place) (name : List ℕ) → IsName name → (o : Option Node)
-    → MissesName (onward (walking (λ s. along jump follow s rest) jump follow) place rest name o)
+    → MissesName (resolve_from_node (walking (λ s. along jump follow s rest) jump follow) place rest name o)
 through follow jump jumps rest are goes place name is None = is
 through follow jump jumps rest are goes place name is (Some (directory names)) = goes (enter place name names)
 through follow jump jumps rest are goes place name is (Some (link target)) = either (follow || not (is_nil rest)) _ _ (jumps place target rest are) tt
@@ -51,7 +51,7 @@ steps follow jump jumps [] are place = tt
 steps follow jump jumps (component ∷ rest) are place = go (is_dot component) (is_dot_dot component) refl refl (steps follow jump jumps rest are.1)
   where
     go : (dot up : Bool) → is_dot component ≡ dot → is_dot_dot component ≡ up → ((place : Place) → MissesName (along jump follow place rest))
-        → MissesName (if dot then along jump follow place rest else if up then along jump follow (parent_place place) rest else onward (walking (λ s. along jump follow s rest) jump follow) place rest component (child place.here component))
+        → MissesName (if dot then along jump follow place rest else if up then along jump follow (parent_place place) rest else resolve_from_node (walking (λ s. along jump follow s rest) jump follow) place rest component (child place.here component))
     go true up d u goes = goes place
     go false true d u goes = goes (parent_place place)
     go false false d u goes = through follow jump jumps rest are.1 goes place component (name-from_part component are.0 d u) (child place.here component)

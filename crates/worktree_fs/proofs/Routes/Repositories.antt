@@ -5,7 +5,7 @@ use Rattle.gitbase_core.specs.Path.{parent}
 use Rattle.worktree_fs.specs.Tree.{Names, Look, look, found, absent, too_many_links, file, link, directory, other}
 use Rattle.worktree_fs.specs.Answers.{kind_of}
 use Rattle.worktree_fs.specs.Changes.{from_directory}
-use Rattle.worktree_fs.specs.Repository.{is_git, is_git_at, is_git_directory, is_git_below, is_git_file, is_directory_at, file_at, gitdir_path}
+use Rattle.worktree_fs.specs.Repository.{is_git, is_git_at, is_git_directory, is_git_directory_by_commondir, is_git_file, is_directory_at, file_at, gitdir_path}
 use Rattle.worktree_fs.specs.declared.answers.NodeKind.{NodeKind}
 use Rattle.worktree_fs.specs.declared.answers.NodeKind.TheVariants as kinds
 use Rattle.worktree_fs.specs.declared.answers.ReadError.{ReadError}
@@ -59,7 +59,7 @@ git-file t q r is = subst (λ b. IfOk r (λ answer. answer ≡ (if b then is_git
 -- at a file that names a git directory
 pub git-named : (t : Names) (q text path full : List ℕ) (r : Result Bool ReadError)
     → file_at (look t q true) ≡ Some text → gitdir_path text ≡ Some path → full ≡ from_directory path (unwrap_or (parent q) [])
-    → IfOk r (λ is. is ≡ is_git_below t full) → IfOk r (λ is. is ≡ is_git_file t q (option_and_then gitdir_path (file_at (look t q true))))
+    → IfOk r (λ is. is ≡ is_git_directory_by_commondir t full) → IfOk r (λ is. is ≡ is_git_file t q (option_and_then gitdir_path (file_at (look t q true))))
 git-named t q text path full r there names beside below =
     subst (λ (o : Option (List ℕ)). IfOk r (λ answer. answer ≡ is_git_file t q o)) (sym (ap (option_and_then gitdir_path) there ∙ names))
-    (subst (λ (f : List ℕ). IfOk r (λ answer. answer ≡ is_git_below t f)) beside below)
+    (subst (λ (f : List ℕ). IfOk r (λ answer. answer ≡ is_git_directory_by_commondir t f)) beside below)

@@ -7,7 +7,7 @@ use Rattle.std.specs.List.{AllByRecursion, list_all}
 use Rattle.std.proofs.lemmas.Bool.{and_from}
 use Rattle.std.proofs.lemmas.List.Folds.{list_all-append}
 use Rattle.gitbase_core.specs.Path.{pieces, components}
-use Rattle.worktree_fs.specs.Tree.{Node, Names, Place, Jump, reached, nowhere, file, link, directory, other, child, is_directory, is_text, is_dot_dot, trail, parent_place, enter, onward, walking, along, behind, resolve, spot}
+use Rattle.worktree_fs.specs.Tree.{Node, Names, Place, Jump, reached, nowhere, file, link, directory, other, child, is_directory, is_text, is_dot_dot, trail, parent_place, enter, resolve_from_node, walking, along, behind, resolve, spot}
 use Rattle.worktree_fs.specs.Naming.{IsName, IsTree, is_name}
 use Rattle.worktree_fs.specs.ByNames.{node_at}
 use Rattle.worktree_fs.specs.Grow.{is_full_path}
@@ -58,7 +58,7 @@ module _ (jump : Jump) (follow : Bool) (node : Node) (unfollowed : (follow && is
   abbrev Leads : List (List ℕ) → Type 0
   Leads rest = (place : Place) → node_at rest (Some (directory place.here)) ≡ Some node → along jump follow place rest ≡ reached (reverse rest ++ trail place) node
 
-  ends : (place : Place) (name : List ℕ) (n : Node) → is_directory n ≡ false → Some n ≡ Some node → onward (walking (λ p. along jump follow p []) jump follow) place [] name (Some n) ≡ reached (name ∷ trail place) node
+  ends : (place : Place) (name : List ℕ) (n : Node) → is_directory n ≡ false → Some n ≡ Some node → resolve_from_node (walking (λ p. along jump follow p []) jump follow) place [] name (Some n) ≡ reached (name ∷ trail place) node
   ends place name (directory names) leaf e = absurd (cc leaf)
   ends place name (file bytes) leaf e = ap (λ (n : Option Node). reached (name ∷ trail place) (node_or n)) e
   ends place name other leaf e = ap (λ (n : Option Node). reached (name ∷ trail place) (node_or n)) e
@@ -71,7 +71,7 @@ module _ (jump : Jump) (follow : Bool) (node : Node) (unfollowed : (follow && is
       stays false e = refl
 
   from : (place : Place) (name : List ℕ) (rest : List (List ℕ)) (o : Option Node) → Leads rest → node_at rest o ≡ Some node
-      → onward (walking (λ p. along jump follow p rest) jump follow) place rest name o ≡ reached (reverse (name ∷ rest) ++ trail place) node
+      → resolve_from_node (walking (λ p. along jump follow p rest) jump follow) place rest name o ≡ reached (reverse (name ∷ rest) ++ trail place) node
   from place name rest None leads e = absurd (nothing_there rest node e)
   from place name rest (Some (directory names)) leads e =
       leads (enter place name names) e
@@ -87,8 +87,8 @@ module _ (jump : Jump) (follow : Bool) (node : Node) (unfollowed : (follow && is
   along-names [] all place e = ap (λ (n : Option Node). reached (trail place) (node_or n)) e
   along-names (name ∷ rest) all place e =
       let parts = name_parts name all.0 in
-      ap (λ b. if b then along jump follow place rest else if is_dot_dot name then along jump follow (parent_place place) rest else onward (walking (λ p. along jump follow p rest) jump follow) place rest name (child place.here name)) parts.no_dot
-      ∙ ap (λ b. if b then along jump follow (parent_place place) rest else onward (walking (λ p. along jump follow p rest) jump follow) place rest name (child place.here name)) parts.no_dot_dot
+      ap (λ b. if b then along jump follow place rest else if is_dot_dot name then along jump follow (parent_place place) rest else resolve_from_node (walking (λ p. along jump follow p rest) jump follow) place rest name (child place.here name)) parts.no_dot
+      ∙ ap (λ b. if b then along jump follow (parent_place place) rest else resolve_from_node (walking (λ p. along jump follow p rest) jump follow) place rest name (child place.here name)) parts.no_dot_dot
       ∙ from place name rest (child place.here name) (along-names rest all.1) e
 
 text-slashed : (name : List ℕ) (below : List (List ℕ)) → IsName name → AllByRecursion IsName below → is_text (slashed (name ∷ below)) ≡ true

@@ -5,7 +5,7 @@ use Rattle.std.proofs.lemmas.List.{length-map}
 use Rattle.std.proofs.Math.ListN.{get_or-map}
 use Rattle.std.specs.declared.cmp.Ordering.TheVariants.{Less}
 use mathlib.Core.List.{reverse-cons}
-use Rattle.worktree_fs.specs.Tree.{Node, Names, Level, Place, Spot, directory, other, none, named, names_of, child, enter, parent_place, root_of, trail, is_nil, is_directory, is_dot, is_dot_dot, resolve, onward, walking, behind}
+use Rattle.worktree_fs.specs.Tree.{Node, Names, Level, Place, Spot, directory, other, none, named, names_of, child, enter, parent_place, root_of, trail, is_nil, is_directory, is_dot, is_dot_dot, resolve, resolve_from_node, walking, behind}
 use Rattle.worktree_fs.specs.Grow.{children_of}
 use Rattle.worktree_fs.specs.Order.{path_cmp, name_at, IsRising, IsAt}
 use Rattle.worktree_fs.specs.Stored.{names_in, node_of, AreSorted}
@@ -219,11 +219,11 @@ third false true a b c e f = absurd (cc f)
 third true y a b c e f = absurd (cc e)
 
 pub component-leads : (links : ℕ) (follow : Bool) (at : Place) (component : List ℕ) (rest : List (List ℕ)) (o : Option Node) → is_dot component ≡ false → is_dot_dot component ≡ false → child at.here component ≡ o
-    → resolve links follow at (component ∷ rest) ≡ onward (walking (λ p. resolve links follow p rest) (behind links follow) follow) at rest component o
+    → resolve links follow at (component ∷ rest) ≡ resolve_from_node (walking (λ p. resolve links follow p rest) (behind links follow) follow) at rest component o
 component-leads links follow at component rest o dot up is =
     third (is_dot component) (is_dot_dot component) (resolve links follow at rest) (resolve links follow (parent_place at) rest)
-    (onward (walking (λ p. resolve links follow p rest) (behind links follow) follow) at rest component (child at.here component)) dot up
-    ∙ ap (λ (n : Option Node). onward (walking (λ p. resolve links follow p rest) (behind links follow) follow) at rest component n) is
+    (resolve_from_node (walking (λ p. resolve links follow p rest) (behind links follow) follow) at rest component (child at.here component)) dot up
+    ∙ ap (λ (n : Option Node). resolve_from_node (walking (λ p. resolve links follow p rest) (behind links follow) follow) at rest component n) is
 
 -- a file or another node that ends a path is no directory
 pub leaf_stands : (root : List Entry) (way : List ℕ) (i : ℕ) (b : Bool) (turn : Turn) → IsWay way (names_in root) × IsLeaf (here_by way (names_in root)) i → turn ≡ (if b then turns.Node i else turns.Nowhere) → TurnStands root way turn

@@ -1,9 +1,9 @@
 -- In two trees that differ in one node each path leads alike, unless it comes to that node.
 use Rattle.std.proofs.Common.{◌≡◌, inl, inr, ℕ, zero, suc, Bool, true, false, not, ◌||◌, List, [], ◌∷◌, ◌++◌, Option, Some, None, option_map, reverse, drop, if◌then◌else◌, refl, sym, ap, subst, ◌∙◌}
 use Rattle.gitbase_core.specs.Path.{components, is_absolute}
-use Rattle.worktree_fs.specs.Tree.{Node, Names, Level, Place, Jump, Spot, reached, missing, file, link, directory, other, none, child, is_directory, is_text, is_dot, is_dot_dot, is_nil, trail, enter, parent_place, root_of, start, onward, walking, along, behind, spot}
+use Rattle.worktree_fs.specs.Tree.{Node, Names, Level, Place, Jump, Spot, reached, missing, file, link, directory, other, none, child, is_directory, is_text, is_dot, is_dot_dot, is_nil, trail, enter, parent_place, root_of, start, resolve_from_node, walking, along, behind, spot}
 use Rattle.worktree_fs.specs.ByNames.{node_at}
-use Rattle.worktree_fs.specs.Outlines.{outline, LeadsAlike, Apart}
+use Rattle.worktree_fs.specs.Outlines.{outline, LeadsAlike, AgreeExceptAt}
 use Rattle.worktree_fs.proofs.Routes.ByNames.{IsChain, IsPlaced, names_above, chain-child}
 
 -- the outline of a node that is no directory is that node
@@ -39,7 +39,7 @@ alike_directory (Some other) e = absurd (cc e)
 
 -- a path whose last component is that of a node ends at the node, where a last link is not followed
 ends_at : (jump : Jump) (follow : Bool) (place : Place) (name : List ℕ) (node : Node) (rest : List (List ℕ)) → follow ≡ false → rest ≡ []
-    → onward (walking (λ s. along jump follow s rest) jump follow) place rest name (Some node) ≡ reached (name ∷ trail place) node
+    → resolve_from_node (walking (λ s. along jump follow s rest) jump follow) place rest name (Some node) ≡ reached (name ∷ trail place) node
 ends_at jump true place name node rest stays ended = absurd (cc stays)
 ends_at jump false place name (file bytes) [] stays ended = refl
 ends_at jump false place name (link target) [] stays ended = refl
@@ -89,27 +89,27 @@ module _ (at : List (List ℕ)) (there : Node) (without beside : Names) (follow 
 
   module _ (jump : Jump) (jumps : Jumps jump) where
     through : (rest : List (List ℕ)) → Goes jump rest → (p q : Place) → Pair without beside p q → (name : List ℕ) (a b : Option Node) → child p.here name ≡ a → child q.here name ≡ b → option_map outline a ≡ option_map outline b
-        → LeadsAlike follow at there (onward (walking (λ s. along jump follow s rest) jump follow) p rest name a) (onward (walking (λ s. along jump follow s rest) jump follow) q rest name b)
+        → LeadsAlike follow at there (resolve_from_node (walking (λ s. along jump follow s rest) jump follow) p rest name a) (resolve_from_node (walking (λ s. along jump follow s rest) jump follow) q rest name b)
     through rest goes p q pair name None b c d e =
-        subst (λ (o : Option Node). LeadsAlike follow at there (missing (name ∷ trail p) rest) (onward (walking (λ s. along jump follow s rest) jump follow) q rest name o)) (sym (alike_none b e))
+        subst (λ (o : Option Node). LeadsAlike follow at there (missing (name ∷ trail p) rest) (resolve_from_node (walking (λ s. along jump follow s rest) jump follow) q rest name o)) (sym (alike_none b e))
         (inr (ap (λ (names : List (List ℕ)). missing (name ∷ names) rest) pair.same))
     through rest goes p q pair name (Some (directory names)) b c d e =
         let inner = alike_directory b e in
-        subst (λ (o : Option Node). LeadsAlike follow at there (along jump follow (enter p name names) rest) (onward (walking (λ s. along jump follow s rest) jump follow) q rest name o)) (sym inner.1)
+        subst (λ (o : Option Node). LeadsAlike follow at there (along jump follow (enter p name names) rest) (resolve_from_node (walking (λ s. along jump follow s rest) jump follow) q rest name o)) (sym inner.1)
         (goes (enter p name names) (enter q name inner.0) (record { first = (c, pair.first); second = (d ∙ inner.1, pair.second); same = ap (λ (l : List (List ℕ)). name ∷ l) pair.same }))
     through rest goes p q pair name (Some (link target)) b c d e =
-        subst (λ (o : Option Node). LeadsAlike follow at there (onward (walking (λ s. along jump follow s rest) jump follow) p rest name (Some (link target))) (onward (walking (λ s. along jump follow s rest) jump follow) q rest name o)) (sym (alike_leaf (link target) refl b e))
+        subst (λ (o : Option Node). LeadsAlike follow at there (resolve_from_node (walking (λ s. along jump follow s rest) jump follow) p rest name (Some (link target))) (resolve_from_node (walking (λ s. along jump follow s rest) jump follow) q rest name o)) (sym (alike_leaf (link target) refl b e))
         (either (follow || not (is_nil rest)) _ _ _ _ (jumps p q pair target rest) (to_leaf p q pair name (link target)))
     through rest goes p q pair name (Some (file bytes)) b c d e =
-        subst (λ (o : Option Node). LeadsAlike follow at there (onward (walking (λ s. along jump follow s rest) jump follow) p rest name (Some (file bytes))) (onward (walking (λ s. along jump follow s rest) jump follow) q rest name o)) (sym (alike_leaf (file bytes) refl b e))
+        subst (λ (o : Option Node). LeadsAlike follow at there (resolve_from_node (walking (λ s. along jump follow s rest) jump follow) p rest name (Some (file bytes))) (resolve_from_node (walking (λ s. along jump follow s rest) jump follow) q rest name o)) (sym (alike_leaf (file bytes) refl b e))
         (either (is_nil rest) _ _ _ _ (to_leaf p q pair name (file bytes)) (inr refl))
     through rest goes p q pair name (Some other) b c d e =
-        subst (λ (o : Option Node). LeadsAlike follow at there (onward (walking (λ s. along jump follow s rest) jump follow) p rest name (Some other)) (onward (walking (λ s. along jump follow s rest) jump follow) q rest name o)) (sym (alike_leaf other refl b e))
+        subst (λ (o : Option Node). LeadsAlike follow at there (resolve_from_node (walking (λ s. along jump follow s rest) jump follow) p rest name (Some other)) (resolve_from_node (walking (λ s. along jump follow s rest) jump follow) q rest name o)) (sym (alike_leaf other refl b e))
         (either (is_nil rest) _ _ _ _ (to_leaf p q pair name other) (inr refl))
 
-    module _ (apart : Apart at without beside) (gone : node_at (reverse at) (Some (directory without)) ≡ None) (has : node_at (reverse at) (Some (directory beside)) ≡ Some there) where
+    module _ (apart : AgreeExceptAt at without beside) (gone : node_at (reverse at) (Some (directory without)) ≡ None) (has : node_at (reverse at) (Some (directory beside)) ≡ Some there) where
       by_component : (rest : List (List ℕ)) → Goes jump rest → (p q : Place) → Pair without beside p q → (component : List ℕ)
-          → LeadsAlike follow at there (onward (walking (λ s. along jump follow s rest) jump follow) p rest component (child p.here component)) (onward (walking (λ s. along jump follow s rest) jump follow) q rest component (child q.here component))
+          → LeadsAlike follow at there (resolve_from_node (walking (λ s. along jump follow s rest) jump follow) p rest component (child p.here component)) (resolve_from_node (walking (λ s. along jump follow s rest) jump follow) q rest component (child q.here component))
       by_component rest goes p q pair component = elim (apart (component ∷ trail p)) [
         | inl is ↦
             let lost : child p.here component ≡ None = sym (chain-child without p.here p.above component (child p.here component) pair.first refl) ∙ ap (λ (l : List (List ℕ)). node_at (reverse l) (Some (directory without))) is ∙ gone in
@@ -117,8 +117,8 @@ module _ (at : List (List ℕ)) (there : Node) (without beside : Names) (follow 
             let met : child q.here component ≡ Some there = sym (chain-child beside q.here q.above component (child q.here component) pair.second refl) ∙ ap (λ (l : List (List ℕ)). node_at (reverse l) (Some (directory beside))) is_other ∙ has in
             inl (record {
               rest = rest;
-              is_missing = ap (λ (o : Option Node). onward (walking (λ s. along jump follow s rest) jump follow) p rest component o) lost ∙ ap (λ (l : List (List ℕ)). missing l rest) is;
-              ends = λ stays ended. ap (λ (o : Option Node). onward (walking (λ s. along jump follow s rest) jump follow) q rest component o) met ∙ ends_at jump follow q component there rest stays ended ∙ ap (λ (l : List (List ℕ)). reached l there) is_other;
+              is_missing = ap (λ (o : Option Node). resolve_from_node (walking (λ s. along jump follow s rest) jump follow) p rest component o) lost ∙ ap (λ (l : List (List ℕ)). missing l rest) is;
+              ends = λ stays ended. ap (λ (o : Option Node). resolve_from_node (walking (λ s. along jump follow s rest) jump follow) q rest component o) met ∙ ends_at jump follow q component there rest stays ended ∙ ap (λ (l : List (List ℕ)). reached l there) is_other;
             })
         | inr e ↦ through rest goes p q pair component (child p.here component) (child q.here component) refl refl (
             sym (ap (option_map outline) (chain-child without p.here p.above component (child p.here component) pair.first refl))
@@ -134,7 +134,7 @@ module _ (at : List (List ℕ)) (there : Node) (without beside : Names) (follow 
           (either (is_dot_dot component) _ _ _ _ (steps rest (parent_place p) (parent_place q) (pair_up p.here q.here p.above q.above pair.first pair.second pair.same))
           (by_component rest (steps rest) p q pair component))
 
-  module _ (apart : Apart at without beside) (gone : node_at (reverse at) (Some (directory without)) ≡ None) (has : node_at (reverse at) (Some (directory beside)) ≡ Some there) where
+  module _ (apart : AgreeExceptAt at without beside) (gone : node_at (reverse at) (Some (directory without)) ≡ None) (has : node_at (reverse at) (Some (directory beside)) ≡ Some there) where
     all_jumps : (links : ℕ) → Jumps (behind links follow)
     unfolding behind
     all_jumps zero p q pair target rest = inr refl

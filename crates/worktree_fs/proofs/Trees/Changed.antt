@@ -12,7 +12,7 @@ use Rattle.worktree_fs.specs.Naming.{IsTree}
 use Rattle.worktree_fs.specs.Grow.{grown, children_of, add_refusal, obstacle}
 use Rattle.worktree_fs.specs.Changes.{slashed, kept_last, make_answer, made_unless, with_directory, after_make, cut, remove_answer, after_remove}
 use Rattle.worktree_fs.specs.ByNames.{node_at, LeadsByNames, IsMissingIn}
-use Rattle.worktree_fs.specs.Outlines.{outline, outlined, LeadsAlike, Apart}
+use Rattle.worktree_fs.specs.Outlines.{outline, outlined, LeadsAlike, AgreeExceptAt}
 use Rattle.worktree_fs.specs.MadeAndRemoved.{Makes, Removes, AnswersInside, made_beside}
 use Rattle.worktree_fs.specs.Last.{Last, last_of}
 use Rattle.worktree_fs.proofs.Routes.ByNames.{spot-by_names, node_at-last, removed-gone, missing-free}
@@ -23,7 +23,7 @@ use Rattle.worktree_fs.proofs.Routes.MissingNames.{AreComponents, MissesName, mi
 use Rattle.worktree_fs.proofs.Routes.Slashed.{full_path-slashed}
 
 -- stays along names in either order
-reversed : (at : List (List ℕ)) (before now : Names) → ((names : List (List ℕ)) → Stays (reverse at) names (Some (directory before)) (Some (directory now))) → Apart at before now
+reversed : (at : List (List ℕ)) (before now : Names) → ((names : List (List ℕ)) → Stays (reverse at) names (Some (directory before)) (Some (directory now))) → AgreeExceptAt at before now
 reversed at before now stays names = elim (stays (reverse names)) [
   | inl is ↦ inl (sym (reverse-reverse names) ∙ ap reverse is ∙ reverse-reverse at)
   | inr e ↦ inr e
@@ -53,7 +53,7 @@ module _ (before : Names) (name : List ℕ) (below : List (List ℕ)) (here : Na
       ap (λ (n : Node). node_at (reverse (name ∷ below)) (Some n)) (sym grown_is)
       ∙ grown-there (reverse (name ∷ below)) (directory none) (Some (directory before))
 
-  pub made_apart : Apart (name ∷ below) before made
+  pub made_apart : AgreeExceptAt (name ∷ below) before made
   made_apart =
       reversed (name ∷ below) before made
       (λ names. subst (λ (n : Node). Stays (reverse (name ∷ below)) names (Some (directory before)) (Some n)) grown_is
@@ -263,8 +263,8 @@ removes-gone t path tree answer = go found.0 found.1 found.2 found.3 found.4
         let new : Names = after_remove t (spot t path false) in
         let is : children_of (Some (cut (reverse (name ∷ below)) (directory t))) ≡ new =
         sym (ap (after_remove t) was ∙ ap (λ b. if b then t else children_of (Some (cut (reverse (name ∷ below)) (directory t)))) leaf) in
-        let apart : Apart (name ∷ below) new t =
-        subst (λ (n : Names). Apart (name ∷ below) n t) is (reversed (name ∷ below) (children_of (Some (cut (reverse (name ∷ below)) (directory t)))) t (cut_apart (reverse (name ∷ below)) t node tree both.0 leaf)) in
+        let apart : AgreeExceptAt (name ∷ below) new t =
+        subst (λ (n : Names). AgreeExceptAt (name ∷ below) n t) is (reversed (name ∷ below) (children_of (Some (cut (reverse (name ∷ below)) (directory t)))) t (cut_apart (reverse (name ∷ below)) t node tree both.0 leaf)) in
         record {
           names = name ∷ below;
           node = node;

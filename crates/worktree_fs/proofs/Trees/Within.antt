@@ -2,7 +2,7 @@
 use Rattle.std.proofs.Common.{◌≡◌, ℕ, zero, suc, Bool, true, false, not, ◌||◌, List, [], ◌∷◌, ◌++◌, map, Option, Some, None, refl, subst, if◌then◌else◌}
 use Rattle.std.specs.List.{AllByRecursion}
 use Rattle.gitbase_core.specs.Path.{components}
-use Rattle.worktree_fs.specs.Tree.{Names, Node, Level, Place, Jump, Spot, reached, missing, nowhere, endless, look_at, look, found, file, link, directory, other, child, is_directory, is_text, is_dot, is_dot_dot, is_absolute, is_nil, trail, enter, parent_place, root_of, start, onward, walking, along, behind, resolve, spot}
+use Rattle.worktree_fs.specs.Tree.{Names, Node, Level, Place, Jump, Spot, reached, missing, nowhere, endless, look_at, look, found, file, link, directory, other, child, is_directory, is_text, is_dot, is_dot_dot, is_absolute, is_nil, trail, enter, parent_place, root_of, start, resolve_from_node, walking, along, behind, resolve, spot}
 
 module _ (P : Node → Type 0) (Q : List ℕ → Type 0) (leaf : (node : Node) → is_directory node ≡ false → P node) (inside : (names : Names) (name : List ℕ) (node : Node) → P (directory names) → child names name ≡ Some node → P node × Q name) where
   abbrev AllAbove : List Level → Type 0
@@ -51,7 +51,7 @@ module _ (P : Node → Type 0) (Q : List ℕ → Type 0) (leaf : (node : Node) �
   Goes follow jump rest = (place : Place) → IsPlace place → Leads (along jump follow place rest)
 
   through : (follow : Bool) (jump : Jump) → Jumps jump → (rest : List (List ℕ)) → Goes follow jump rest → (place : Place) → IsPlace place → (name : List ℕ) (o : Option Node)
-      → ((n : Node) → o ≡ Some n → P n × Q name) → Leads (onward (walking (λ p. along jump follow p rest) jump follow) place rest name o)
+      → ((n : Node) → o ≡ Some n → P n × Q name) → Leads (resolve_from_node (walking (λ p. along jump follow p rest) jump follow) place rest name o)
   through follow jump jumps rest goes place is name None of = in_trail place.above is.1
   through follow jump jumps rest goes place is name (Some (directory names)) of = let both = of (directory names) refl in goes (enter place name names) (both.0, (is.0, both.1, is.1))
   through follow jump jumps rest goes place is name (Some (link target)) of = either (follow || not (is_nil rest)) _ _ (jumps place target rest is) (leaf (link target) refl)
@@ -63,7 +63,7 @@ module _ (P : Node → Type 0) (Q : List ℕ → Type 0) (leaf : (node : Node) �
   steps follow jump jumps (component ∷ rest) place is = go (steps follow jump jumps rest) (is_dot component) (is_dot_dot component)
     where
       go : Goes follow jump rest → (dot up : Bool)
-          → Leads (if dot then along jump follow place rest else if up then along jump follow (parent_place place) rest else onward (walking (λ p. along jump follow p rest) jump follow) place rest component (child place.here component))
+          → Leads (if dot then along jump follow place rest else if up then along jump follow (parent_place place) rest else resolve_from_node (walking (λ p. along jump follow p rest) jump follow) place rest component (child place.here component))
       go goes true up = goes place is
       go goes false true = goes (parent_place place) (in_parent place.here place.above is.0 is.1)
       go goes false false = through follow jump jumps rest goes place is component (child place.here component) (λ n there. inside place.here component n is.0 there)

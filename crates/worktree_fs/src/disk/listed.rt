@@ -9,7 +9,7 @@ ghost use Rattle.worktree_fs.specs.Disk.{has_nul, is_unaskable, IsGiven, AreList
 ghost use Rattle.worktree_fs.specs.Naming.{AreNames, is_name};
 ghost use Rattle.worktree_fs.specs.Order.{path_cmp};
 
-use super::node::{asked_text, is_absent, look};
+use super::node::{is_absent, kind_at_path, path_for_system};
 use crate::composed::as_kept;
 use crate::names::{cut_once, is_dot, is_dot_dot, is_name};
 use crate::{ListError, NameList, NodeKind};
@@ -27,7 +27,7 @@ const BUFFER_LEN: usize = 32_768;
 const NAME_LIMIT: usize = 1_000_000;
 
 /// The names of a directory.
-pub fn listed(
+pub fn list_directory(
     rt: &HostRuntime,
     alloc: Global,
     composes: bool,
@@ -43,7 +43,7 @@ pub fn listed(
     ensures unaskable { IsTrue (is_unaskable path.now) → IsErrOf result ListError.OpenFault }
     ensures nowhere { IsTrue (has_nul path.now) → IsErrOf result ListError.Absent }
 {
-    let Ok(text) = asked_text(path, current) else {
+    let Ok(text) = path_for_system(path, current) else {
         return Err(ListError::OpenFault);
     };
     let Some(text) = text else {
@@ -87,7 +87,7 @@ fn open_error(
     if !is_absent(error) {
         return ListError::OpenFault;
     }
-    match look(rt, current, path, follow) {
+    match kind_at_path(rt, current, path, follow) {
         Ok(Some(NodeKind::Symlink)) | Ok(Some(NodeKind::File)) | Ok(Some(NodeKind::Untrackable)) =>
             { ListError::NotADirectory }
         Ok(Some(NodeKind::Directory)) => ListError::OpenFault,
@@ -222,7 +222,7 @@ fn in_order(_composes: bool, names: Vec<Bytes>) -> Option<NameList>
 {
     let mut names = names;
     names.sort_unstable_by(|a, b| compare(a, b));
-    if rises(&names) {
+    if is_strictly_ascending(&names) {
         Some(NameList::from_vec(names))
     } else {
         None
@@ -236,7 +236,7 @@ fn compare(a: &Bytes, b: &Bytes) -> Ordering
 }
 
 /// Whether each name is below the next.
-fn rises(names: &[Bytes]) -> bool
+fn is_strictly_ascending(names: &[Bytes]) -> bool
     ensures { IsTrue result ↔ IsStrictlySortedBy path_cmp names.now }
 {
     for i in 1..names.len() {

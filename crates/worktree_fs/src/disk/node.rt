@@ -84,7 +84,7 @@ fn is_relative(path: &str) -> bool
 /// # Errors
 ///
 /// - `Fault` exactly where std cannot ask the system for it.
-pub fn asked_text<'p>(path: &'p [u8], current: &str) -> Result<Option<&'p str>, ReadError>
+pub fn path_for_system<'p>(path: &'p [u8], current: &str) -> Result<Option<&'p str>, ReadError>
     ensures refused { IsTrue (is_unaskable path.now) → IsErrOf result ReadError.Fault }
     ensures wants_none { IsErrOf result ReadError.OutOfMemory → ⊥ }
     ensures askable { is_unaskable path.now ≡ false → IfErr result (λ _. ⊥) }
@@ -125,7 +125,7 @@ pub fn is_absent(error: &io::Error) -> bool
 
 /// The kind of the node at a path, where there is one.
 /// See docs/DIFFERENCES.md#gix-link-limit.
-pub fn look(
+pub fn kind_at_path(
     rt: &HostRuntime,
     current: &str,
     path: &[u8],
@@ -135,7 +135,7 @@ pub fn look(
     ensures unaskable { IsTrue (is_unaskable path.now) → IsErrOf result ReadError.Fault }
     ensures nowhere { IsTrue (has_nul path.now) → result ≡ Ok None }
 {
-    let Some(text) = asked_text(path, current)? else {
+    let Some(text) = path_for_system(path, current)? else {
         return Ok(None);
     };
     let metadata = if follow {
@@ -165,7 +165,7 @@ pub fn read_into(
     ensures unaskable { IsTrue (is_unaskable path.now) → IsErrOf result ReadError.Fault }
     ensures nowhere { IsTrue (has_nul path.now) → result ≡ Ok ReadAnswer.Absent }
 {
-    match look(rt, current, path, follow)? {
+    match kind_at_path(rt, current, path, follow)? {
         None => Ok(ReadAnswer::Absent),
         Some(NodeKind::Directory) => Ok(ReadAnswer::IsDirectory),
         Some(NodeKind::Symlink) if follow => Err(ReadError::Fault),
@@ -188,7 +188,7 @@ fn bytes_of(
 ) -> Result<Vec<u8>, ReadError>
     ensures { IfOk result (λ bytes. length bytes.items ≤ 2 ^ 30) }
 {
-    let Some(text) = asked_text(path, current)? else {
+    let Some(text) = path_for_system(path, current)? else {
         return Err(ReadError::Fault);
     };
     let Ok(file) = File::open(rt, text) else {
@@ -298,11 +298,11 @@ pub fn remove_node(rt: &HostRuntime, current: &str, path: &[u8]) -> Result<Remov
     ensures unaskable { IsTrue (is_unaskable path.now) → IsErrOf result ReadError.Fault }
     ensures nowhere { IsTrue (has_nul path.now) → result ≡ Ok RemoveAnswer.Absent }
 {
-    match look(rt, current, path, false)? {
+    match kind_at_path(rt, current, path, false)? {
         None => Ok(RemoveAnswer::Absent),
         Some(NodeKind::Directory) => Ok(RemoveAnswer::IsDirectory),
         Some(_) => {
-            let Some(text) = asked_text(path, current)? else {
+            let Some(text) = path_for_system(path, current)? else {
                 return Ok(RemoveAnswer::Absent);
             };
             match rt.remove_file(text) {

@@ -103,7 +103,7 @@ fn single(alloc: Global, name: &[u8], node: Stored) -> Result<Stored, OutOfMemor
 }
 
 /// Directories along a path, and a node at its end.
-fn chain(alloc: Global, path: &[u8], node: Stored) -> Result<Stored, OutOfMemory>
+fn build_directories_to(alloc: Global, path: &[u8], node: Stored) -> Result<Stored, OutOfMemory>
     requires names { AllByRecursion IsName (pieces path.now) }
     requires tree { IsTree node }
     ensures chain { IfOk result (λ made. made ≡ grown (pieces path.now) node None) }
@@ -111,7 +111,7 @@ fn chain(alloc: Global, path: &[u8], node: Stored) -> Result<Stored, OutOfMemory
 {
     match cut_once(path, b'/') {
         None => single(alloc, path, node),
-        Some((name, rest)) => single(alloc, name, chain(alloc, rest, node)?),
+        Some((name, rest)) => single(alloc, name, build_directories_to(alloc, rest, node)?),
     }
 }
 
@@ -146,7 +146,7 @@ pub fn add_in(
                 entry.node.add(alloc, rest, node)
             }
             Err(at) => {
-                let made = chain(alloc, rest, node)?;
+                let made = build_directories_to(alloc, rest, node)?;
                 Ok(put_at(entries, alloc, at, name, made)?)
             }
         },

@@ -1,7 +1,7 @@
 //! The resolution of a path, which keeps the way down to what it leads to, without memory of its
 //! own.
 ghost use Rattle.std.specs.Prelude.{◌≡◌, [], ◌∷◌, ◌++◌, Bool, Some, not, ◌&&◌, ◌*◌, ◌+◌, ◌^◌, ◌≤◌, ◌<◌, length, vec_len, vec_capacity, if◌then◌else◌};
-ghost use Rattle.worktree_fs.specs.Tree.{resolve, spot, parent_place, onward, walking, behind, is_nil};
+ghost use Rattle.worktree_fs.specs.Tree.{resolve, spot, parent_place, resolve_from_node, walking, behind, is_nil};
 ghost use Rattle.worktree_fs.specs.Stored.{names_in, AreSorted};
 ghost use Rattle.worktree_fs.specs.Way.{name_nth, node_nth, dir_nth, place_by, here_by, IsWay, StandsAt, TurnStands, turned, LeadsTo, depth_in};
 
@@ -100,16 +100,16 @@ fn take_component<'a>(
         return Turn::Into(dir);
     }
     if is_dot_dot(component) {
-        return Turn::Into(up(root, dir, way));
+        return Turn::Into(go_to_parent(root, dir, way));
     }
     match search(dir, component) {
-        Ok(at) => on(root, dir, at, &dir[at].node, route, follow, way),
+        Ok(at) => resolve_at_node(root, dir, at, &dir[at].node, route, follow, way),
         Err(_) => Turn::Missing(component),
     }
 }
 
 /// The directory above, or the root itself.
-fn up<'a>(root: &'a [Entry], dir: &'a [Entry], way: &mut Vec<usize>) -> &'a [Entry]
+fn go_to_parent<'a>(root: &'a [Entry], dir: &'a [Entry], way: &mut Vec<usize>) -> &'a [Entry]
     requires root { AreSorted root.now }
     requires stands { StandsAt root.now dir.now way.old.items }
     ensures parent { place_by (names_in root.now) way.new.items
@@ -152,7 +152,7 @@ pub fn directory_at(dir: &[Entry], at: usize) -> &[Entry]
 }
 
 /// Goes on from the node at a position of the directory at the end of the way.
-fn on<'a>(
+fn resolve_at_node<'a>(
     root: &'a [Entry],
     dir: &'a [Entry],
     at: usize,
@@ -166,7 +166,7 @@ fn on<'a>(
     requires room { depth_in (names_in root.now) ≤ vec_capacity way.old }
     requires there { at < length dir.now }
     requires node { node_nth (names_in dir.now) at ≡ node.now }
-    ensures leads { onward (walking (λ p. resolve route.old.links follow p route.old.left)
+    ensures leads { resolve_from_node (walking (λ p. resolve route.old.links follow p route.old.left)
         (behind route.old.links follow) follow)
         (place_by (names_in root.now) way.old.items) route.old.left
         (name_nth (names_in dir.now) at) (Some node.now)
@@ -186,10 +186,10 @@ fn on<'a>(
             if ends_here(route, follow) {
                 return Turn::Node(at);
             }
-            through(root, dir, target.as_bytes(), route, way)
+            follow_link(root, dir, target.as_bytes(), route, way)
         }
-        Inner::File(_) => leaf(at, route),
-        Inner::Other => leaf(at, route),
+        Inner::File(_) => end_at_leaf(at, route),
+        Inner::Other => end_at_leaf(at, route),
     }
 }
 
@@ -201,7 +201,7 @@ fn ends_here(route: &Route<'_>, follow: bool) -> bool
 }
 
 /// A node that is neither link nor directory ends the path, or nothing is behind it.
-fn leaf<'a>(at: usize, route: &Route<'_>) -> Turn<'a>
+fn end_at_leaf<'a>(at: usize, route: &Route<'_>) -> Turn<'a>
     ensures { result ≡ (if is_nil route.now.left then Turn.Node at else Turn.Nowhere) }
 {
     if route.is_done() {
@@ -224,7 +224,7 @@ fn go_down(way: &mut Vec<usize>, at: usize)
 }
 
 /// Follows a link of the directory at the end of the way.
-fn through<'a>(
+fn follow_link<'a>(
     root: &'a [Entry],
     dir: &'a [Entry],
     target: &'a [u8],

@@ -56,7 +56,11 @@ fn ownership_of(metadata: &Metadata) -> Ownership {
 }
 
 /// Who owns the node at a path, where there is one. Never answers `OutOfMemory`.
-fn asked(rt: &HostRuntime, path: &[u8], follow: bool) -> Result<Option<Ownership>, ReadError> {
+fn query_ownership(
+    rt: &HostRuntime,
+    path: &[u8],
+    follow: bool,
+) -> Result<Option<Ownership>, ReadError> {
     let Ok(text) = str::from_utf8(path) else {
         return Err(ReadError::Fault);
     };
@@ -79,7 +83,7 @@ impl<'a> Owners for DiskOwners<'a> {
 
     /// One call of the system.
     fn ownership(&mut self, path: &[u8], follow: bool) -> Result<Option<Ownership>, ReadError> {
-        let found = asked(self.rt, path, follow);
+        let found = query_ownership(self.rt, path, follow);
         if is_fault(&found) {
             self.faults = self.faults.saturating_add(1);
         }

@@ -1,6 +1,7 @@
 //! What the lines of a setup say together, line by line.
-ghost use Rattle.std.specs.Prelude.{◌≡◌, ◌++◌, ◌∷◌, [], map, IfOk, OnOk};
-ghost use Rattle.worktree_report.specs.SetupText.{taken};
+ghost use Rattle.std.specs.Prelude.{◌≡◌, ◌++◌, ◌∷◌, [], map, Some, IfOk, OnOk};
+ghost use Rattle.worktree_report.specs.declared.setup.line.SetupLine.TheVariants.{Sets};
+ghost use Rattle.worktree_report.specs.SetupText.{add_setup_line};
 ghost use Rattle.worktree_report.specs.SetupKeywords.{line_of};
 ghost use Rattle.worktree_report.specs.SetupParsed.{ReadGives};
 
@@ -59,20 +60,29 @@ fn add_rule(text: &mut Vec<u8>, rule: &[u8]) -> Result<(), OutOfMemory>
     Ok(())
 }
 
+/// What is said with one more option. None where it is set already.
+fn add_option(mut draft: Draft, option: SetupOption) -> Result<Option<Draft>, OutOfMemory>
+    ensures { IfOk result (λ next. next ≡ add_setup_line draft (Some (Sets option))) }
+{
+    if is_set(option.name.as_bytes(), &draft.options) {
+        return Ok(None);
+    }
+    draft.options.push(option)?;
+    Ok(Some(draft))
+}
+
 /// What is said with one more line. None where that is outside the grammar.
-fn taken(alloc: Global, mut draft: Draft, line: &[u8]) -> Result<Option<Draft>, OutOfMemory>
-    ensures { IfOk result (λ next. next ≡ taken draft (line_of line.now)) }
+fn add_setup_line(
+    alloc: Global,
+    mut draft: Draft,
+    line: &[u8],
+) -> Result<Option<Draft>, OutOfMemory>
+    ensures { IfOk result (λ next. next ≡ add_setup_line draft (line_of line.now)) }
 {
     match line_of(alloc, line)? {
         None => Ok(None),
         Some(SetupLine::Skipped) => Ok(Some(draft)),
-        Some(SetupLine::Sets(option)) => {
-            if is_set(option.name.as_bytes(), &draft.options) {
-                return Ok(None);
-            }
-            draft.options.push(option)?;
-            Ok(Some(draft))
-        }
+        Some(SetupLine::Sets(option)) => Ok(add_option(draft, option)?),
         Some(SetupLine::Indexes(entry)) => {
             if draft.index.error_of(&entry).is_some() {
                 return Ok(None);
@@ -125,7 +135,7 @@ pub fn read_lines(alloc: Global, lines: &[&[u8]]) -> Result<Draft, SetupError>
         configs: Vec::new(alloc),
     };
     for (i, line) in lines.iter().enumerate() {
-        match taken(alloc, draft, line)? {
+        match add_setup_line(alloc, draft, line)? {
             Some(next) => draft = next,
             None => return Err(SetupError::Line { line: i + 1 }),
         }

@@ -1,6 +1,6 @@
 //! The words of a line that spaces part.
 ghost use Rattle.std.specs.Prelude.{◌≡◌, ◌==◌, ◌<◌, length, position, option_map, IfSome};
-ghost use Rattle.worktree_report.specs.SetupFields.{parted};
+ghost use Rattle.worktree_report.specs.SetupFields.{split_at_first_space};
 ghost use Rattle.worktree_report.specs.SetupSeen.{seen};
 
 /// A word, and what is behind the space that ends it.
@@ -19,8 +19,8 @@ fn first_space(bytes: &[u8]) -> Option<usize>
 }
 
 /// The bytes before the first space, and those behind it. None where there is no space.
-pub fn parted(bytes: &[u8]) -> Option<Field<'_>>
-    ensures { option_map seen result ≡ parted bytes.now }
+pub fn split_at_first_space(bytes: &[u8]) -> Option<Field<'_>>
+    ensures { option_map seen result ≡ split_at_first_space bytes.now }
 {
     let Some(place) = first_space(bytes) else {
         return None;

@@ -4,7 +4,7 @@ ghost use Rattle.std.specs.FinMap.{empty};
 ghost use Rattle.worktree_report.specs.SetupFiles.{blob_of, stored_after, source_of, config_of};
 
 use crate::escape::unescaped;
-use crate::setup::field::parted;
+use crate::setup::field::split_at_first_space;
 use crate::setup::index_line::id_of;
 use git_config_lite::Source;
 use gitbase_core::{Bytes, MemoryStore, ObjectId, OutOfMemory, PathText, is_absolute};
@@ -24,7 +24,7 @@ pub struct SetupBlob {
 pub fn blob_of(alloc: Global, rest: &[u8]) -> Result<Option<SetupBlob>, OutOfMemory>
     ensures { IfOk result (λ given. given ≡ blob_of rest.now) }
 {
-    let Some(fields) = parted(rest) else {
+    let Some(fields) = split_at_first_space(rest) else {
         return Ok(None);
     };
     let Some(id) = id_of(fields.word) else {
@@ -40,7 +40,7 @@ pub fn blob_of(alloc: Global, rest: &[u8]) -> Result<Option<SetupBlob>, OutOfMem
 }
 
 /// A store of these blobs. Of two with one id the later stays.
-pub fn stored(alloc: Global, blobs: &[SetupBlob]) -> Result<MemoryStore, OutOfMemory>
+pub fn store_from_blobs(alloc: Global, blobs: &[SetupBlob]) -> Result<MemoryStore, OutOfMemory>
     ensures { IfOk result (λ store. store ≡ stored_after empty blobs.now) }
 {
     let mut store = MemoryStore::new(alloc);
@@ -78,7 +78,7 @@ fn source_of(word: &[u8]) -> Option<Source>
 pub fn config_of(alloc: Global, rest: &[u8]) -> Result<Option<(Source, PathText)>, OutOfMemory>
     ensures { IfOk result (λ named. named ≡ config_of rest.now) }
 {
-    let Some(fields) = parted(rest) else {
+    let Some(fields) = split_at_first_space(rest) else {
         return Ok(None);
     };
     let Some(source) = source_of(fields.word) else {

@@ -4,7 +4,7 @@ ghost use Rattle.worktree_report.specs.SetupIndex.{mode_of, stage_of, flags_of, 
 ghost use Rattle.worktree_report.specs.SetupSeen.{words_seen};
 
 use crate::escape::unescaped;
-use crate::setup::field::parted;
+use crate::setup::field::split_at_first_space;
 use gitbase_core::{Flags, IndexEntry, Mode, ObjectId, OutOfMemory};
 use std::alloc::Global;
 
@@ -92,16 +92,16 @@ pub fn id_of(word: &[u8]) -> Option<ObjectId>
 fn index_words(rest: &[u8]) -> Option<IndexWords<'_>>
     ensures { option_map words_seen result ≡ index_words rest.now }
 {
-    let Some(mode) = parted(rest) else {
+    let Some(mode) = split_at_first_space(rest) else {
         return None;
     };
-    let Some(stage) = parted(mode.rest) else {
+    let Some(stage) = split_at_first_space(mode.rest) else {
         return None;
     };
-    let Some(flags) = parted(stage.rest) else {
+    let Some(flags) = split_at_first_space(stage.rest) else {
         return None;
     };
-    let Some(id) = parted(flags.rest) else {
+    let Some(id) = split_at_first_space(flags.rest) else {
         return None;
     };
     Some(IndexWords {

@@ -5,7 +5,7 @@ ghost use Rattle.worktree_report.specs.SetupSeen.{seen};
 
 use crate::escape::unescaped;
 use crate::setup::depth::depth_of;
-use crate::setup::field::{Field, parted};
+use crate::setup::field::{Field, split_at_first_space};
 use crate::setup::files::{SetupBlob, blob_of, config_of};
 use crate::setup::index_line::index_entry;
 use crate::setup::option::{SetupOption, option_of};
@@ -167,7 +167,7 @@ pub fn line_of(alloc: Global, line: &[u8]) -> Result<Option<SetupLine>, OutOfMem
     if is_skipped(line) {
         return Ok(Some(SetupLine::Skipped));
     }
-    match parted(line) {
+    match split_at_first_space(line) {
         Some(fields) => keyword_line(alloc, fields),
         None => Ok(None),
     }

@@ -1,12 +1,12 @@
 //! What the lines of a setup mean together.
 ghost use Rattle.std.specs.Prelude.{◌≡◌, [], IfOk};
-ghost use Rattle.worktree_report.specs.SetupMeant.{emit_untracked_of, emit_ignored_of, emit_collapsed_of, for_deletion_of, ignore_source_of, permissions_of, strategy_of, looking_of, reporting_of, options_meant, value_of, depth_meant, ordered_after, meant};
+ghost use Rattle.worktree_report.specs.SetupMeant.{emit_untracked_of, emit_ignored_of, emit_collapsed_of, for_deletion_of, ignore_source_of, permissions_of, strategy_of, looking_of, reporting_of, options_meant, value_of, depth_meant, ordered_after, setup_from_draft};
 
 use crate::permissions::Permissions;
 use crate::setup::configs::Configs;
 use crate::setup::depth::depth_of;
 use crate::setup::draft::Draft;
-use crate::setup::files::stored;
+use crate::setup::files::store_from_blobs;
 use crate::setup::option::{SetupOption, is_set_to, option_named};
 use crate::setup::spec::specs_in;
 use crate::setup::{Setup, SetupOptions};
@@ -265,8 +265,8 @@ fn in_order(alloc: Global, paths: &[PathText]) -> Result<BTreeSet<PathText>, Out
 }
 
 /// The setup that the lines mean together.
-pub fn meant(alloc: Global, draft: Draft) -> Result<Setup, OutOfMemory>
-    ensures { IfOk result (λ setup. setup ≡ meant draft) }
+pub fn setup_from_draft(alloc: Global, draft: Draft) -> Result<Setup, OutOfMemory>
+    ensures { IfOk result (λ setup. setup ≡ setup_from_draft draft) }
 {
     let git_dir = path_of(alloc, b"git_dir", &draft.options)?;
     let current_dir = path_of(alloc, b"current_dir", &draft.options)?;
@@ -275,7 +275,7 @@ pub fn meant(alloc: Global, draft: Draft) -> Result<Setup, OutOfMemory>
     let options = options_meant(&draft.options);
     let specs = specs_in(alloc, options.ignore_case, &draft.specs)?;
     let worktrees = in_order(alloc, &draft.worktrees)?;
-    let blobs = stored(alloc, &draft.blobs)?;
+    let blobs = store_from_blobs(alloc, &draft.blobs)?;
     Ok(Setup {
         git_dir,
         current_dir,

@@ -1,9 +1,9 @@
 //! The options of a setup.
 ghost use Rattle.std.specs.Prelude.{◌≡◌, ◌&&◌, option_copied, IfOk};
 ghost use Rattle.std.specs.Str.{bytes_eq};
-ghost use Rattle.worktree_report.specs.SetupOptions.{is_looking, is_reporting, is_emission, is_collapsed_emission, is_deletion, is_ignore_source, is_permissions, is_strategy, may_go_by, may_be, option_of, is_set, is_set_to, option_named};
+ghost use Rattle.worktree_report.specs.SetupOptions.{is_classification_switch, is_reporting, is_emission, is_collapsed_emission, is_deletion, is_ignore_source, is_permissions, is_strategy, is_valid_source_or_strategy, is_valid_option_value, option_of, is_set, is_set_to, option_named};
 
-use crate::setup::field::parted;
+use crate::setup::field::split_at_first_space;
 use gitbase_core::{Bytes, OutOfMemory};
 use std::alloc::Global;
 
@@ -15,8 +15,8 @@ pub struct SetupOption {
 }
 
 /// Whether an option is no or yes, and says how paths are looked at.
-fn is_looking(name: &[u8]) -> bool
-    ensures { result ≡ is_looking name.now }
+fn is_classification_switch(name: &[u8]) -> bool
+    ensures { result ≡ is_classification_switch name.now }
 {
     name == b"excludes".as_slice()
         || name == b"precious".as_slice()
@@ -82,8 +82,8 @@ fn is_strategy(value: &[u8]) -> bool
 }
 
 /// Whether an option that says where files are read, or how subtrees are walked, may have a value.
-fn may_go_by(name: &[u8], value: &[u8]) -> bool
-    ensures { result ≡ may_go_by name.now value.now }
+fn is_valid_source_or_strategy(name: &[u8], value: &[u8]) -> bool
+    ensures { result ≡ is_valid_source_or_strategy name.now value.now }
 {
     if name == b"ignore_source".as_slice() {
         is_ignore_source(value)
@@ -95,10 +95,10 @@ fn may_go_by(name: &[u8], value: &[u8]) -> bool
 }
 
 /// Whether an option may have a value.
-fn may_be(name: &[u8], value: &[u8]) -> bool
-    ensures { result ≡ may_be name.now value.now }
+fn is_valid_option_value(name: &[u8], value: &[u8]) -> bool
+    ensures { result ≡ is_valid_option_value name.now value.now }
 {
-    if is_looking(name) || is_reporting(name) {
+    if is_classification_switch(name) || is_reporting(name) {
         value == b"no".as_slice() || value == b"yes".as_slice()
     } else if name == b"emit_untracked".as_slice() {
         is_emission(value)
@@ -109,7 +109,7 @@ fn may_be(name: &[u8], value: &[u8]) -> bool
     } else if name == b"for_deletion".as_slice() {
         value == b"no".as_slice() || is_deletion(value)
     } else {
-        may_go_by(name, value)
+        is_valid_source_or_strategy(name, value)
     }
 }
 
@@ -117,10 +117,10 @@ fn may_be(name: &[u8], value: &[u8]) -> bool
 pub fn option_of(alloc: Global, rest: &[u8]) -> Result<Option<SetupOption>, OutOfMemory>
     ensures { IfOk result (λ option. option ≡ option_of rest.now) }
 {
-    let Some(fields) = parted(rest) else {
+    let Some(fields) = split_at_first_space(rest) else {
         return Ok(None);
     };
-    if !may_be(fields.word, fields.rest) {
+    if !is_valid_option_value(fields.word, fields.rest) {
         return Ok(None);
     }
     Ok(Some(SetupOption {

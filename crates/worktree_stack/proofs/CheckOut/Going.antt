@@ -19,14 +19,14 @@ use Rattle.worktree_stack.specs.Checkout.{Prepared, IsOutcome, Changes}
 use Rattle.worktree_stack.specs.ChecksOut.{Halts, pushes_of}
 use Rattle.worktree_stack.specs.Asked.{asked_on}
 use Rattle.worktree_stack.specs.Counted.{counts_of}
-use Rattle.worktree_stack.specs.GoesOn.{Alters, Goes, PushesOut, with_mkdirs}
+use Rattle.worktree_stack.specs.GoesOn.{AltersWithoutListing, RunsCheckoutCalls, PushesOut, with_mkdirs}
 use Rattle.worktree_stack.specs.Lookups.{stepped}
 use Rattle.worktree_stack.specs.Making.{Way, WorksOn, checked_out, mkdirs, pushed_out, unchanged, without_mkdirs}
 use Rattle.worktree_stack.specs.Placed.{IsFileCut, IsBlobCut, IsMemoryCut}
 use Rattle.worktree_stack.specs.Reading.{RulesKind, of_attributes, of_ignore, readings_of}
 use Rattle.worktree_stack.specs.Refused.{RefusesAt, IsFileOf, IsBlobOf}
-use Rattle.worktree_stack.specs.SeenNames.{Sees, names_on}
-use Rattle.worktree_stack.specs.Setup.{Made}
+use Rattle.worktree_stack.specs.SeenNames.{AddsSeenNames, names_on}
+use Rattle.worktree_stack.specs.Setup.{StackSetup}
 use Rattle.worktree_stack.specs.Stacked.{Stacked, IsLevel, made_of}
 use Rattle.worktree_stack.specs.Steps.{HasTried, CarriesOut, IsStopped, IsStoppedAt, Stops, the_call}
 use Rattle.worktree_stack.proofs.Lookup.Asked.{asked-append, asked-front}
@@ -39,7 +39,7 @@ use Rattle.worktree_stack.proofs.Lookup.SeeingOn.{out-front, out-then, sees-unpu
 use Rattle.worktree_stack.proofs.CheckOut.Stepping.{carries-stepped}
 use Rattle.worktree_stack.proofs.CheckOut.Working.{AreUnpushed, unpushed-front, unmade-counts, read-untold, carries-unmade, works-unpushed, where-same}
 
-pub alters-then : {W : Type 0} (w : WorktreeOf W) (a b c : W) → Alters w a b → Alters w b c → Alters w a c
+pub alters-then : {W : Type 0} (w : WorktreeOf W) (a b c : W) → AltersWithoutListing w a b → AltersWithoutListing w b c → AltersWithoutListing w a c
 alters-then w a b c first second =
     record {
       untold = λ none. second.untold (first.untold none);
@@ -50,11 +50,11 @@ alters-then w a b c first second =
       precomposes = second.precomposes ∙ first.precomposes;
     }
 
-alters-asked : {W : Type 0} (w : WorktreeOf W) (a b : W) → Asks w a b → Alters w a b
+alters-asked : {W : Type 0} (w : WorktreeOf W) (a b : W) → Asks w a b → AltersWithoutListing w a b
 alters-asked w a b x =
     record { untold = λ none. x.tree ∙ none; faults = x.faults; list_faults = x.list_faults; reads = x.reads; lists = x.lists; precomposes = x.precomposes }
 
-alters-changed : {W : Type 0} (w : WorktreeOf W) (a b : W) → Changes w a b → Alters w a b
+alters-changed : {W : Type 0} (w : WorktreeOf W) (a b : W) → Changes w a b → AltersWithoutListing w a b
 alters-changed w a b x =
     record { untold = x.untold; faults = x.faults; list_faults = x.list_faults; reads = omega (arith, x.reads); lists = x.lists; precomposes = x.precomposes }
 
@@ -67,8 +67,8 @@ module _ {W F : Type 0} (w : WorktreeOf W) (f : FindOf F) (way : Way) (is_link p
 
   -- one step behind others that went through
   module _ {wa wb wc : W} {oa ob oc : F} {a b : List Call} {na nb : List (List ℕ)} {s0 s1 s2 : Stacked} where
-    pub goes-then : (r : Result (Unit {0}) AtPathError) → Goes w f wa wb oa ob way is_link protects a na s0 s1 (Ok tt) → Goes w f wb wc ob oc way is_link protects b nb s1 s2 r
-        → Goes w f wa wc oa oc way is_link protects (a ++ b) (na ++ nb) s0 s2 r
+    pub goes-then : (r : Result (Unit {0}) AtPathError) → RunsCheckoutCalls w f wa wb oa ob way is_link protects a na s0 s1 (Ok tt) → RunsCheckoutCalls w f wb wc ob oc way is_link protects b nb s1 s2 r
+        → RunsCheckoutCalls w f wa wc oa oc way is_link protects (a ++ b) (na ++ nb) s0 s2 r
     goes-then r first second =
         record {
           made = second.made ∙ first.made;
@@ -82,8 +82,8 @@ module _ {W F : Type 0} (w : WorktreeOf W) (f : FindOf F) (way : Way) (is_link p
           platforms = second.platforms ∙ first.platforms;
           levels = λ level. second.levels (first.levels level);
           sees = out-then w (f.holds oa) (f.holds ob) way (made_of s0) (made_of s1) a b (mkdirs s0) (mkdirs s1) s0.statistics s1.statistics s0.attributes s1.attributes s2.attributes r first.leaves_store.holds first.made first.works first.sees second.sees;
-          store_untouched = λ none. second.store_untouched (ap (λ (m : Made). m.mappings) first.made ∙ none) ∙ first.store_untouched none;
-          asked = omega (arith, first.asked, second.asked, ap (λ (m : Made). asked_on m b) first.made, asked-append (made_of s0) a b);
+          store_untouched = λ none. second.store_untouched (ap (λ (m : StackSetup). m.mappings) first.made ∙ none) ∙ first.store_untouched none;
+          asked = omega (arith, first.asked, second.asked, ap (λ (m : StackSetup). asked_on m b) first.made, asked-append (made_of s0) a b);
           alters = alters-then w wa wb wc first.alters second.alters;
           leaves_store = store-then f oa ob oc first.leaves_store second.leaves_store;
         }
@@ -108,7 +108,7 @@ module _ {W F : Type 0} (w : WorktreeOf W) (f : FindOf F) (way : Way) (is_link p
 
   -- what was refused has not come to the calls behind it
   pub goes-more : {w0 w1 : W} {o0 o1 : F} {calls : List Call} {names : List (List ℕ)} {old new : Stacked} (e : AtPathError) (more : List Call) (names' : List (List ℕ))
-      → Goes w f w0 w1 o0 o1 way is_link protects calls names old new (Err e) → Goes w f w0 w1 o0 o1 way is_link protects (calls ++ more) (names ++ names') old new (Err e)
+      → RunsCheckoutCalls w f w0 w1 o0 o1 way is_link protects calls names old new (Err e) → RunsCheckoutCalls w f w0 w1 o0 o1 way is_link protects (calls ++ more) (names ++ names') old new (Err e)
   goes-more {w0} {w1} {o0} {o1} {calls} {names} {old} {new} e more names' g =
       record {
         made = g.made;
@@ -130,13 +130,13 @@ module _ {W F : Type 0} (w : WorktreeOf W) (f : FindOf F) (way : Way) (is_link p
 
   -- the same of other calls and components, which are these
   pub goes-as : {w0 w1 : W} {o0 o1 : F} {calls calls' : List Call} {names names' : List (List ℕ)} {old new : Stacked} (r : Result (Unit {0}) AtPathError) → calls' ≡ calls → names' ≡ names
-      → Goes w f w0 w1 o0 o1 way is_link protects calls names old new r → Goes w f w0 w1 o0 o1 way is_link protects calls' names' old new r
+      → RunsCheckoutCalls w f w0 w1 o0 o1 way is_link protects calls names old new r → RunsCheckoutCalls w f w0 w1 o0 o1 way is_link protects calls' names' old new r
   goes-as {w0} {w1} {o0} {o1} {calls} {calls'} {names} {names'} {old} {new} r same also g =
-      subst (λ (c : List Call). Goes w f w0 w1 o0 o1 way is_link protects c names' old new r) (sym same)
-      (subst (λ (n : List (List ℕ)). Goes w f w0 w1 o0 o1 way is_link protects calls n old new r) (sym also) g)
+      subst (λ (c : List Call). RunsCheckoutCalls w f w0 w1 o0 o1 way is_link protects c names' old new r) (sym same)
+      (subst (λ (n : List (List ℕ)). RunsCheckoutCalls w f w0 w1 o0 o1 way is_link protects calls n old new r) (sym also) g)
 
   -- nothing is done
-  pub goes-nothing : (w0 : W) (o0 : F) (s : Stacked) → Goes w f w0 w0 o0 o0 way is_link protects [] [] s s (Ok tt)
+  pub goes-nothing : (w0 : W) (o0 : F) (s : Stacked) → RunsCheckoutCalls w f w0 w0 o0 o0 way is_link protects [] [] s s (Ok tt)
   goes-nothing w0 o0 s =
       let carried : CarriesOut None None [] (without_mkdirs s) (without_mkdirs s) = carries-none None None (without_mkdirs s) (without_mkdirs s) refl refl refl in
       record {
@@ -158,10 +158,10 @@ module _ {W F : Type 0} (w : WorktreeOf W) (f : FindOf F) (way : Way) (is_link p
       }
 
   -- the deepest directory is current then
-  pub goes-left : {w0 w1 : W} {o0 o1 : F} {calls : List Call} {names : List (List ℕ)} {old mid new : Stacked} → Goes w f w0 w1 o0 o1 way is_link protects calls names old mid (Ok tt)
-      → new ≡ record mid { current = deepest_names mid.at } → Goes w f w0 w1 o0 o1 way is_link protects calls names old new (Ok tt)
+  pub goes-left : {w0 w1 : W} {o0 o1 : F} {calls : List Call} {names : List (List ℕ)} {old mid new : Stacked} → RunsCheckoutCalls w f w0 w1 o0 o1 way is_link protects calls names old mid (Ok tt)
+      → new ≡ record mid { current = deepest_names mid.at } → RunsCheckoutCalls w f w0 w1 o0 o1 way is_link protects calls names old new (Ok tt)
   goes-left {w0} {w1} {o0} {o1} {calls} {names} {old} {mid} {new} g left =
-      let there : Goes w f w0 w1 o0 o1 way is_link protects calls names old (record mid { current = deepest_names mid.at }) (Ok tt) =
+      let there : RunsCheckoutCalls w f w0 w1 o0 o1 way is_link protects calls names old (record mid { current = deepest_names mid.at }) (Ok tt) =
       record {
         made = g.made;
         carried = carries-left None None calls (without_mkdirs old) (without_mkdirs mid) (without_mkdirs (record mid { current = deepest_names mid.at })) g.carried refl;
@@ -179,7 +179,7 @@ module _ {W F : Type 0} (w : WorktreeOf W) (f : FindOf F) (way : Way) (is_link p
         alters = g.alters;
         leaves_store = g.leaves_store;
       } in
-      subst (λ (s : Stacked). Goes w f w0 w1 o0 o1 way is_link protects calls names old s (Ok tt)) (sym left) there
+      subst (λ (s : Stacked). RunsCheckoutCalls w f w0 w1 o0 o1 way is_link protects calls names old s (Ok tt)) (sym left) there
 
   -- ---- calls that push no component
 
@@ -249,10 +249,10 @@ module _ {W F : Type 0} (w : WorktreeOf W) (f : FindOf F) (way : Way) (is_link p
     pub goes-unpushed : (r : Result (Unit {0}) AtPathError) → made_of new ≡ made_of old → OnOk r (CarriesOut (w.told w0) (f.holds o0) calls old new)
         → IfErr r (Stops (w.told w0) (f.holds o0) (Increased (w.faults w0) (w.faults w1)) (Increased (f.faults o0) (f.faults o1)) calls old new)
         → mkdirs new ≡ mkdirs old → new.is_dir ≡ old.is_dir → new.is_answered ≡ old.is_answered → new.statistics.platforms ≡ old.statistics.platforms → (IsLevel old → IsLevel new)
-        → Sees (w.told w0) (f.holds o0) (λ s. names_on (made_of old) s calls) old.attributes new.attributes r
+        → AddsSeenNames (w.told w0) (f.holds o0) (λ s. names_on (made_of old) s calls) old.attributes new.attributes r
         → ((made_of old).mappings ≡ [] → o1 ≡ o0)
         → w.reads w1 ≤ w.reads w0 + asked_on (made_of old) calls
-        → Goes w f w0 w1 o0 o1 way is_link protects calls [] old new r
+        → RunsCheckoutCalls w f w0 w1 o0 o1 way is_link protects calls [] old new r
     goes-unpushed r made carried stopped n is_dir answered platforms levels seen untouched asked =
         record {
           made = made;
@@ -299,7 +299,7 @@ module _ {W F : Type 0} (w : WorktreeOf W) (f : FindOf F) (way : Way) (is_link p
         subst (λ (p : Prepared). IsOutcome p (w.told w1) (mkdirs new) makes.Made) (sym (where-same here here.answer)) is
 
     pub goes-pushed : {w0 w1 : W} (r : Result (Unit {0}) AtPathError) → PushesOut w w0 w1 way is_link protects name is_last old new r
-        → Goes w f w0 w1 o0 o0 way is_link protects (push (spelled (deepest_names old.at ++ name ∷ [])) is_last ∷ []) (name ∷ []) old new r
+        → RunsCheckoutCalls w f w0 w1 o0 o0 way is_link protects (push (spelled (deepest_names old.at ++ name ∷ [])) is_last ∷ []) (name ∷ []) old new r
     goes-pushed {w0} {w1} (Ok tt) p =
         let onto : (P : Stacked → Type 0) → P (with_mkdirs (stepped old name) (mkdirs new)) → P new = λ P x. subst P (sym p.passed) x in
         record {

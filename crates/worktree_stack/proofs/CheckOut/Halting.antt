@@ -12,7 +12,7 @@ use Rattle.worktree_stack.specs.declared.statistics.Statistics.{Statistics}
 use Rattle.worktree_stack.specs.ChecksOut.{AreFine, Halts, HasPassed, pushes_of}
 use Rattle.worktree_stack.specs.Making.{Way, WorksOn, mkdirs, without_mkdirs}
 use Rattle.worktree_stack.specs.Refused.{RefusesAt}
-use Rattle.worktree_stack.specs.Setup.{Made}
+use Rattle.worktree_stack.specs.Setup.{StackSetup}
 use Rattle.worktree_stack.specs.Stacked.{Stacked, made_of}
 use Rattle.worktree_stack.specs.Steps.{HasRead, HasTried, CarriesOut, IsStopped, the_call}
 use Rattle.worktree_stack.proofs.Lookup.Carrying.{read-then, stopped-after}
@@ -128,13 +128,13 @@ module _ {W F : Type 0} (w : WorktreeOf W) (f : FindOf F) (way : Way) (is_link p
     read-behind : (done : List Call) (s : Statistics) → HasRead None None (made_of s1) done s1.statistics s → HasRead None None (made_of s0) (a ++ done) s0.statistics s
     read-behind done s read =
         read-then None None (made_of s0) a done s0.statistics s1.statistics s (plain-read None None (made_of s0) a s0 s1 carried.read)
-        (subst (λ (m : Made). HasRead None None m done s1.statistics s) made-same read)
+        (subst (λ (m : StackSetup). HasRead None None m done s1.statistics s) made-same read)
 
     pub works-behind : {wd : W} (done : List Call) (n : ℕ) (s : Statistics) → WorksOn w wb wd holds way done (made_of s1) (mkdirs s1) n s1.statistics s
         → WorksOn w wa wd holds way (a ++ done) (made_of s0) (mkdirs s0) n s0.statistics s
     works-behind {wd} done n s next =
         works-then w holds way (made_of s0) a done (mkdirs s0) (mkdirs s1) n s0.statistics s1.statistics s works
-        (subst (λ (m : Made). WorksOn w wb wd holds way done m (mkdirs s1) n s1.statistics s) made-same next)
+        (subst (λ (m : StackSetup). WorksOn w wb wd holds way done m (mkdirs s1) n s1.statistics s) made-same next)
 
     pub halts-then : {wc : W} (TF TF' SF SF' : Type 0) → (TF → TF') → (SF → SF') → w.faults wa ≤ w.faults wb → w.precomposes wb ≡ w.precomposes wa → (na nb : List (List ℕ)) → AreFine is_link protects na → pushes_of a ≡ length na
         → (e : AtPathError) → Halts w wb wc holds way is_link protects TF SF b nb s1 s2 e → Halts w wa wc holds way is_link protects TF' SF' (a ++ b) (na ++ nb) s0 s2 e
@@ -165,8 +165,8 @@ module _ {W F : Type 0} (w : WorktreeOf W) (f : FindOf F) (way : Way) (is_link p
           passed = passed-then is_link protects na nb a h.done h.behind fine many h.passed;
           read = read-behind h.done h.before h.read;
           works = works-behind h.done (mkdirs s2) h.before h.works;
-          tried = subst (λ (m : Made). HasTried (w.told wc) holds m h.directory h.before s2.statistics e) made-same h.tried;
-          refused = weaker h.directory e (subst (λ (m : Made). RefusesAt (w.told wc) holds TF SF m h.directory e) made-same h.refused);
+          tried = subst (λ (m : StackSetup). HasTried (w.told wc) holds m h.directory h.before s2.statistics e) made-same h.tried;
+          refused = weaker h.directory e (subst (λ (m : StackSetup). RefusesAt (w.told wc) holds TF SF m h.directory e) made-same h.refused);
         }))
       where
         weaker : (d : List ℕ) (e : AtPathError) → RefusesAt (w.told wc) holds TF SF (made_of s0) d e → RefusesAt (w.told wc) holds TF' SF' (made_of s0) d e

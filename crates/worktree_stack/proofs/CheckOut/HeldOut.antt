@@ -14,9 +14,9 @@ use Rattle.worktree_stack.specs.Checkout.{Prepared, IsOutcome}
 use Rattle.worktree_stack.specs.GoesOn.{with_mkdirs}
 use Rattle.worktree_stack.specs.HeldOut.{AddsOut, AreLowest, AreReadOut, HoldsOut, lists_out}
 use Rattle.worktree_stack.specs.Lookups.{stepped}
-use Rattle.worktree_stack.specs.Making.{Way, WorksOn, checked_out, mkdirs, pushed_out, unchanged, where_made}
+use Rattle.worktree_stack.specs.Making.{Way, WorksOn, checked_out, mkdirs, pushed_out, unchanged, next_if_made}
 use Rattle.worktree_stack.specs.Reading.{Sources, Tells, lists_at, lists_if}
-use Rattle.worktree_stack.specs.Setup.{HeldAttributes, Made, lists_of, pop_lists, without_highest, without_info}
+use Rattle.worktree_stack.specs.Setup.{HeldAttributes, StackSetup, lists_of, pop_lists, without_highest, without_info}
 use Rattle.worktree_stack.specs.Stacked.{Stacked, PushesLists, made_of}
 
 -- ---- what is dropped
@@ -44,7 +44,7 @@ lowest-popped d (Some held) =
 
 -- ---- what is pushed
 
-module _ (made : Made) (way : Way) (objects : Objects) where
+module _ (made : StackSetup) (way : Way) (objects : Objects) where
   lists-append : (p : Prepared) (a b : List Call) → (checked_out way p a).answer ≡ makes.Made
       → lists_out made way objects p (a ++ b) ≡ lists_out made way objects p a ++ lists_out made way objects (checked_out way p a) b
   lists-append p [] b is = refl
@@ -53,8 +53,8 @@ module _ (made : Made) (way : Way) (objects : Objects) where
     where
       go : (here : Prepared) (answer : MakeAnswer) → here.answer ≡ answer
           → ((checked_out way here a).answer ≡ makes.Made → lists_out made way objects here (a ++ b) ≡ lists_out made way objects here a ++ lists_out made way objects (checked_out way here a) b)
-          → (where_made here (checked_out way here a) answer).answer ≡ makes.Made
-          → lists_out made way objects here (a ++ b) ≡ lists_out made way objects here a ++ lists_out made way objects (where_made here (checked_out way here a) answer) b
+          → (next_if_made here (checked_out way here a) answer).answer ≡ makes.Made
+          → lists_out made way objects here (a ++ b) ≡ lists_out made way objects here a ++ lists_out made way objects (next_if_made here (checked_out way here a) answer) b
       go here makes.Made e more is = more is
       go here makes.Exists e more is = absurd (cc (sym e ∙ is))
       go here makes.NoParent e more is = absurd (cc (sym e ∙ is))
@@ -75,8 +75,8 @@ module _ (made : Made) (way : Way) (objects : Objects) where
     where
       go : (here : Prepared) (answer : MakeAnswer) → here.answer ≡ answer
           → ((checked_out way here a).answer ≡ makes.Made → AreReadOut made way objects here a → AreReadOut made way objects (checked_out way here a) b → AreReadOut made way objects here (a ++ b))
-          → (where_made here (checked_out way here a) answer).answer ≡ makes.Made
-          → AreReadOut made way objects here a → AreReadOut made way objects (where_made here (checked_out way here a) answer) b → AreReadOut made way objects here (a ++ b)
+          → (next_if_made here (checked_out way here a) answer).answer ≡ makes.Made
+          → AreReadOut made way objects here a → AreReadOut made way objects (next_if_made here (checked_out way here a) answer) b → AreReadOut made way objects here (a ++ b)
       go here makes.Made e more is first second = more is first second
       go here makes.Exists e more is first second = absurd (cc (sym e ∙ is))
       go here makes.NoParent e more is first second = absurd (cc (sym e ∙ is))
@@ -91,7 +91,7 @@ pub same-outcome : (p : Prepared) (calls : ℕ) → makes.Made ≡ p.answer → 
 same-outcome p calls answer counted = ap (λ (a : MakeAnswer). record { answer = a; tree = p.tree; calls = p.calls }) (sym answer) ∙ ap (unchanged p.tree) (sym counted)
 
 -- what was pushed on a way and then on another
-pub adds-then : {W : Type 0} (w : WorktreeOf W) {wa wb : W} (holds : Option Objects) (way : Way) (made : Made) (a b : List Call) (n0 n1 : ℕ) (s0 s1 : Statistics) (h0 h1 h2 : Option HeldAttributes)
+pub adds-then : {W : Type 0} (w : WorktreeOf W) {wa wb : W} (holds : Option Objects) (way : Way) (made : StackSetup) (a b : List Call) (n0 n1 : ℕ) (s0 s1 : Statistics) (h0 h1 h2 : Option HeldAttributes)
     → WorksOn w wa wb holds way a made n0 n1 s0 s1 → (s : Sources) → Tells (w.told wa) holds s → AddsOut made way n0 s a h0 h1
     → ((after : Sources) → Tells (w.told wb) holds after → AddsOut made way n1 after b h1 h2) → AddsOut made way n0 s (a ++ b) h0 h2
 adds-then w {wa} {wb} holds way made a b n0 n1 s0 s1 h0 h1 h2 works s tells first second =
@@ -126,7 +126,7 @@ adds-step way s old mid new name count passed pushed =
     }
 
 -- no directory more is pushed
-pub adds-same : (made : Made) (way : Way) (count : ℕ) (s : Sources) (calls : List Call) (h0 h1 : Option HeldAttributes) → AreReadOut made way s.objects (unchanged s.tree count) calls
+pub adds-same : (made : StackSetup) (way : Way) (count : ℕ) (s : Sources) (calls : List Call) (h0 h1 : Option HeldAttributes) → AreReadOut made way s.objects (unchanged s.tree count) calls
     → lists_out made way s.objects (unchanged s.tree count) calls ≡ [] → h1 ≡ h0 → AddsOut made way count s calls h0 h1
 adds-same made way count s calls h0 h1 read none same =
     record { read = read; lists = ap lists_of same ∙ sym (append-nil (lists_of h0)) ∙ ap (λ (l : List AttributeList). lists_of h0 ++ l) (sym none) }
@@ -161,7 +161,7 @@ always (Err e) p = tt
 -- ---- a whole lookup
 
 -- the root is pushed, then what is too deep is popped, and the rest is pushed
-pub holds-whole : (made : Made) (way : Way) (count : ℕ) (s : Sources) (at : Option (List (List ℕ))) (n : ℕ) (below : List Call) (h0 h1 h2 h3 : Option HeldAttributes)
+pub holds-whole : (made : StackSetup) (way : Way) (count : ℕ) (s : Sources) (at : Option (List (List ℕ))) (n : ℕ) (below : List Call) (h0 h1 h2 h3 : Option HeldAttributes)
     → AddsOut made way count s (root_calls at) h0 h1 → AreLowest (lists_of h2) (lists_of h1) → (at ≡ None → lists_of h2 ≡ lists_of h1) → AddsOut made way count s below h2 h3
     → HoldsOut made way count s (root_calls at ++ replicate n pop_directory ++ below) h0 h3
 holds-whole made way count s None n below h0 h1 h2 h3 rooted dropped same added =

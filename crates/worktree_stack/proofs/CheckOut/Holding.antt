@@ -10,9 +10,9 @@ use Rattle.worktree_fs.specs.Tree.{Names, reached, directory, none, look, look_a
 use Rattle.worktree_fs.proofs.Paths.Spelled.{component_from}
 use Rattle.worktree_stack.specs.Checkout.{IsReplaced, LeadsToDirectory}
 use Rattle.worktree_stack.specs.ChecksOut.{AreReadSame, AreThere, IsPlain, IsThere, ReadSame}
-use Rattle.worktree_stack.specs.GoesOn.{IsAtHand, IsFresh, IsLater, Keeping, Kept}
+use Rattle.worktree_stack.specs.GoesOn.{IsAtHand, IsFresh, IsLater, HoldsForLaterTree, HoldsForPresentTree}
 use Rattle.worktree_stack.specs.Reading.{Sources, texts_of, places_of, readings_of, reading, is_read}
-use Rattle.worktree_stack.specs.Setup.{HeldAttributes, Held, Made, lists_of, setup_of}
+use Rattle.worktree_stack.specs.Setup.{HeldAttributes, Held, StackSetup, lists_of, setup_of}
 use Rattle.worktree_stack.specs.Stacked.{HoldsFor, PushesLists, pushed}
 use Rattle.worktree_stack.proofs.Rules.FreshRules.{fresh-same}
 use Rattle.worktree_stack.proofs.CheckOut.LaterTrees.{Lost, in-fresh, later-made, later-refl, later-then, lost-leads, lost-removed, snoc-front, there-later}
@@ -41,13 +41,13 @@ last-normal (n ∷ names) name e = last-normal names name (go (is_dots n) (list_
     go false b e = e
     go true b e = absurd (cc e)
 
-unread : (made : Made) (s : Sources) (d : List ℕ) → is_read (reading made s d) ≡ true → is_read (texts_of s (readings_of made d)) ≡ true
+unread : (made : StackSetup) (s : Sources) (d : List ℕ) → is_read (reading made s d) ≡ true → is_read (texts_of s (readings_of made d)) ≡ true
 unfolding reading
 unread made s d read = read
 
 -- ---- a step
 
-module _ (made : Made) (s0 : Sources) (alone : made.ignore ≡ None) where
+module _ (made : StackSetup) (s0 : Sources) (alone : made.ignore ≡ None) where
   same-split : (t1 : Names) (a b : List (List (List ℕ))) → AreReadSame made s0.tree t1 (a ++ b) → AreReadSame made s0.tree t1 a × AreReadSame made s0.tree t1 b
   same-split t1 [] b same = (tt, same)
   same-split t1 (names ∷ a) b same = let x = same-split t1 a b same.1 in ((same.0, x.0), x.1)
@@ -57,19 +57,19 @@ module _ (made : Made) (s0 : Sources) (alone : made.ignore ≡ None) where
   there-both root t (names ∷ a) b x y = (x.0, there-both root t a b x.1 y)
 
   -- what is held holds for the tree that is there now
-  pub kept-now : (t : Names) (at : Option (List (List ℕ))) (attributes : Option HeldAttributes) (ignore : Option Held) → Keeping made s0 t at attributes ignore → Kept made s0 t at attributes ignore
+  pub kept-now : (t : Names) (at : Option (List (List ℕ))) (attributes : Option HeldAttributes) (ignore : Option Held) → HoldsForLaterTree made s0 t at attributes ignore → HoldsForPresentTree made s0 t at attributes ignore
   kept-now t at attributes ignore k =
       record { holds = λ end objects is same. k.holds end objects (λ changed. subst (λ (x : Names). IsLater t x) (sym is) (later-refl t)) same; there = k.there }
 
   -- a stack that is in step with the tree before anything is changed
   pub keeping-first : (at : Option (List (List ℕ))) (attributes : Option HeldAttributes) (ignore : Option Held) → setup_of ignore ≡ None → HoldsFor made s0 (pushed at) attributes ignore → AreThere made.root s0.tree (pushed at)
-      → Keeping made s0 s0.tree at attributes ignore
+      → HoldsForLaterTree made s0 s0.tree at attributes ignore
   keeping-first at attributes ignore free holds there =
       record { changed = false; at_hand = refl; holds = λ end objects later same. holds-same s0 end objects made (pushed at) attributes ignore free same holds; there = there }
 
   module _ (unlinks : Bool) (t t1 : Names) (names : List (List ℕ)) (name : List ℕ) (are : gitbase.AreNames (names ++ name ∷ [])) (normal : list_any is_dots (names ++ name ∷ []) ≡ false)
       (sure : (unlinks ≡ true → IsPlain s0.tree made.root) ⊎ LeadsToDirectory t1 (full_path made.root (spelled (names ++ name ∷ []))))
-      (attributes : Option HeldAttributes) (ignore : Option Held) (k : Keeping made s0 t (Some names) attributes ignore)
+      (attributes : Option HeldAttributes) (ignore : Option Held) (k : HoldsForLaterTree made s0 t (Some names) attributes ignore)
       (replaced : IsReplaced unlinks (full_path made.root (spelled (names ++ name ∷ []))) t t1) where
     dots : is_dots name ≡ false
     dots = last-normal names name normal
@@ -116,7 +116,7 @@ module _ (made : Made) (s0 : Sources) (alone : made.ignore ≡ None) where
             )
 
     -- the step is refused
-    pub kept-step : Kept made s0 t1 (Some names) attributes ignore
+    pub kept-step : HoldsForPresentTree made s0 t1 (Some names) attributes ignore
     kept-step =
         let x = kept-there k.changed k.at_hand in
         record { holds = λ end objects is same. k.holds end objects (λ changed. subst (λ (y : Names). IsLater t y) (sym is) (x.0 changed)) same; there = x.1 }
@@ -144,7 +144,7 @@ module _ (made : Made) (s0 : Sources) (alone : made.ignore ≡ None) where
           (lists.lists ∙ ap (λ (l : List AttributeList). lists_of attributes ++ l) (lists-same now end objects made (names ++ name ∷ []) read))
           (rules-none made end (fronts (names ++ name ∷ [])) ignore1 none1)
 
-      pub keeping-step : Keeping made s0 t1 (Some (names ++ name ∷ [])) attributes1 ignore1
+      pub keeping-step : HoldsForLaterTree made s0 t1 (Some (names ++ name ∷ [])) attributes1 ignore1
       keeping-step = elim replaced [
         | inl same ↦ stayed k.changed k.at_hand k.holds same
         | inr (inl makes) ↦ anew (λ end objects later same. k.holds end objects (λ changed. later-then t t1 end.tree (later-made makes) later) same) makes.names makes.is
@@ -159,7 +159,7 @@ module _ (made : Made) (s0 : Sources) (alone : made.ignore ≡ None) where
 
           stayed : (changed : Bool) → IsAtHand changed made.root s0.tree t (Some names)
               → ((end : Sources) → end.objects ≡ s0.objects → (changed ≡ true → IsLater t end.tree) → AreReadSame made s0.tree end.tree (fronts names) → HoldsFor made end (fronts names) attributes ignore)
-              → t1 ≡ t → Keeping made s0 t1 (Some (names ++ name ∷ [])) attributes1 ignore1
+              → t1 ≡ t → HoldsForLaterTree made s0 t1 (Some (names ++ name ∷ [])) attributes1 ignore1
           stayed true fresh holds same = absurd (lost-leads t q (lost fresh) (subst (λ (x : Names). LeadsToDirectory x q) same leads))
           stayed false is holds same =
               let first : t1 ≡ s0.tree = same ∙ is in
@@ -173,7 +173,7 @@ module _ (made : Made) (s0 : Sources) (alone : made.ignore ≡ None) where
               }
 
           anew : ((end : Sources) → end.objects ≡ s0.objects → IsLater t1 end.tree → AreReadSame made s0.tree end.tree (fronts names) → HoldsFor made end (fronts names) attributes ignore)
-              → (trail : List (List ℕ)) → spot t1 q false ≡ reached trail (directory none) → Keeping made s0 t1 (Some (names ++ name ∷ [])) attributes1 ignore1
+              → (trail : List (List ℕ)) → spot t1 q false ≡ reached trail (directory none) → HoldsForLaterTree made s0 t1 (Some (names ++ name ∷ [])) attributes1 ignore1
           anew holds trail is =
               record {
                 changed = true;

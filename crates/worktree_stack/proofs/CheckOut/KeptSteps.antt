@@ -15,11 +15,11 @@ use Rattle.worktree_stack.specs.declared.error.AtPathError.{AtPathError}
 use Rattle.worktree_stack.specs.declared.error.AtPathError.TheVariants as errors
 use Rattle.worktree_stack.specs.Checkout.{IsOutcome, IsReplaced, KeepsName, LeadsToDirectory, Prepared, prepared}
 use Rattle.worktree_stack.specs.ChecksOut.{IsPlain, NotReady}
-use Rattle.worktree_stack.specs.GoesOn.{Keeping, Kept, KeepsOn, MayGoOn, PushesOut, with_mkdirs}
+use Rattle.worktree_stack.specs.GoesOn.{HoldsForLaterTree, HoldsForPresentTree, KeepsOn, MayGoOn, PushesOut, with_mkdirs}
 use Rattle.worktree_stack.specs.Lookups.{stepped}
-use Rattle.worktree_stack.specs.Making.{Way, is_made, mkdirs, unchanged}
+use Rattle.worktree_stack.specs.Making.{Way, is_directory_due, mkdirs, unchanged}
 use Rattle.worktree_stack.specs.Reading.{Sources, Tells}
-use Rattle.worktree_stack.specs.Setup.{HeldAttributes, Held, Made, lists_of}
+use Rattle.worktree_stack.specs.Setup.{HeldAttributes, Held, StackSetup, lists_of}
 use Rattle.worktree_stack.specs.Stacked.{Stacked, PushesLists, made_of}
 use Rattle.worktree_stack.proofs.CheckOut.Holding.{kept-now, kept-step, keeping-step, last-normal}
 use Rattle.worktree_stack.proofs.Lookup.LastNames.{keeps-last}
@@ -62,7 +62,7 @@ module _ {W F : Type 0} (w : WorktreeOf W) (f : FindOf F) (way : Way) (is_link p
   ]
 
   -- where no directory is to be at a component the tree stays
-  pub unmade-same : {w0 w1 : W} (old new : Stacked) (name : List ℕ) (is_last : Bool) (r : Result (Unit {0}) AtPathError) → is_made way is_last ≡ false → PushesOut w w0 w1 way is_link protects name is_last old new r
+  pub unmade-same : {w0 w1 : W} (old new : Stacked) (name : List ℕ) (is_last : Bool) (r : Result (Unit {0}) AtPathError) → is_directory_due way is_last ≡ false → PushesOut w w0 w1 way is_link protects name is_last old new r
       → (t : Names) → w.told w0 ≡ Some t → w.told w1 ≡ Some t
   unmade-same {w0} {w1} old new name is_last (Ok tt) unmade p t told =
       (subst (λ (x : Prepared). IsOutcome x (w.told w1) (mkdirs new) makes.Made)
@@ -73,7 +73,7 @@ module _ {W F : Type 0} (w : WorktreeOf W) (f : FindOf F) (way : Way) (is_link p
     | inr (is, why) ↦ of e why
   ]
     where
-      never : is_made way is_last ≡ true → ⊥
+      never : is_directory_due way is_last ≡ true → ⊥
       never made = clash (sym unmade ∙ made)
         where
           clash : false ≡ true → ⊥
@@ -106,7 +106,7 @@ module _ {W F : Type 0} (w : WorktreeOf W) (f : FindOf F) (way : Way) (is_link p
         subst (λ (root : List ℕ). IsReplaced way.unlinks (full_path root (spelled (deepest_names old.at ++ name ∷ []))) t t1) (sym may.root)
         (p.changed t t1 told told1 (keeps-below way.composes way.root (deepest_names old.at) name are-names all-normal kept))
 
-    leads-there : is_made way is_last ≡ true → as_kept way.composes name ≡ name → OnOk r (LeadsToDirectory t1 (full_path (made_of old).root (spelled (deepest_names old.at ++ name ∷ []))))
+    leads-there : is_directory_due way is_last ≡ true → as_kept way.composes name ≡ name → OnOk r (LeadsToDirectory t1 (full_path (made_of old).root (spelled (deepest_names old.at ++ name ∷ []))))
     leads-there made kept =
         subst (λ (root : List ℕ). OnOk r (LeadsToDirectory t1 (full_path root (spelled (deepest_names old.at ++ name ∷ []))))) (sym may.root)
         (p.there t t1 told told1 made (keeps-below way.composes way.root (deepest_names old.at) name are-names all-normal kept))
@@ -114,8 +114,8 @@ module _ {W F : Type 0} (w : WorktreeOf W) (f : FindOf F) (way : Way) (is_link p
     plain : (way.unlinks ≡ true → IsPlain s0.tree way.root) → way.unlinks ≡ true → IsPlain s0.tree (made_of old).root
     plain is on = subst (IsPlain s0.tree) (sym may.root) (is on)
 
-    at-some : {attributes : Option HeldAttributes} {ignore : Option Held} → Keeping (made_of old) s0 t old.at attributes ignore → Keeping (made_of old) s0 t (Some (deepest_names old.at)) attributes ignore
-    at-some {attributes} {ignore} k = subst (λ at. Keeping (made_of old) s0 t at attributes ignore) (some-names old.at some) k
+    at-some : {attributes : Option HeldAttributes} {ignore : Option Held} → HoldsForLaterTree (made_of old) s0 t old.at attributes ignore → HoldsForLaterTree (made_of old) s0 t (Some (deepest_names old.at)) attributes ignore
+    at-some {attributes} {ignore} k = subst (λ at. HoldsForLaterTree (made_of old) s0 t at attributes ignore) (some-names old.at some) k
 
     -- answered it leads to the directory, refused no link leads to the root
     either-sure : (r : Result (Unit {0}) AtPathError) → OnOk r (LeadsToDirectory t1 (full_path (made_of old).root (spelled (deepest_names old.at ++ name ∷ [])))) → OnErr r (way.unlinks ≡ true → IsPlain s0.tree way.root)
@@ -123,19 +123,19 @@ module _ {W F : Type 0} (w : WorktreeOf W) (f : FindOf F) (way : Way) (is_link p
     either-sure (Ok v) leads is = inr leads
     either-sure (Err e) leads is = inl (plain is)
 
-    pub pushed-kept : (is_made way is_last ≡ true → as_kept way.composes name ≡ name) → OnErr r (way.unlinks ≡ true → IsPlain s0.tree way.root)
-        → Keeping (made_of old) s0 t old.at old.attributes old.ignore → Kept (made_of old) s0 t1 new.at new.attributes new.ignore
+    pub pushed-kept : (is_directory_due way is_last ≡ true → as_kept way.composes name ≡ name) → OnErr r (way.unlinks ≡ true → IsPlain s0.tree way.root)
+        → HoldsForLaterTree (made_of old) s0 t old.at old.attributes old.ignore → HoldsForPresentTree (made_of old) s0 t1 new.at new.attributes new.ignore
     pushed-kept kept is k =
-        let here : Kept (made_of old) s0 t1 (Some (deepest_names old.at)) old.attributes old.ignore = on (is_made way is_last) refl in
-        subst (λ (h : Option Held). Kept (made_of old) s0 t1 new.at new.attributes h) (sym (pushed-field (λ (s : Stacked). s.ignore) old new name is_last r (λ n. refl) refl (λ n. refl) p))
-        (subst (λ (h : Option HeldAttributes). Kept (made_of old) s0 t1 new.at h old.ignore) (sym (pushed-field (λ (s : Stacked). s.attributes) old new name is_last r (λ n. refl) refl (λ n. refl) p))
-        (subst (λ (at : Option (List (List ℕ))). Kept (made_of old) s0 t1 at old.attributes old.ignore) (sym (pushed-field (λ (s : Stacked). s.at) old new name is_last r (λ n. refl) refl (λ n. refl) p ∙ some-names old.at some)) here))
+        let here : HoldsForPresentTree (made_of old) s0 t1 (Some (deepest_names old.at)) old.attributes old.ignore = on (is_directory_due way is_last) refl in
+        subst (λ (h : Option Held). HoldsForPresentTree (made_of old) s0 t1 new.at new.attributes h) (sym (pushed-field (λ (s : Stacked). s.ignore) old new name is_last r (λ n. refl) refl (λ n. refl) p))
+        (subst (λ (h : Option HeldAttributes). HoldsForPresentTree (made_of old) s0 t1 new.at h old.ignore) (sym (pushed-field (λ (s : Stacked). s.attributes) old new name is_last r (λ n. refl) refl (λ n. refl) p))
+        (subst (λ (at : Option (List (List ℕ))). HoldsForPresentTree (made_of old) s0 t1 at old.attributes old.ignore) (sym (pushed-field (λ (s : Stacked). s.at) old new name is_last r (λ n. refl) refl (λ n. refl) p ∙ some-names old.at some)) here))
       where
-        on : (b : Bool) → is_made way is_last ≡ b → Kept (made_of old) s0 t1 (Some (deepest_names old.at)) old.attributes old.ignore
+        on : (b : Bool) → is_directory_due way is_last ≡ b → HoldsForPresentTree (made_of old) s0 t1 (Some (deepest_names old.at)) old.attributes old.ignore
         on true made =
             kept-step (made_of old) s0 may.alone way.unlinks t t1 (deepest_names old.at) name are-names all-normal (either-sure r (leads-there made (kept made)) is) old.attributes old.ignore (at-some k) (changed (kept made))
         on false made =
-            subst (λ (x : Names). Kept (made_of old) s0 x (Some (deepest_names old.at)) old.attributes old.ignore) (some-same (sym (unmade-same old new name is_last r made p t told) ∙ told1))
+            subst (λ (x : Names). HoldsForPresentTree (made_of old) s0 x (Some (deepest_names old.at)) old.attributes old.ignore) (some-same (sym (unmade-same old new name is_last r made p t told) ∙ told1))
             (kept-now (made_of old) s0 may.alone t (Some (deepest_names old.at)) old.attributes old.ignore (at-some k))
 
   pub keeps-refused : {w0 w1 : W} (o0 : F) (old new : Stacked) (name : List ℕ) (is_last : Bool) (e : AtPathError) → is_some old.at ≡ true → PushesOut w w0 w1 way is_link protects name is_last old new (Err e)
@@ -155,8 +155,8 @@ module _ {W F : Type 0} (w : WorktreeOf W) (f : FindOf F) (way : Way) (is_link p
         going = λ s0 t t1 told holds told1 may kept k. tt;
         gone = λ s0 t t1 told holds told1 may kept is k.
             let x = pushed-kept old mid name [] false (Ok tt) some p s0 t t1 told (sym same ∙ told1) may (λ made. kept.0) tt k in
-            subst (λ (a : Option (List (List ℕ))). Kept (made_of old) s0 t1 a new.attributes new.ignore) (sym at_refused)
-            (subst (λ (h : Option Held). Kept (made_of old) s0 t1 mid.at new.attributes h) (sym held)
+            subst (λ (a : Option (List (List ℕ))). HoldsForPresentTree (made_of old) s0 t1 a new.attributes new.ignore) (sym at_refused)
+            (subst (λ (h : Option Held). HoldsForPresentTree (made_of old) s0 t1 mid.at new.attributes h) (sym held)
             (record { holds = λ end objects is read. let h = x.holds end objects is read in record { are_read = h.are_read; lists = held_lists ∙ h.lists; rules = h.rules }; there = x.there }));
       }
   keeps-passed {w0} {wm} {w1} o0 old mid new name some p same (Ok tt) made at at_refused held held_lists lists =
@@ -169,12 +169,12 @@ module _ {W F : Type 0} (w : WorktreeOf W) (f : FindOf F) (way : Way) (is_link p
             let made_is : made_of mid ≡ made_of old = ap made_of p.passed in
             let attributes : mid.attributes ≡ old.attributes = ap (λ (s : Stacked). s.attributes) p.passed in
             let pushes : PushesLists (made_of old) now (deepest_names old.at ++ name ∷ []) old.attributes new.attributes =
-            subst (λ (m : Made). PushesLists m now (deepest_names old.at ++ name ∷ []) old.attributes new.attributes) made_is
+            subst (λ (m : StackSetup). PushesLists m now (deepest_names old.at ++ name ∷ []) old.attributes new.attributes) made_is
             (subst (λ (n : List (List ℕ)). PushesLists (made_of mid) now n old.attributes new.attributes) current
             (subst (λ (h : Option HeldAttributes). PushesLists (made_of mid) now mid.current h new.attributes) attributes (lists now (record { tree_is = toldm; objects_are = holds })))) in
             let leads : LeadsToDirectory t1 (full_path (made_of old).root (spelled (deepest_names old.at ++ name ∷ []))) = leads-there old mid name [] false (Ok tt) some p s0 t t1 told toldm may refl kept.0 in
-            subst (λ (a : Option (List (List ℕ))). Keeping (made_of old) s0 t1 a new.attributes new.ignore) (sym (at ∙ ap Some current))
+            subst (λ (a : Option (List (List ℕ))). HoldsForLaterTree (made_of old) s0 t1 a new.attributes new.ignore) (sym (at ∙ ap Some current))
             (keeping-step (made_of old) s0 may.alone way.unlinks t t1 (deepest_names old.at) name (are-names old mid name [] false (Ok tt) some p s0 t t1 told toldm may) (all-normal old mid name [] false (Ok tt) some p s0 t t1 told toldm may)
             (inr leads) old.attributes old.ignore (at-some old mid name [] false (Ok tt) some p s0 t t1 told toldm may k)
-            (changed old mid name [] false (Ok tt) some p s0 t t1 told toldm may kept.0) new.attributes new.ignore (ap (λ (m : Made). m.ignore) (made ∙ made_is) ∙ may.alone) leads pushes);
+            (changed old mid name [] false (Ok tt) some p s0 t t1 told toldm may kept.0) new.attributes new.ignore (ap (λ (m : StackSetup). m.ignore) (made ∙ made_is) ∙ may.alone) leads pushes);
       }

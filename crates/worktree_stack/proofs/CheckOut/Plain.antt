@@ -8,7 +8,7 @@ use Rattle.gitbase_core.proofs.Names as gitbase
 use Rattle.worktree_fs.specs.ByNames.{node_at}
 use Rattle.worktree_fs.specs.MadeAndRemoved.{Removes}
 use Rattle.worktree_fs.specs.Paths.{fronts, full_path, is_dots, spelled}
-use Rattle.worktree_fs.specs.Tree.{Names, Node, Place, Jump, reached, nowhere, file, link, directory, other, child, is_directory, is_dot, is_dot_dot, is_text, along, behind, enter, onward, parent_place, resolve, spot, trail, walking}
+use Rattle.worktree_fs.specs.Tree.{Names, Node, Place, Jump, reached, nowhere, file, link, directory, other, child, is_directory, is_dot, is_dot_dot, is_text, along, behind, enter, resolve_from_node, parent_place, resolve, spot, trail, walking}
 use Rattle.worktree_fs.proofs.Routes.ByNames.{from_none}
 use Rattle.worktree_fs.proofs.Trees.Changed.{removed-stays}
 use Rattle.worktree_fs.proofs.Paths.Spelled.{components-spelled}
@@ -37,28 +37,28 @@ plain-walk jump (c ∷ rest) place names inner dots plain e =
     let apart = neither (is_dots c) (list_any is_dots rest) dots in
     let d = neither (is_dot c) (is_dot_dot c) apart.0 in
     on (child place.here c) refl (plain-walk jump rest) apart.1
-    (sym (ap (λ b. if b then along jump false place rest else if is_dot_dot c then along jump false (parent_place place) rest else onward (walking (λ p. along jump false p rest) jump false) place rest c (child place.here c)) d.0
-    ∙ ap (λ b. if b then along jump false (parent_place place) rest else onward (walking (λ p. along jump false p rest) jump false) place rest c (child place.here c)) d.1) ∙ e)
+    (sym (ap (λ b. if b then along jump false place rest else if is_dot_dot c then along jump false (parent_place place) rest else resolve_from_node (walking (λ p. along jump false p rest) jump false) place rest c (child place.here c)) d.0
+    ∙ ap (λ b. if b then along jump false (parent_place place) rest else resolve_from_node (walking (λ p. along jump false p rest) jump false) place rest c (child place.here c)) d.1) ∙ e)
   where
     on : (o : Option Node) → child place.here c ≡ o
         → ((place : Place) (names : List (List ℕ)) (inner : Names) → list_any is_dots rest ≡ false → NoLinks place.here rest → along jump false place rest ≡ reached names (directory inner) → node_at rest (Some (directory place.here)) ≡ Some (directory inner))
-        → list_any is_dots rest ≡ false → onward (walking (λ p. along jump false p rest) jump false) place rest c o ≡ reached names (directory inner) → node_at rest (child place.here c) ≡ Some (directory inner)
+        → list_any is_dots rest ≡ false → resolve_from_node (walking (λ p. along jump false p rest) jump false) place rest c o ≡ reached names (directory inner) → node_at rest (child place.here c) ≡ Some (directory inner)
     on None is more dots e = absurd (cc e)
     on (Some (directory names1)) is more dots e =
         ap (node_at rest) is ∙ more (enter place c names1) names inner dots (λ front rest1 last split. subst (λ (o : Option Node). IsNoLink (node_at front o)) is (plain (c ∷ front) rest1 last (ap (λ (l : List (List ℕ)). c ∷ l) split))) e
     on (Some (link target)) is more dots e = linked rest refl e
       where
-        linked : (r : List (List ℕ)) → rest ≡ r → onward (walking (λ p. along jump false p rest) jump false) place r c (Some (link target)) ≡ reached names (directory inner) → node_at rest (child place.here c) ≡ Some (directory inner)
+        linked : (r : List (List ℕ)) → rest ≡ r → resolve_from_node (walking (λ p. along jump false p rest) jump false) place r c (Some (link target)) ≡ reached names (directory inner) → node_at rest (child place.here c) ≡ Some (directory inner)
         linked [] split e = absurd (cc e)
         linked (r ∷ rs) split e = absurd (plain (c ∷ []) rs r (ap (λ (l : List (List ℕ)). c ∷ l) split) target is)
     on (Some (file bytes)) is more dots e = ended rest e
       where
-        ended : (r : List (List ℕ)) → onward (walking (λ p. along jump false p rest) jump false) place r c (Some (file bytes)) ≡ reached names (directory inner) → node_at rest (child place.here c) ≡ Some (directory inner)
+        ended : (r : List (List ℕ)) → resolve_from_node (walking (λ p. along jump false p rest) jump false) place r c (Some (file bytes)) ≡ reached names (directory inner) → node_at rest (child place.here c) ≡ Some (directory inner)
         ended [] e = absurd (cc e)
         ended (r ∷ rs) e = absurd (cc e)
     on (Some other) is more dots e = ended rest e
       where
-        ended : (r : List (List ℕ)) → onward (walking (λ p. along jump false p rest) jump false) place r c (Some other) ≡ reached names (directory inner) → node_at rest (child place.here c) ≡ Some (directory inner)
+        ended : (r : List (List ℕ)) → resolve_from_node (walking (λ p. along jump false p rest) jump false) place r c (Some other) ≡ reached names (directory inner) → node_at rest (child place.here c) ≡ Some (directory inner)
         ended [] e = absurd (cc e)
         ended (r ∷ rs) e = absurd (cc e)
 
@@ -74,8 +74,8 @@ names-walk jump (c ∷ rest) place inner dots e =
     let d = neither (is_dot c) (is_dot_dot c) apart.0 in
     let x = on (child place.here c) (names-walk jump rest) apart.1 e in (
       x.0,
-      ap (λ b. if b then along jump false place rest else if is_dot_dot c then along jump false (parent_place place) rest else onward (walking (λ p. along jump false p rest) jump false) place rest c (child place.here c)) d.0
-          ∙ ap (λ b. if b then along jump false (parent_place place) rest else onward (walking (λ p. along jump false p rest) jump false) place rest c (child place.here c)) d.1 ∙ x.1,
+      ap (λ b. if b then along jump false place rest else if is_dot_dot c then along jump false (parent_place place) rest else resolve_from_node (walking (λ p. along jump false p rest) jump false) place rest c (child place.here c)) d.0
+          ∙ ap (λ b. if b then along jump false (parent_place place) rest else resolve_from_node (walking (λ p. along jump false p rest) jump false) place rest c (child place.here c)) d.1 ∙ x.1,
     )
   where
     leaf : (rest : List (List ℕ)) (node : Node) → is_directory node ≡ false → node_at rest (Some node) ≡ Some (directory inner) → ⊥
@@ -98,7 +98,7 @@ names-walk jump (c ∷ rest) place inner dots e =
         gone a b = cc
 
     on : (o : Option Node) → ((place : Place) (inner : Names) → list_any is_dots rest ≡ false → node_at rest (Some (directory place.here)) ≡ Some (directory inner) → (names : List (List ℕ)) × (along jump false place rest ≡ reached names (directory inner)))
-        → list_any is_dots rest ≡ false → node_at rest o ≡ Some (directory inner) → (names : List (List ℕ)) × (onward (walking (λ p. along jump false p rest) jump false) place rest c o ≡ reached names (directory inner))
+        → list_any is_dots rest ≡ false → node_at rest o ≡ Some (directory inner) → (names : List (List ℕ)) × (resolve_from_node (walking (λ p. along jump false p rest) jump false) place rest c o ≡ reached names (directory inner))
     on None more dots e = absurd (gone (from_none rest) e)
       where
         gone : node_at rest None ≡ None → node_at rest None ≡ Some (directory inner) → ⊥

@@ -11,7 +11,7 @@ use Rattle.worktree_stack.specs.declared.validate.ComponentError.{ComponentError
 use Rattle.worktree_stack.specs.Checkout.{Prepared, IsOutcome, IsReplaced, KeepsName, Creates, NoDirectory, LeadsToDirectory, prepared}
 use Rattle.worktree_stack.specs.ChecksOut.{NotReady}
 use Rattle.worktree_stack.specs.GoesOn.{Readies, with_mkdirs}
-use Rattle.worktree_stack.specs.Making.{Way, is_made, mkdirs, pushed_out, unchanged}
+use Rattle.worktree_stack.specs.Making.{Way, is_directory_due, mkdirs, pushed_out, unchanged}
 use Rattle.worktree_stack.specs.Stacked.{Stacked}
 use Rattle.worktree_stack.specs.Validate.{component_error, ok_unless}
 use Rattle.worktree_stack.proofs.CheckOut.Preparing.{some-same}
@@ -51,7 +51,7 @@ module _ {W : Type 0} (w : WorktreeOf W) (way : Way) (is_link protects : Bool) (
 
   -- a directory that is to be there
   pub readies-made : {w0 w1 : W} (old new : Stacked) (path : List ℕ) (calls0 calls1 : ℕ) (r : Result (Unit {0}) AtPathError)
-      → component_error name is_link protects ≡ None → is_made way is_last ≡ true → way.composes ≡ w.precomposes w0
+      → component_error name is_link protects ≡ None → is_directory_due way is_last ≡ true → way.composes ≡ w.precomposes w0
       → path ≡ full_path way.root (spelled old.current) → calls0 ≡ mkdirs old → new ≡ with_mkdirs old calls1
       → Creates w w0 w1 way.unlinks path calls0 calls1 r → Readies w w0 w1 way is_link protects name is_last old new r
   readies-made {w0} {w1} old new path calls0 calls1 r fine wanted composes path_is calls0_is same creates =

@@ -6,7 +6,7 @@ use Rattle.gitbase_core.proofs.Names as gitbase
 use Rattle.worktree_fs.specs.MadeAndRemoved.{Makes, Removes}
 use Rattle.worktree_fs.specs.Outlines.{outlined}
 use Rattle.worktree_fs.specs.Paths.{fronts, full_path, spelled}
-use Rattle.worktree_fs.specs.Tree.{Names, Node, Place, Jump, Spot, reached, missing, nowhere, endless, file, link, directory, other, none, is_text, is_dot, is_dot_dot, enter, parent_place, start, child, onward, walking, along, behind, resolve, spot}
+use Rattle.worktree_fs.specs.Tree.{Names, Node, Place, Jump, Spot, reached, missing, nowhere, endless, file, link, directory, other, none, is_text, is_dot, is_dot_dot, enter, parent_place, start, child, resolve_from_node, walking, along, behind, resolve, spot}
 use Rattle.worktree_stack.specs.Checkout.{LeadsToDirectory}
 use Rattle.worktree_stack.specs.ChecksOut.{AreThere, IsThere}
 use Rattle.worktree_stack.proofs.CheckOut.Plain.{components-full}
@@ -33,7 +33,7 @@ module _ (more : List (List ℕ)) where
   of-three false false x y z x' y' z' p q r = r
 
   through : (jump : Jump) → Jumps jump → (cs : List (List ℕ)) → ((place : Place) → GoesOn more (along jump false place cs) (along jump false place (cs ++ more))) → (place : Place) (n : List ℕ) (o : Option Node)
-      → GoesOn more (onward (walking (λ p. along jump false p cs) jump false) place cs n o) (onward (walking (λ p. along jump false p (cs ++ more)) jump false) place (cs ++ more) n o)
+      → GoesOn more (resolve_from_node (walking (λ p. along jump false p cs) jump false) place cs n o) (resolve_from_node (walking (λ p. along jump false p (cs ++ more)) jump false) place (cs ++ more) n o)
   through jump jumps cs goes place n None = refl
   through jump jumps cs goes place n (Some (directory names)) = goes (enter place n names)
   through jump jumps [] goes place n (Some (link target)) = tt

@@ -14,11 +14,11 @@ use Rattle.worktree_stack.specs.declared.error.AtPathError.{AtPathError}
 use Rattle.worktree_stack.specs.declared.state.Checkout.{Checkout}
 use Rattle.worktree_stack.specs.Checkout.{KeepsName, LeadsToDirectory}
 use Rattle.worktree_stack.specs.ChecksOut.{KeepsNames}
-use Rattle.worktree_stack.specs.GoesOn.{Keeping, Kept, LeavesLast, MayGoOn, PushesOut}
+use Rattle.worktree_stack.specs.GoesOn.{HoldsForLaterTree, HoldsForPresentTree, LeavesLast, MayGoOn, PushesOut}
 use Rattle.worktree_stack.specs.Lookups.{IsLookedUp, stepped}
-use Rattle.worktree_stack.specs.Making.{Way, is_made, way_of}
+use Rattle.worktree_stack.specs.Making.{Way, is_directory_due, way_of}
 use Rattle.worktree_stack.specs.Reading.{Sources}
-use Rattle.worktree_stack.specs.Setup.{HeldAttributes, Held, Made}
+use Rattle.worktree_stack.specs.Setup.{HeldAttributes, Held, StackSetup}
 use Rattle.worktree_stack.specs.Stacked.{Stacked}
 use Rattle.worktree_stack.proofs.Lookup.Descent.{IsBelow, at_last}
 use Rattle.worktree_stack.proofs.CheckOut.KeptSteps.{keeps-below, told-before}
@@ -28,13 +28,13 @@ pub way-same : (checkout : Checkout) (kind : Option Bool) (composes composes' : 
 way-same checkout kind composes composes' root root' a b = ap (λ c. way_of checkout c root' kind) a ∙ ap (λ r. way_of checkout composes r kind) b
 
 -- a component that is kept is among those that are
-keeps-at : (way : Way) (taken more : List (List ℕ)) (name : List ℕ) → KeepsNames way (taken ++ name ∷ more) → is_made way (is_nil more) ≡ true → as_kept way.composes name ≡ name
+keeps-at : (way : Way) (taken more : List (List ℕ)) (name : List ℕ) → KeepsNames way (taken ++ name ∷ more) → is_directory_due way (is_nil more) ≡ true → as_kept way.composes name ≡ name
 keeps-at way [] more name keeps = keeps.0
 keeps-at way (n ∷ taken) more name keeps = keeps-at way taken more name keeps.1
 
-pub keeps-left : (way : Way) (left taken more : List (List ℕ)) (name : List ℕ) → left ≡ taken ++ name ∷ more → (is_last : Bool) → is_nil more ≡ is_last → is_made way is_last ≡ true → KeepsNames way left
+pub keeps-left : (way : Way) (left taken more : List (List ℕ)) (name : List ℕ) → left ≡ taken ++ name ∷ more → (is_last : Bool) → is_nil more ≡ is_last → is_directory_due way is_last ≡ true → KeepsNames way left
     → as_kept way.composes name ≡ name
-keeps-left way left taken more name split is_last last made keeps = keeps-at way taken more name (subst (KeepsNames way) split keeps) (ap (is_made way) last ∙ made)
+keeps-left way left taken more name split is_last last made keeps = keeps-at way taken more name (subst (KeepsNames way) split keeps) (ap (is_directory_due way) last ∙ made)
 
 module _ {W : Type 0} (w : WorktreeOf W) {w0 w1 : W} (way : Way) (is_link protects : Bool) where
   -- the last component is reached
@@ -73,7 +73,7 @@ pub normal-behind : (a b : List (List ℕ)) → list_any is_dots (a ++ b) ≡ fa
 normal-behind [] b e = e
 normal-behind (n ∷ a) b e = normal-behind a b (either-dots (is_dots n) (list_any is_dots (a ++ b)) e)
 
-pub may-behind : (way : Way) (made made' : Made) (at at' : Option (List (List ℕ))) (taken left : List (List ℕ)) → made' ≡ made → deepest_names at' ≡ deepest_names at ++ taken
+pub may-behind : (way : Way) (made made' : StackSetup) (at at' : Option (List (List ℕ))) (taken left : List (List ℕ)) → made' ≡ made → deepest_names at' ≡ deepest_names at ++ taken
     → MayGoOn way made at (taken ++ left) → MayGoOn way made' at' left
 may-behind way made made' at at' taken left same names may =
     record {
@@ -83,8 +83,8 @@ may-behind way made made' at at' taken left same names may =
           may.parts ∙ ap (λ (l : List (List ℕ)). deepest_names at ++ l) (append_assoc taken left may.behind)
           ∙ sym (append_assoc (deepest_names at) taken (left ++ may.behind)) ∙ ap (λ (n : List (List ℕ)). n ++ (left ++ may.behind)) (sym names);
       normal = may.normal;
-      root = ap (λ (m : Made). m.root) same ∙ may.root;
-      alone = ap (λ (m : Made). m.ignore) same ∙ may.alone;
+      root = ap (λ (m : StackSetup). m.root) same ∙ may.root;
+      alone = ap (λ (m : StackSetup). m.ignore) same ∙ may.alone;
     }
 
 -- nothing stands behind what is the whole
@@ -96,7 +96,7 @@ rest-none (n ∷ a) b e = absurd (cc e)
 pub taken-names : (front taken rest left : List (List ℕ)) (at : Option (List (List ℕ))) → IsBelow (front ++ left) at rest → left ≡ taken ++ rest → deepest_names at ≡ front ++ taken
 taken-names front taken rest left at below parts = append_cancel_right (deepest_names at) (front ++ taken) rest (sym below.whole_is ∙ ap (λ (l : List (List ℕ)). front ++ l) parts ∙ sym (append_assoc front taken rest))
 
-may-one : (way : Way) (made : Made) (at : Option (List (List ℕ))) (name : List ℕ) (more : List (List ℕ)) → MayGoOn way made at (name ∷ more) → MayGoOn way made at (name ∷ [])
+may-one : (way : Way) (made : StackSetup) (at : Option (List (List ℕ))) (name : List ℕ) (more : List (List ℕ)) → MayGoOn way made at (name ∷ more) → MayGoOn way made at (name ∷ [])
 may-one way made at name more may =
     record {
       whole = may.whole;
@@ -107,17 +107,17 @@ may-one way made at name more may =
       alone = may.alone;
     }
 
-pub may-first : (way : Way) (made made' : Made) (at at' : Option (List (List ℕ))) (taken : List (List ℕ)) (name : List ℕ) (more left : List (List ℕ)) → made' ≡ made → deepest_names at' ≡ deepest_names at ++ taken
+pub may-first : (way : Way) (made made' : StackSetup) (at at' : Option (List (List ℕ))) (taken : List (List ℕ)) (name : List ℕ) (more left : List (List ℕ)) → made' ≡ made → deepest_names at' ≡ deepest_names at ++ taken
     → left ≡ taken ++ name ∷ more → MayGoOn way made at left → MayGoOn way made' at' (name ∷ [])
 may-first way made made' at at' taken name more left same names is may =
     let all : MayGoOn way made' at' (name ∷ more) = may-behind way made made' at at' taken (name ∷ more) same names (subst (MayGoOn way made at) is may) in
     may-one way made' at' name more all
 
-pub keeping-by : {at : Option (List (List ℕ))} {attributes : Option HeldAttributes} {ignore : Option Held} (s0 : Sources) (made made' : Made) → made' ≡ made → (t : Names) → Keeping made' s0 t at attributes ignore → Keeping made s0 t at attributes ignore
-keeping-by {at} {attributes} {ignore} s0 made made' same t k = subst (λ (m : Made). Keeping m s0 t at attributes ignore) same k
+pub keeping-by : {at : Option (List (List ℕ))} {attributes : Option HeldAttributes} {ignore : Option Held} (s0 : Sources) (made made' : StackSetup) → made' ≡ made → (t : Names) → HoldsForLaterTree made' s0 t at attributes ignore → HoldsForLaterTree made s0 t at attributes ignore
+keeping-by {at} {attributes} {ignore} s0 made made' same t k = subst (λ (m : StackSetup). HoldsForLaterTree m s0 t at attributes ignore) same k
 
-pub kept-by : {at : Option (List (List ℕ))} {attributes : Option HeldAttributes} {ignore : Option Held} (s0 : Sources) (made' made : Made) → made' ≡ made → (t : Names) → Kept made' s0 t at attributes ignore → Kept made s0 t at attributes ignore
-kept-by {at} {attributes} {ignore} s0 made' made same t k = subst (λ (m : Made). Kept m s0 t at attributes ignore) same k
+pub kept-by : {at : Option (List (List ℕ))} {attributes : Option HeldAttributes} {ignore : Option Held} (s0 : Sources) (made' made : StackSetup) → made' ≡ made → (t : Names) → HoldsForPresentTree made' s0 t at attributes ignore → HoldsForPresentTree made s0 t at attributes ignore
+kept-by {at} {attributes} {ignore} s0 made' made same t k = subst (λ (m : StackSetup). HoldsForPresentTree m s0 t at attributes ignore) same k
 
 pub nil-is : (names : List (List ℕ)) → is_nil names ≡ true → names ≡ []
 nil-is [] e = refl

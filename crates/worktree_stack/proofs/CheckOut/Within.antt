@@ -14,11 +14,11 @@ use Rattle.worktree_fs.specs.declared.worktree.Worktree.{Ghosts as WorktreeOf}
 use Rattle.worktree_stack.specs.declared.error.AtPathError.{AtPathError}
 use Rattle.worktree_stack.specs.Checkout.{LeadsToDirectory}
 use Rattle.worktree_stack.specs.ChecksOut.{AreReadSame, AreThere, IsWithin, MayGo}
-use Rattle.worktree_stack.specs.GoesOn.{GoesWithin, KeepsAll, Kept, LeavesLast, MayGoOn}
+use Rattle.worktree_stack.specs.GoesOn.{GoesWithin, KeepsAll, HoldsForPresentTree, LeavesLast, MayGoOn}
 use Rattle.worktree_stack.specs.Lookups.{staying}
 use Rattle.worktree_stack.specs.Making.{Way}
 use Rattle.worktree_stack.specs.Reading.{Sources, Tells}
-use Rattle.worktree_stack.specs.Setup.{Made}
+use Rattle.worktree_stack.specs.Setup.{StackSetup}
 use Rattle.worktree_stack.specs.Stacked.{Stacked, HoldsFor, IsInStep, made_of, pushed}
 use Rattle.worktree_stack.proofs.CheckOut.Holding.{keeping-first}
 use Rattle.worktree_stack.proofs.CheckOut.Plain.{there-front}
@@ -58,7 +58,7 @@ module _ {W F : Type 0} (w : WorktreeOf W) (f : FindOf F) (way : Way) where
           some-objects e = cc e
 
       there : (t : Names) → AreThere old.root t (pushed old.at) → AreThere new.root t (pushed new.at)
-      there t are = subst (λ (at : Option (List (List ℕ))). AreThere new.root t (pushed at)) (sym at) (subst (λ (root : List ℕ). AreThere root t (pushed old.at)) (sym (ap (λ (m : Made). m.root) made)) are)
+      there t are = subst (λ (at : Option (List (List ℕ))). AreThere new.root t (pushed at)) (sym at) (subst (λ (root : List ℕ). AreThere root t (pushed old.at)) (sym (ap (λ (m : StackSetup). m.root) made)) are)
 
   -- what is left of a path was gone
   pub within-gone : {w0 wm w1 : W} {o0 om o1 : F} (names left : List (List ℕ)) (relative : List ℕ) (old mid new : Stacked) (r : Result (Unit {0}) AtPathError) → components relative ≡ names
@@ -70,15 +70,15 @@ module _ {W F : Type 0} (w : WorktreeOf W) (f : FindOf F) (way : Way) where
   within-gone {w0} {wm} {w1} {o0} {om} {o1} names left relative old mid new r is made made1 root tree holds holds1 whole ends step stays keeps last =
       record {
         in_step = λ alone normal s0 s1 tells0 tells1 may same within.
-            let k : Kept (made_of mid) s0 s1.tree new.at new.attributes new.ignore = gone alone normal s0 s1 tells0 tells1 may within in
+            let k : HoldsForPresentTree (made_of mid) s0 s1.tree new.at new.attributes new.ignore = gone alone normal s0 s1 tells0 tells1 may within in
             record {
-              in_step = subst (λ (m : Made). HoldsFor m s1 (pushed new.at) new.attributes new.ignore) (sym made1)
-                  (k.holds s1 (some-objects (sym tells1.objects_are ∙ holds1 ∙ holds ∙ tells0.objects_are)) refl (subst (λ (m : Made). AreReadSame m s0.tree s1.tree (pushed new.at)) (sym made) same));
-              there = subst (λ (m : Made). AreThere m.root s1.tree (pushed new.at)) (sym made1) k.there;
+              in_step = subst (λ (m : StackSetup). HoldsFor m s1 (pushed new.at) new.attributes new.ignore) (sym made1)
+                  (k.holds s1 (some-objects (sym tells1.objects_are ∙ holds1 ∙ holds ∙ tells0.objects_are)) refl (subst (λ (m : StackSetup). AreReadSame m s0.tree s1.tree (pushed new.at)) (sym made) same));
+              there = subst (λ (m : StackSetup). AreThere m.root s1.tree (pushed new.at)) (sym made1) k.there;
             };
         there = λ alone normal s0 s1 tells0 tells1 may within.
-            let k : Kept (made_of mid) s0 s1.tree new.at new.attributes new.ignore = gone alone normal s0 s1 tells0 tells1 may within in
-            subst (λ (m : Made). AreThere m.root s1.tree (pushed new.at)) (sym made1) k.there;
+            let k : HoldsForPresentTree (made_of mid) s0 s1.tree new.at new.attributes new.ignore = gone alone normal s0 s1 tells0 tells1 may within in
+            subst (λ (m : StackSetup). AreThere m.root s1.tree (pushed new.at)) (sym made1) k.there;
         last_there = λ normal s0 s1 tells0 tells1 kept makes.
             elim (last.last s1.tree tells1.tree_is makes relative (is ∙ sym whole) (ap (list_any is_dots) is ∙ normal) kept) [
               | inl none ↦ inl (sym whole ∙ ap (λ (l : List (List ℕ)). deepest_names mid.at ++ l) none ∙ append-nil (deepest_names mid.at) ∙ ends none)
@@ -96,13 +96,13 @@ module _ {W F : Type 0} (w : WorktreeOf W) (f : FindOf F) (way : Way) where
             behind = [];
             parts = is ∙ sym whole ∙ ap (λ (l : List (List ℕ)). deepest_names mid.at ++ l) (sym (append-nil left));
             normal = ap (list_any is_dots) is ∙ normal;
-            root = ap (λ (m : Made). m.root) made ∙ root;
-            alone = ap (λ (m : Made). m.ignore) made ∙ alone;
+            root = ap (λ (m : StackSetup). m.root) made ∙ root;
+            alone = ap (λ (m : StackSetup). m.ignore) made ∙ alone;
           }
 
       gone : (made_of old).ignore ≡ None → list_any is_dots names ≡ false → (s0 s1 : Sources) → Tells (w.told w0) (f.holds o0) s0 → Tells (w.told w1) (f.holds o1) s1 → MayGo s0.tree way left r → IsWithin s0 old
-          → Kept (made_of mid) s0 s1.tree new.at new.attributes new.ignore
+          → HoldsForPresentTree (made_of mid) s0 s1.tree new.at new.attributes new.ignore
       gone alone normal s0 s1 tells0 tells1 may within =
           keeps.gone s0 s0.tree s1.tree (tree ∙ tells0.tree_is) (holds ∙ tells0.objects_are) tells1.tree_is (may-on alone normal) may.keeps may.plain
-          (keeping-first (made_of mid) s0 (ap (λ (m : Made). m.ignore) made ∙ alone) mid.at mid.attributes mid.ignore (ap (λ (m : Made). m.ignore) made ∙ alone) (step s0 tells0 within.in_step)
-          (subst (λ (m : Made). AreThere m.root s0.tree (pushed mid.at)) (sym made) (stays s0.tree within.there)))
+          (keeping-first (made_of mid) s0 (ap (λ (m : StackSetup). m.ignore) made ∙ alone) mid.at mid.attributes mid.ignore (ap (λ (m : StackSetup). m.ignore) made ∙ alone) (step s0 tells0 within.in_step)
+          (subst (λ (m : StackSetup). AreThere m.root s0.tree (pushed mid.at)) (sym made) (stays s0.tree within.there)))

@@ -12,9 +12,9 @@ use Rattle.worktree_stack.specs.declared.statistics.RulesStatistics.{RulesStatis
 use Rattle.worktree_stack.specs.declared.statistics.Statistics.{Statistics}
 use Rattle.worktree_stack.specs.Checkout.{Prepared, IsOutcome}
 use Rattle.worktree_stack.specs.Counted.{count_call, count_calls, count_each, count_readings, counts_of}
-use Rattle.worktree_stack.specs.Making.{Way, WorksOn, checked_out, count_out, made_on, pushed_out, unchanged, where_made, without_mkdirs}
+use Rattle.worktree_stack.specs.Making.{Way, WorksOn, checked_out, count_out, made_on, pushed_out, unchanged, next_if_made, without_mkdirs}
 use Rattle.worktree_stack.specs.Reading.{Sources, Tells, RulesKind, of_attributes, of_ignore, readings_of}
-use Rattle.worktree_stack.specs.Setup.{Made}
+use Rattle.worktree_stack.specs.Setup.{StackSetup}
 use Rattle.worktree_stack.specs.Stacked.{Stacked, made_of}
 use Rattle.worktree_stack.specs.Steps.{HasReadOf, HasRead, CarriesOut}
 
@@ -35,8 +35,8 @@ module _ (way : Way) where
     where
       go : (here : Prepared) (answer : MakeAnswer) → here.answer ≡ answer
           → ((checked_out way here a).answer ≡ makes.Made → checked_out way here (a ++ b) ≡ checked_out way (checked_out way here a) b)
-          → (where_made here (checked_out way here a) answer).answer ≡ makes.Made
-          → where_made here (checked_out way here (a ++ b)) answer ≡ checked_out way (where_made here (checked_out way here a) answer) b
+          → (next_if_made here (checked_out way here a) answer).answer ≡ makes.Made
+          → next_if_made here (checked_out way here (a ++ b)) answer ≡ checked_out way (next_if_made here (checked_out way here a) answer) b
       go here makes.Made e more is = more is
       go here makes.Exists e more is = absurd (cc (sym e ∙ is))
       go here makes.NoParent e more is = absurd (cc (sym e ∙ is))
@@ -49,7 +49,7 @@ module _ (way : Way) where
       go (pushed_out way p path is_last) (pushed_out way p path is_last).answer refl (ran-checked (pushed_out way p path is_last) a) is
     where
       go : (here : Prepared) (answer : MakeAnswer) → here.answer ≡ answer → ((checked_out way here a).answer ≡ makes.Made → ran way here a ≡ checked_out way here a)
-          → (where_made here (checked_out way here a) answer).answer ≡ makes.Made → ran way here a ≡ where_made here (checked_out way here a) answer
+          → (next_if_made here (checked_out way here a) answer).answer ≡ makes.Made → ran way here a ≡ next_if_made here (checked_out way here a) answer
       go here makes.Made e more is = more is
       go here makes.Exists e more is = absurd (cc (sym e ∙ is))
       go here makes.NoParent e more is = absurd (cc (sym e ∙ is))
@@ -62,7 +62,7 @@ module _ (way : Way) where
   made_on-append (push_directory path ∷ a) b = made_on-append a b
   made_on-append (pop_directory ∷ a) b = made_on-append a b
 
-  count-append : (kind : RulesKind) (made : Made) (objects : Objects) (p : Prepared) (s : RulesStatistics) (a b : List Call)
+  count-append : (kind : RulesKind) (made : StackSetup) (objects : Objects) (p : Prepared) (s : RulesStatistics) (a b : List Call)
       → count_out kind made way objects p s (a ++ b) ≡ count_out kind made way objects (ran way p a) (count_out kind made way objects p s a) b
   count-append kind made objects p s [] b = refl
   count-append kind made objects p s (push path is_last ∷ a) b = count-append kind made objects (pushed_out way p path is_last) s a b
@@ -73,13 +73,13 @@ prepared-same : (p : Prepared) (calls : ℕ) → makes.Made ≡ p.answer → cal
 prepared-same p calls answer counted =
     ap (λ (a : MakeAnswer). record { answer = a; tree = p.tree; calls = p.calls }) (sym answer) ∙ ap (unchanged p.tree) (sym counted)
 
-pub where-same : (here : Prepared) (answer : MakeAnswer) → where_made here here answer ≡ here
+pub where-same : (here : Prepared) (answer : MakeAnswer) → next_if_made here here answer ≡ here
 where-same here makes.Made = refl
 where-same here makes.Exists = refl
 where-same here makes.NoParent = refl
 
 -- what was done on a way and then on another
-pub works-then : {W : Type 0} (w : WorktreeOf W) {wa wb wc : W} (holds : Option Objects) (way : Way) (made : Made) (a b : List Call) (n0 n1 n2 : ℕ) (s0 s1 s2 : Statistics)
+pub works-then : {W : Type 0} (w : WorktreeOf W) {wa wb wc : W} (holds : Option Objects) (way : Way) (made : StackSetup) (a b : List Call) (n0 n1 n2 : ℕ) (s0 s1 s2 : Statistics)
     → WorksOn w wa wb holds way a made n0 n1 s0 s1 → WorksOn w wb wc holds way b made n1 n2 s1 s2 → WorksOn w wa wc holds way (a ++ b) made n0 n2 s0 s2
 works-then w {wa} {wb} {wc} holds way made a b n0 n1 n2 s0 s1 s2 first second =
     record {
@@ -134,7 +134,7 @@ unpushed-checked way p (push path is_last ∷ calls) are = absurd are
 unpushed-checked way p (push_directory path ∷ calls) are = unpushed-checked way p calls are
 unpushed-checked way p (pop_directory ∷ calls) are = unpushed-checked way p calls are
 
-unpushed-count : (way : Way) (kind : RulesKind) (made : Made) (objects : Objects) (p : Prepared) (s : RulesStatistics) (calls : List Call) → AreUnpushed calls
+unpushed-count : (way : Way) (kind : RulesKind) (made : StackSetup) (objects : Objects) (p : Prepared) (s : RulesStatistics) (calls : List Call) → AreUnpushed calls
     → count_out kind made way objects p s calls ≡ count_readings kind made (record { tree = p.tree; objects = objects }) s calls
 unpushed-count way kind made objects p s [] are = refl
 unpushed-count way kind made objects p s (push path is_last ∷ calls) are = absurd are
@@ -153,7 +153,7 @@ mkdirs-same d (push path is_last ∷ calls) = mkdirs-same (count_call d (push pa
 mkdirs-same d (push_directory path ∷ calls) = mkdirs-same (count_call d (push_directory path)) calls
 mkdirs-same d (pop_directory ∷ calls) = mkdirs-same (count_call d pop_directory) calls
 
-pub read-untold : (told : Option Names) (holds : Option Objects) (made : Made) (calls : List Call) (a b : Statistics) → HasRead told holds made calls a b → HasRead None None made calls a b
+pub read-untold : (told : Option Names) (holds : Option Objects) (made : StackSetup) (calls : List Call) (a b : Statistics) → HasRead told holds made calls a b → HasRead None None made calls a b
 read-untold told holds made calls a b read kind =
     let r : HasReadOf told holds kind made calls (counts_of kind a) (counts_of kind b) = read kind in
     record { tried = r.tried; buffers = r.buffers; most_buffers = r.most_buffers; files = r.files; most_files = r.most_files; exact = λ s tells. absurd (nothing s tells) }
@@ -165,12 +165,12 @@ read-untold told holds made calls a b read kind =
         clash e = cc e
 
 -- what is read is not what is counted of directories that are made
-pub plain-read : (told : Option Names) (holds : Option Objects) (made : Made) (calls : List Call) (old new : Stacked)
+pub plain-read : (told : Option Names) (holds : Option Objects) (made : StackSetup) (calls : List Call) (old new : Stacked)
     → HasRead told holds made calls (without_mkdirs old).statistics (without_mkdirs new).statistics → HasRead told holds made calls old.statistics new.statistics
 plain-read told holds made calls old new read of_attributes = read of_attributes
 plain-read told holds made calls old new read of_ignore = read of_ignore
 
-pub bare-read : (told : Option Names) (holds : Option Objects) (made : Made) (calls : List Call) (old new : Stacked)
+pub bare-read : (told : Option Names) (holds : Option Objects) (made : StackSetup) (calls : List Call) (old new : Stacked)
     → HasRead told holds made calls old.statistics new.statistics → HasRead told holds made calls (without_mkdirs old).statistics (without_mkdirs new).statistics
 bare-read told holds made calls old new read of_attributes = read of_attributes
 bare-read told holds made calls old new read of_ignore = read of_ignore
@@ -185,7 +185,7 @@ carries-unmade told holds calls old new carries =
     }
 
 module _ {W : Type 0} (w : WorktreeOf W) {w0 w1 : W} (holds : Option Objects) (way : Way) (tree : w.told w1 ≡ w.told w0) where
-  pub works-unpushed : (calls : List Call) (made : Made) (n0 n1 : ℕ) (old new : Statistics) → AreUnpushed calls → n1 ≡ n0 → HasRead (w.told w0) holds made calls old new
+  pub works-unpushed : (calls : List Call) (made : StackSetup) (n0 n1 : ℕ) (old new : Statistics) → AreUnpushed calls → n1 ≡ n0 → HasRead (w.told w0) holds made calls old new
       → WorksOn w w0 w1 holds way calls made n0 n1 old new
   works-unpushed calls made n0 n1 old new are same read =
       record {

@@ -15,7 +15,7 @@ use Rattle.gitbase_core.specs.Path.{joined}
 use Rattle.worktree_stack.specs.declared.ignore_source.Source.{Source}
 use Rattle.worktree_stack.specs.declared.ignore_source.Source.TheVariants.{IdMapping, WorktreeThenIdMappingIfNotSkipped}
 use Rattle.worktree_stack.specs.Reading.{Place, OneReading, RulesKind, of_attributes, of_ignore, attribute_readings, ignore_places, ignore_places_of, ignore_readings, places_in, readings_of}
-use Rattle.worktree_stack.specs.Setup.{AttributesSetup, Made, Setup, has_attributes, mapped_to}
+use Rattle.worktree_stack.specs.Setup.{AttributesSetup, StackSetup, Setup, has_attributes, mapped_to}
 use Rattle.worktree_stack.specs.Stacked.{Stacked, made_of, pushed}
 use Rattle.worktree_stack.proofs.Lookup.Carrying.{files-append}
 use Rattle.worktree_stack.proofs.Rules.Readings.{files-two}
@@ -28,7 +28,7 @@ of-kinds : (readings : List OneReading) → files_of of_attributes readings + fi
 of-kinds [] = refl
 of-kinds (r ∷ readings) = omega (arith, of-kind r.kind r.places, of-kinds readings, files-two r.places (places_in readings))
 
-module _ (made : Made) where
+module _ (made : StackSetup) where
   pub asked-append : (a b : List Call) → asked_on made (a ++ b) ≡ asked_on made a + asked_on made b
   asked-append a b = omega (arith, files-append of_attributes made a b, files-append of_ignore made a b)
 
@@ -44,7 +44,7 @@ module _ (made : Made) where
   asked-pops (suc n) = asked-pops n
 
 -- for ignore rules alone a directory is asked at most one file
-pub read-once : (made : Made) (d : List ℕ) → has_attributes made ≡ false → files_in (places_in (readings_of made d)) ≤ 1
+pub read-once : (made : StackSetup) (d : List ℕ) → has_attributes made ≡ false → files_in (places_in (readings_of made d)) ≤ 1
 read-once made d alone = go made.attributes made.ignore alone
   where
     placed : (source : Source) (whole path : List ℕ) (id : Option (List ℕ)) → files_in (ignore_places source whole path id) ≤ 1
@@ -124,7 +124,7 @@ asks-then w f before mid now first next calls more split least middle further en
         arith,
         one.asked,
         two.asked,
-        ap (λ (m : Made). asked_on m next) keeps.made,
+        ap (λ (m : StackSetup). asked_on m next) keeps.made,
         asked-append (made_of before.stack) first next,
         asked-front (made_of before.stack) calls (first ++ next) more split,
       );
@@ -137,14 +137,14 @@ pub asks-whole : {W F : Type 0} (w : WorktreeOf W) (f : FindOf F) (before rooted
     → (one left further least most : ℕ) → least + one + further ≤ most + left
     → StepAsks w before rooted first 0 one → StepAsks w popped now below left further → StepAsks w before now calls least most
 asks-whole w f before rooted popped now first n below calls split same keeps one left further least most fits root rest =
-    let made : Made = made_of before.stack in
+    let made : StackSetup = made_of before.stack in
     record {
       asked = omega (
         arith,
         root.asked,
         rest.asked,
         ap w.reads same,
-        ap (λ (m : Made). asked_on m below) keeps.made,
+        ap (λ (m : StackSetup). asked_on m below) keeps.made,
         ap (asked_on made) split,
         asked-append made (first ++ replicate n pop_directory) below,
         asked-append made first (replicate n pop_directory),

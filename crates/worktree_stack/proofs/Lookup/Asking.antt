@@ -11,7 +11,7 @@ use Rattle.worktree_stack.specs.declared.ignore_source.Source.TheVariants.{IdMap
 use Rattle.worktree_stack.specs.Counted.{files_in, blobs_in}
 use Rattle.worktree_stack.specs.Lookups.{asks_for, asks_if, asks_for_attributes, asks_attributes_if, asks_worktree}
 use Rattle.worktree_stack.specs.Reading.{OneReading, places_in, ignore_places, attribute_places, ignore_places_of, attribute_places_of, ignore_readings, own_readings, info_readings, info_readings_if, attribute_readings, readings_of, texts_of, reading}
-use Rattle.worktree_stack.specs.Setup.{AttributesSetup, Setup, Made, Mapping, attributes_name, has_attributes, mapped_to}
+use Rattle.worktree_stack.specs.Setup.{AttributesSetup, Setup, StackSetup, Mapping, attributes_name, has_attributes, mapped_to}
 use Rattle.gitbase_core.specs.Objects.{Objects}
 use Rattle.worktree_fs.specs.Tree.{Names}
 use Rattle.worktree_stack.specs.declared.error.AtPathError.{AtPathError}
@@ -55,7 +55,7 @@ attribute-blobs source whole path (Some id) e = absurd (cc e)
 
 -- ---- the readings of a directory
 
-module _ (made : Made) (d : List ℕ) where
+module _ (made : StackSetup) (d : List ℕ) where
   ignore-unasked : (setup : Option Setup) → asks_if setup ≡ false → files_in (places_in (ignore_readings made setup d)) ≡ 0
   ignore-unasked None e = refl
   ignore-unasked (Some setup) e = ap files_in (append-nil (ignore_places_of made setup d)) ∙ ignore-files setup.source _ _ _ e
@@ -118,7 +118,7 @@ module _ (made : Made) (d : List ℕ) where
       omega (arith, files-both (attribute_readings made made.attributes d) (ignore_readings made made.ignore d), no-attributes made.attributes alone, ignore-least made.ignore)
 
 -- the readings of a directory are refused as a list
-pub refuses-at : (told : Option Names) (holds : Option Objects) (TF SF : Type 0) (made : Made) (d : List ℕ) (e : AtPathError)
+pub refuses-at : (told : Option Names) (holds : Option Objects) (TF SF : Type 0) (made : StackSetup) (d : List ℕ) (e : AtPathError)
     → IsRefused told holds TF SF (places_in (readings_of made d)) (λ s. texts_of s (readings_of made d)) e → RefusesAt told holds TF SF made d e
 unfolding reading
 refuses-at told holds TF SF made d e said = said

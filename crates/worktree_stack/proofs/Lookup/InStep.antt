@@ -11,7 +11,7 @@ use Rattle.worktree_fs.specs.Paths.{spelled, fronts, all_but_last}
 use Rattle.worktree_fs.specs.PathStack.{one_up, deepest_names, directories}
 use Rattle.worktree_fs.proofs.Paths.Spelled.{without_last-snoc}
 use Rattle.worktree_stack.specs.declared.state.Checkout.{Checkout}
-use Rattle.worktree_stack.specs.Setup.{AttributesSetup, Setup, Made, Mapping, HeldAttributes, Held, attributes_setup_of, setup_of, lists_of, without_highest, without_info, pop_lists, push_level, pop_level, own_decision, own_if}
+use Rattle.worktree_stack.specs.Setup.{AttributesSetup, Setup, StackSetup, Mapping, HeldAttributes, Held, attributes_setup_of, setup_of, lists_of, without_highest, without_info, pop_lists, push_level, pop_level, own_decision, own_if}
 use Rattle.worktree_stack.specs.Excludes.{Decision, own_of_directory, ancestors}
 use Rattle.worktree_stack.specs.Reading.{Sources, reading, rulebook, is_read, readings_of, texts_of, text_or_none, first_text, info_places, attributes_from, own_list, info_lists, lists_at}
 use Rattle.worktree_stack.specs.Stacked.{Stacked, made_of, AreThoseOf, HoldsRules, HoldsLists, HoldsFor, IsInStep, pushed}
@@ -50,7 +50,7 @@ left_true false b e = absurd (cc e)
 
 -- one more directory
 module _ (root : List ℕ) (case : Case) (mappings : List Mapping) (checkout : Option Checkout) (attributes : Option AttributesSetup) (setup : Setup) where
-  abbrev made-so : Made
+  abbrev made-so : StackSetup
   made-so = record { root = root; case = case; mappings = mappings; checkout = checkout; attributes = attributes; ignore = Some setup }
 
   one_more : (s : Sources) (names : List (List ℕ)) (lists : List Rules) (matches : List (Option Decision)) (list : Rules)
@@ -81,7 +81,7 @@ take-last xs x =
     ap (λ n. take n (xs ++ x ∷ [])) e ∙ take-append-le (length xs) xs (x ∷ []) (omega arith) ∙ take_all (length xs) xs (omega arith)
 
 -- one less
-pub one_less : (made : Made) (s : Sources) (names : List (List ℕ)) (lists : List Rules) (matches : List (Option Decision))
+pub one_less : (made : StackSetup) (s : Sources) (names : List (List ℕ)) (lists : List Rules) (matches : List (Option Decision))
     → AreThoseOf made s (fronts names) lists matches
     → AreThoseOf made s (ancestors names) (take (length lists - 1) lists) (take (length matches - 1) matches)
 one_less made s names lists matches those =
@@ -130,7 +130,7 @@ highest-dropped : (xs : List AttributeList) (x : AttributeList) → without_high
 highest-dropped xs x = take-last xs x
 
 -- the lists of a directory are dropped
-lists-dropped : (made : Made) (s : Sources) (setup : AttributesSetup) (info : Option (List ℕ)) (d : List ℕ) (own : AttributeList) (xs : List AttributeList)
+lists-dropped : (made : StackSetup) (s : Sources) (setup : AttributesSetup) (info : Option (List ℕ)) (d : List ℕ) (own : AttributeList) (xs : List AttributeList)
     → without_highest (without_info info d (xs ++ (own ∷ [] ++ info_lists info s d))) ≡ xs
 lists-dropped made s setup None d own xs = highest-dropped xs own
 lists-dropped made s setup (Some path) (b ∷ bs) own xs = highest-dropped xs own
@@ -156,7 +156,7 @@ module _ (root : List ℕ) (case : Case) (mappings : List Mapping) (checkout : O
       nothing None = refl
       nothing (Some path) = refl
   less-lists (Some held) ignore s (Some names) holds =
-      let made : Made = record { root = root; case = case; mappings = mappings; checkout = checkout; attributes = Some held.setup; ignore = setup_of ignore } in
+      let made : StackSetup = record { root = root; case = case; mappings = mappings; checkout = checkout; attributes = Some held.setup; ignore = setup_of ignore } in
       let d : List ℕ = spelled names in
       let front : List AttributeList = flat_map (lists_at made s) (ancestors names) in
       let lists_are : held.lists ≡ front ++ lists_at made s names =
@@ -167,7 +167,7 @@ module _ (root : List ℕ) (case : Case) (mappings : List Mapping) (checkout : O
 
 module _ (s : Sources) where
   -- the deepest directory is popped
-  less : (made : Made) (at : Option (List (List ℕ))) (lists : List Rules) (matches : List (Option Decision))
+  less : (made : StackSetup) (at : Option (List (List ℕ))) (lists : List Rules) (matches : List (Option Decision))
       → AreThoseOf made s (pushed at) lists matches
       → AreThoseOf made s (pushed (one_up at)) (take (length lists - 1) lists) (take (length matches - 1) matches)
   less made None lists matches those =
@@ -179,12 +179,12 @@ module _ (s : Sources) where
       subst (λ ds. AreThoseOf made s ds (take (length lists - 1) lists) (take (length matches - 1) matches)) (up-ancestors names)
       (one_less made s names lists matches those)
 
-  less-held : (made : Made) (at : Option (List (List ℕ))) (held : Option Held) → HoldsRules made s (pushed at) held → HoldsRules made s (pushed (one_up at)) (pop_level held)
+  less-held : (made : StackSetup) (at : Option (List (List ℕ))) (held : Option Held) → HoldsRules made s (pushed at) held → HoldsRules made s (pushed (one_up at)) (pop_level held)
   less-held made at None holds = tt
   less-held made at (Some held) holds = less made at held.lists held.matches holds
 
   -- the readings of the directories that are left
-  less-read : (made : Made) (at : Option (List (List ℕ))) → list_all (λ d. is_read (reading made s (spelled d))) (pushed at) ≡ true
+  less-read : (made : StackSetup) (at : Option (List (List ℕ))) → list_all (λ d. is_read (reading made s (spelled d))) (pushed at) ≡ true
       → list_all (λ d. is_read (reading made s (spelled d))) (pushed (one_up at)) ≡ true
   less-read made None read = read
   less-read made (Some names) read =
@@ -199,7 +199,7 @@ module _ (s : Sources) where
       subst (λ (h : Option Held). HoldsFor (made_of new) s (pushed new.at) new.attributes h) (sym ignore)
       (subst (λ (h : Option HeldAttributes). HoldsFor (made_of new) s (pushed new.at) h (pop_level old.ignore)) (sym attributes)
       (subst (λ (a : Option (List (List ℕ))). HoldsFor (made_of new) s (pushed a) (pop_lists (spelled (deepest_names old.at)) old.attributes) (pop_level old.ignore)) (sym at)
-      (subst (λ (m : Made). HoldsFor m s (pushed (one_up old.at)) (pop_lists (spelled (deepest_names old.at)) old.attributes) (pop_level old.ignore)) (sym made)
+      (subst (λ (m : StackSetup). HoldsFor m s (pushed (one_up old.at)) (pop_lists (spelled (deepest_names old.at)) old.attributes) (pop_level old.ignore)) (sym made)
       (record {
         are_read = less-read (made_of old) old.at step.are_read;
         lists = less-lists old.root old.case old.mappings old.checkout old.attributes old.ignore s old.at step.lists;
@@ -226,12 +226,12 @@ module _ (s : Sources) where
       (own ∙ ap (λ (p : List ℕ). own_if old.ignore p (Some true) old.case) paths) holds)
 
 -- where there are no ignore rules, none are held
-pub rules-none : (made : Made) (s : Sources) (directories : List (List (List ℕ))) (held : Option Held) → setup_of held ≡ None → HoldsRules made s directories held
+pub rules-none : (made : StackSetup) (s : Sources) (directories : List (List (List ℕ))) (held : Option Held) → setup_of held ≡ None → HoldsRules made s directories held
 rules-none made s directories None none = tt
 rules-none made s directories (Some held) none = absurd (cc none)
 
 -- a directory whose readings are done is pushed
-pub pushed_all : (made : Made) (s : Sources) (names : List (List ℕ)) (attributes attributes' : Option HeldAttributes) (ignore ignore' : Option Held)
+pub pushed_all : (made : StackSetup) (s : Sources) (names : List (List ℕ)) (attributes attributes' : Option HeldAttributes) (ignore ignore' : Option Held)
     → HoldsFor made s (ancestors names) attributes ignore → is_read (texts_of s (readings_of made (spelled names))) ≡ true
     → lists_of attributes' ≡ lists_of attributes ++ lists_at made s names → HoldsRules made s (fronts names) ignore'
     → HoldsFor made s (fronts names) attributes' ignore'

@@ -5,7 +5,7 @@ use Rattle.gitbase_core.specs.Path.{components}
 use Rattle.worktree_fs.specs.Changes.{kept_last}
 use Rattle.worktree_fs.specs.Composed.{as_kept}
 use Rattle.worktree_fs.specs.Paths.{is_dots}
-use Rattle.worktree_fs.specs.Tree.{Names, Node, Place, Jump, Spot, reached, missing, nowhere, endless, file, link, directory, other, is_text, is_dot, is_dot_dot, is_nil, trail, enter, parent_place, start, child, onward, walking, along, behind, resolve, spot}
+use Rattle.worktree_fs.specs.Tree.{Names, Node, Place, Jump, Spot, reached, missing, nowhere, endless, file, link, directory, other, is_text, is_dot, is_dot_dot, is_nil, trail, enter, parent_place, start, child, resolve_from_node, walking, along, behind, resolve, spot}
 use Rattle.worktree_stack.specs.Checkout.{KeepsName}
 
 -- where a path misses its last name alone, it is this one
@@ -38,14 +38,14 @@ module _ (name : List ℕ) where
   more-left n below (c ∷ cs) = tt
 
   through : (jump : Jump) → Jumps jump → (cs : List (List ℕ)) → ((place : Place) → EndsIn name (along jump false place (cs ++ name ∷ []))) → (place : Place) (n : List ℕ) (o : Option Node)
-      → EndsIn name (onward (walking (λ p. along jump false p (cs ++ name ∷ [])) jump false) place (cs ++ name ∷ []) n o)
+      → EndsIn name (resolve_from_node (walking (λ p. along jump false p (cs ++ name ∷ [])) jump false) place (cs ++ name ∷ []) n o)
   through jump jumps cs goes place n None = more-left n (trail place) cs
   through jump jumps cs goes place n (Some (directory names)) = goes (enter place n names)
   through jump jumps cs goes place n (Some (link target)) = either (false || not (is_nil (cs ++ name ∷ []))) _ _ (jumps place target cs) tt
   through jump jumps cs goes place n (Some (file bytes)) = either (is_nil (cs ++ name ∷ [])) (reached (n ∷ trail place) (file bytes)) nowhere tt tt
   through jump jumps cs goes place n (Some other) = either (is_nil (cs ++ name ∷ [])) (reached (n ∷ trail place) other) nowhere tt tt
 
-  lastly : (jump : Jump) (place : Place) (o : Option Node) → EndsIn name (onward (walking (λ p. along jump false p []) jump false) place [] name o)
+  lastly : (jump : Jump) (place : Place) (o : Option Node) → EndsIn name (resolve_from_node (walking (λ p. along jump false p []) jump false) place [] name o)
   lastly jump place None = refl
   lastly jump place (Some (directory names)) = tt
   lastly jump place (Some (link target)) = tt

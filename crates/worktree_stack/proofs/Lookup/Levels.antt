@@ -8,7 +8,7 @@ use Rattle.worktree_fs.specs.Paths.{fronts, spelled}
 use Rattle.worktree_fs.specs.PathStack.{one_up, deepest_names}
 use Rattle.worktree_stack.specs.Excludes.{Decision, ancestors}
 use Rattle.worktree_stack.specs.Setup.{AttributesSetup, HeldAttributes, Held, attributes_setup_of, setup_of, lists_of, without_highest, without_info, pop_lists, IsLonger, push_level, pop_level}
-use Rattle.worktree_stack.specs.Stacked.{Stacked, HasAsMany, HasAsManyLists, HasAsManyRules, IsLevel, pushed, info_count, count_at, list_count}
+use Rattle.worktree_stack.specs.Stacked.{Stacked, CountsMatchDirectories, HasAsManyLists, HasAsManyRules, IsLevel, pushed, info_count, count_at, list_count}
 use Rattle.worktree_stack.specs.Lookups.{stepped}
 use Rattle.worktree_stack.proofs.Lookup.InStep.{pushed-ancestors, up-ancestors}
 
@@ -66,9 +66,9 @@ less-lists (Some names) (Some held) level =
 -- the deepest directory is popped
 pub popped-level : (old new : Stacked) → new.at ≡ one_up old.at → new.attributes ≡ pop_lists (spelled (deepest_names old.at)) old.attributes → new.ignore ≡ pop_level old.ignore → IsLevel old → IsLevel new
 popped-level old new at attributes ignore level =
-    subst (λ (h : Option Held). HasAsMany (pushed new.at) new.attributes h) (sym ignore)
-    (subst (λ (h : Option HeldAttributes). HasAsMany (pushed new.at) h (pop_level old.ignore)) (sym attributes)
-    (subst (λ (a : Option (List (List ℕ))). HasAsMany (pushed a) (pop_lists (spelled (deepest_names old.at)) old.attributes) (pop_level old.ignore)) (sym at)
+    subst (λ (h : Option Held). CountsMatchDirectories (pushed new.at) new.attributes h) (sym ignore)
+    (subst (λ (h : Option HeldAttributes). CountsMatchDirectories (pushed new.at) h (pop_level old.ignore)) (sym attributes)
+    (subst (λ (a : Option (List (List ℕ))). CountsMatchDirectories (pushed a) (pop_lists (spelled (deepest_names old.at)) old.attributes) (pop_level old.ignore)) (sym at)
     (less-lists old.at old.attributes level.0, less-rules old.at old.ignore level.1)))
 
 more-held : (held : Option Held) (names : List (List ℕ)) (list : Rules) (matched : Option Decision)

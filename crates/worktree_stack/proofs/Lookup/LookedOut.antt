@@ -14,12 +14,12 @@ use Rattle.worktree_stack.specs.declared.error.AtPathError.TheVariants as errors
 use Rattle.worktree_stack.specs.declared.state.Checkout.{Checkout}
 use Rattle.worktree_stack.specs.ChecksOut.{AreThere, ChecksOut, IsWithin, left_of}
 use Rattle.worktree_stack.specs.Counted.{count_platform, counts_of}
-use Rattle.worktree_stack.specs.GoesOn.{Goes, GoesWithin}
+use Rattle.worktree_stack.specs.GoesOn.{RunsCheckoutCalls, GoesWithin}
 use Rattle.worktree_stack.specs.Lookups.{IsLookedUp, staying}
 use Rattle.worktree_stack.specs.Making.{Way, WorksOn, mkdirs, unchanged, way_of, without_mkdirs}
 use Rattle.worktree_stack.specs.Reading.{Sources, RulesKind, of_attributes, of_ignore}
 use Rattle.worktree_stack.specs.SeenNames.{names_out}
-use Rattle.worktree_stack.specs.Setup.{Made, Setup, setup_of}
+use Rattle.worktree_stack.specs.Setup.{StackSetup, Setup, setup_of}
 use Rattle.worktree_stack.specs.Stacked.{Stacked, made_of, pushed}
 use Rattle.worktree_stack.specs.Steps.{CarriesOut}
 use Rattle.worktree_stack.proofs.Lookup.Carrying.{carries-then, read-none}
@@ -31,7 +31,7 @@ use Rattle.worktree_stack.proofs.CheckOut.Within.{sources-same}
 use Rattle.worktree_stack.proofs.CheckOut.Working.{works-unpushed}
 
 -- a state that makes directories tells no excludes
-pub keeps-none : (made : Made) (checkout : Checkout) → made.checkout ≡ Some checkout → made.ignore ≡ None → (is_some made.ignore || not (is_some made.checkout)) ≡ true → ⊥
+pub keeps-none : (made : StackSetup) (checkout : Checkout) → made.checkout ≡ Some checkout → made.ignore ≡ None → (is_some made.ignore || not (is_some made.checkout)) ≡ true → ⊥
 keeps-none made checkout some none e =
     never (sym (ap (λ (i : Option Setup). is_some i || not (is_some made.checkout)) none ∙ ap (λ (c : Option Checkout). not (is_some c)) some) ∙ e)
   where
@@ -116,7 +116,7 @@ module _ {W F : Type 0} (w : WorktreeOf W) (f : FindOf F) (w0 w1 : W) (o0 o1 : F
     within-old s x = record { in_step = x.in_step; there = x.there }
 
     -- refused on the way
-    pub checks-refused : (new : Stacked) (e : AtPathError) → Goes w f w0 w1 o0 o1 way is_link checkout.validate.protect_windows calls (left_of old.at (components path)) mid new (Err e)
+    pub checks-refused : (new : Stacked) (e : AtPathError) → RunsCheckoutCalls w f w0 w1 o0 o1 way is_link checkout.validate.protect_windows calls (left_of old.at (components path)) mid new (Err e)
         → IsOnWay new.at (components path) → length (pushed (staying old.at (components path))) ≤ length (pushed new.at) → GoesWithin w f w0 w1 o0 o1 way (components path) (left_of old.at (components path)) mid new (Err e)
         → ChecksOut {T = Unit {0}} w f w0 w1 o0 o1 checkout path kind is_link old new (Err e)
     checks-refused new e goes on_way stays within =
@@ -145,7 +145,7 @@ module _ {W F : Type 0} (w : WorktreeOf W) (f : FindOf F) (w0 w1 : W) (o0 o1 : F
 
     -- answered
     pub checks-answered : (went new : Stacked) → new ≡ record went { is_dir = kind; is_answered = true }
-        → Goes w f w0 w1 o0 o1 way is_link checkout.validate.protect_windows calls (left_of old.at (components path)) mid went (Ok tt)
+        → RunsCheckoutCalls w f w0 w1 o0 o1 way is_link checkout.validate.protect_windows calls (left_of old.at (components path)) mid went (Ok tt)
         → IsLookedUp went (components path) → length (pushed (staying old.at (components path))) ≤ length (pushed went.at) → GoesWithin w f w0 w1 o0 o1 way (components path) (left_of old.at (components path)) mid went (Ok tt)
         → ChecksOut {T = Unit {0}} w f w0 w1 o0 o1 checkout path kind is_link old new (Ok tt)
     checks-answered went new same goes looked_up stays within =

@@ -28,8 +28,8 @@ use Rattle.worktree_fs.specs.Tree.{Names}
 use Rattle.worktree_stack.specs.declared.error.AtPathError.{AtPathError}
 use Rattle.worktree_stack.specs.HeldOut.{AreLowest}
 use Rattle.worktree_stack.specs.Reading.{Sources, Tells, Place, Refusal, Text, attribute_places_of, attributes_from, first_text, info_places, text_or_none}
-use Rattle.worktree_stack.specs.SeenNames.{AddsNames, KnowsNames, Sees, are_known, info_names, info_names_if, list_names, names_from, names_if, own_names_if}
-use Rattle.worktree_stack.specs.Setup.{AttributesSetup, HeldAttributes, Made, attributes_setup_of, lists_of, names_of, pop_list, pop_lists, push_list}
+use Rattle.worktree_stack.specs.SeenNames.{AddsNames, KnowsNames, AddsSeenNames, are_known, info_names, info_names_if, list_names, names_from, names_if, own_names_if}
+use Rattle.worktree_stack.specs.Setup.{AttributesSetup, HeldAttributes, StackSetup, attributes_setup_of, lists_of, names_of, pop_list, pop_lists, push_list}
 use Rattle.worktree_stack.specs.Stacked.{Stacked}
 
 -- ---- names that come behind others
@@ -196,7 +196,7 @@ known-pushed (Some h) ls source base known =
 
 -- ---- the names of a directory
 
-pub own-named : (made : Made) (setup : AttributesSetup) (s : Sources) (d d' : List ℕ) (places : List Place) (text : Option Text) (macros : Bool) (a : Option AttributesSetup)
+pub own-named : (made : StackSetup) (setup : AttributesSetup) (s : Sources) (d d' : List ℕ) (places : List Place) (text : Option Text) (macros : Bool) (a : Option AttributesSetup)
     → macros ≡ is_empty d' → d' ≡ d → a ≡ Some setup → places ≡ attribute_places_of made setup d → first_text s places ≡ Ok text → own_names_if made a s d ≡ names_from macros text
 own-named made setup s d d' places text macros a root same some placed read =
     ap (λ (x : Option AttributesSetup). own_names_if made x s d) some
@@ -246,7 +246,7 @@ always-done (Err e) p = tt
 
 module _ (told : Option Names) (holds : Option Objects) (read : Sources → List (List ℕ)) (h0 h1 : Option HeldAttributes) where
   -- nothing is read, and nothing is seen
-  pub sees-nothing : (r : Result (Unit {0}) AtPathError) → h1 ≡ h0 → ((s : Sources) → read s ≡ []) → Sees told holds read h0 h1 r
+  pub sees-nothing : (r : Result (Unit {0}) AtPathError) → h1 ≡ h0 → ((s : Sources) → read s ≡ []) → AddsSeenNames told holds read h0 h1 r
   sees-nothing r same none =
       record {
         added = adds-none (names_of h0) (names_of h1) (ap names_of same);
@@ -256,7 +256,7 @@ module _ (told : Option Names) (holds : Option Objects) (read : Sources → List
       }
 
   -- a refusal before anything was seen
-  pub sees-refused : (r : Result (Unit {0}) AtPathError) (e : AtPathError) → IsErrAnd r (λ x. x ≡ e) → h1 ≡ h0 → Sees told holds read h0 h1 r
+  pub sees-refused : (r : Result (Unit {0}) AtPathError) (e : AtPathError) → IsErrAnd r (λ x. x ≡ e) → h1 ≡ h0 → AddsSeenNames told holds read h0 h1 r
   sees-refused r e said same =
       record {
         added = adds-none (names_of h0) (names_of h1) (ap names_of same);
@@ -267,7 +267,7 @@ module _ (told : Option Names) (holds : Option Objects) (read : Sources → List
 
   -- the first names of a text were seen, and its list was not pushed
   pub sees-some : (r : Result (Unit {0}) AtPathError) (e : AtPathError) (given : List (List ℕ)) → IsErrAnd r (λ x. x ≡ e) → lists_of h1 ≡ lists_of h0 → SeesPart (names_of h0) given (names_of h1)
-      → ((s : Sources) → Tells told holds s → read s ≡ given) → Sees told holds read h0 h1 r
+      → ((s : Sources) → Tells told holds s → read s ≡ given) → AddsSeenNames told holds read h0 h1 r
   sees-some r e given said same part are =
       let added : AddsNames (names_of h0) (names_of h1) = adds-part (names_of h0) given (names_of h1) part in
       record {
@@ -278,8 +278,8 @@ module _ (told : Option Names) (holds : Option Objects) (read : Sources → List
       }
 
   -- what was refused once more after that has not seen more
-  pub sees-front : (read' : Sources → List (List ℕ)) (e : AtPathError) → Sees {T = Unit {0}} told holds read h0 h1 (Err e)
-      → ((s : Sources) → Tells told holds s → (more : List (List ℕ)) × (read' s ≡ read s ++ more)) → Sees {T = Unit {0}} told holds read' h0 h1 (Err e)
+  pub sees-front : (read' : Sources → List (List ℕ)) (e : AtPathError) → AddsSeenNames {T = Unit {0}} told holds read h0 h1 (Err e)
+      → ((s : Sources) → Tells told holds s → (more : List (List ℕ)) × (read' s ≡ read s ++ more)) → AddsSeenNames {T = Unit {0}} told holds read' h0 h1 (Err e)
   sees-front read' e x more =
       record {
         added = x.added;
@@ -291,7 +291,7 @@ module _ (told : Option Names) (holds : Option Objects) (read : Sources → List
       }
 
   -- of names that are these
-  pub sees-as : (read' : Sources → List (List ℕ)) (r : Result (Unit {0}) AtPathError) → ((s : Sources) → Tells told holds s → read' s ≡ read s) → Sees told holds read h0 h1 r → Sees told holds read' h0 h1 r
+  pub sees-as : (read' : Sources → List (List ℕ)) (r : Result (Unit {0}) AtPathError) → ((s : Sources) → Tells told holds s → read' s ≡ read s) → AddsSeenNames told holds read h0 h1 r → AddsSeenNames told holds read' h0 h1 r
   sees-as read' r same x =
       record {
         added = x.added;
@@ -301,12 +301,12 @@ module _ (told : Option Names) (holds : Option Objects) (read : Sources → List
       }
 
 -- a refusal of any answer, before anything was seen
-pub sees-none : {T : Type 0} (told : Option Names) (holds : Option Objects) (read : Sources → List (List ℕ)) (h : Option HeldAttributes) (e : AtPathError) → Sees {T = T} told holds read h h (Err e)
+pub sees-none : {T : Type 0} (told : Option Names) (holds : Option Objects) (read : Sources → List (List ℕ)) (h : Option HeldAttributes) (e : AtPathError) → AddsSeenNames {T = T} told holds read h h (Err e)
 sees-none told holds read h e = record { added = adds-none (names_of h) (names_of h) refl; known = λ known. known; all = λ s tells. tt; some = λ s tells. part_none (names_of h) (read s) }
 
 -- the list of a text was pushed
 pub sees-pushed : (told : Option Names) (holds : Option Objects) (read : Sources → List (List ℕ)) (h0 h1 : Option HeldAttributes) (h : HeldAttributes) (ls : List Line) (source base : List ℕ)
-    → h0 ≡ Some h → h1 ≡ push_list (list_from ls source base) (names_in ls) h0 → ((s : Sources) → Tells told holds s → read s ≡ names_in ls) → Sees {T = Unit {0}} told holds read h0 h1 (Ok tt)
+    → h0 ≡ Some h → h1 ≡ push_list (list_from ls source base) (names_in ls) h0 → ((s : Sources) → Tells told holds s → read s ≡ names_in ls) → AddsSeenNames {T = Unit {0}} told holds read h0 h1 (Ok tt)
 sees-pushed told holds read h0 h1 h ls source base some pushed are =
     let names : names_of h1 ≡ with_names (names_of h0) (names_in ls) =
     ap names_of pushed ∙ ap (λ (x : Option HeldAttributes). names_of (push_list (list_from ls source base) (names_in ls) x)) some ∙ sym (ap (λ (x : Option HeldAttributes). with_names (names_of x) (names_in ls)) some) in
@@ -319,13 +319,13 @@ sees-pushed told holds read h0 h1 h ls source base some pushed are =
 
 -- the same of a text, whether there is one or none
 pub sees-text : (told : Option Names) (holds : Option Objects) (read : Sources → List (List ℕ)) (h0 h1 : Option HeldAttributes) (h : HeldAttributes) (macros : Bool) (d : List ℕ) (text : Option Text)
-    → h0 ≡ Some h → h1 ≡ push_list (attributes_from macros d text) (names_from macros text) h0 → ((s : Sources) → Tells told holds s → read s ≡ names_from macros text) → Sees {T = Unit {0}} told holds read h0 h1 (Ok tt)
+    → h0 ≡ Some h → h1 ≡ push_list (attributes_from macros d text) (names_from macros text) h0 → ((s : Sources) → Tells told holds s → read s ≡ names_from macros text) → AddsSeenNames {T = Unit {0}} told holds read h0 h1 (Ok tt)
 sees-text told holds read h0 h1 h macros d None some pushed are = sees-pushed told holds read h0 h1 h (lines macros []) [] d some pushed are
 sees-text told holds read h0 h1 h macros d (Some text) some pushed are = sees-pushed told holds read h0 h1 h (lines macros text.bytes) text.source d some pushed are
 
 -- what was pushed is dropped again
-pub sees-undone : (told : Option Names) (holds : Option Objects) (read : Sources → List (List ℕ)) (h0 h1 h2 : Option HeldAttributes) (e : AtPathError) → Sees {T = Unit {0}} told holds read h0 h1 (Err e)
-    → names_of h2 ≡ names_of h1 → lists_of h2 ≡ lists_of h0 → Sees {T = Unit {0}} told holds read h0 h2 (Err e)
+pub sees-undone : (told : Option Names) (holds : Option Objects) (read : Sources → List (List ℕ)) (h0 h1 h2 : Option HeldAttributes) (e : AtPathError) → AddsSeenNames {T = Unit {0}} told holds read h0 h1 (Err e)
+    → names_of h2 ≡ names_of h1 → lists_of h2 ≡ lists_of h0 → AddsSeenNames {T = Unit {0}} told holds read h0 h2 (Err e)
 sees-undone told holds read h0 h1 h2 e x same lists =
     let added : AddsNames (names_of h0) (names_of h2) = subst (AddsNames (names_of h0)) (sym same) x.added in
     record {
@@ -336,21 +336,21 @@ sees-undone told holds read h0 h1 h2 e x same lists =
     }
 
 -- what was seen before another call was refused
-pub sees-before : (told : Option Names) (holds : Option Objects) (read : Sources → List (List ℕ)) (h0 h1 : Option HeldAttributes) (e : AtPathError) → Sees {T = Unit {0}} told holds read h0 h1 (Ok tt) → Sees {T = Unit {0}} told holds read h0 h1 (Err e)
+pub sees-before : (told : Option Names) (holds : Option Objects) (read : Sources → List (List ℕ)) (h0 h1 : Option HeldAttributes) (e : AtPathError) → AddsSeenNames {T = Unit {0}} told holds read h0 h1 (Ok tt) → AddsSeenNames {T = Unit {0}} told holds read h0 h1 (Err e)
 sees-before told holds read h0 h1 e x =
     record { added = x.added; known = x.known; all = λ s tells. tt; some = λ s tells. part_all (names_of h0) (read s) (names_of h1) (x.all s tells) }
 
 -- lists are dropped, and names stay
-pub sees-dropped : (told : Option Names) (holds : Option Objects) (h0 h1 : Option HeldAttributes) → names_of h1 ≡ names_of h0 → AreLowest (lists_of h1) (lists_of h0) → Sees {T = Unit {0}} told holds (λ s. []) h0 h1 (Ok tt)
+pub sees-dropped : (told : Option Names) (holds : Option Objects) (h0 h1 : Option HeldAttributes) → names_of h1 ≡ names_of h0 → AreLowest (lists_of h1) (lists_of h0) → AddsSeenNames {T = Unit {0}} told holds (λ s. []) h0 h1 (Ok tt)
 sees-dropped told holds h0 h1 same lowest =
     let added : AddsNames (names_of h0) (names_of h1) = adds-none (names_of h0) (names_of h1) same in
     record { added = added; known = known-lowest h0 h1 added lowest; all = λ s tells. same; some = λ s tells. tt }
 
 -- one call behind another
 pub sees-then : (told0 told1 : Option Names) (holds0 holds1 : Option Objects) (read0 read1 read : Sources → List (List ℕ)) (h0 h1 h2 : Option HeldAttributes) (r : Result (Unit {0}) AtPathError)
-    → Sees {T = Unit {0}} told0 holds0 read0 h0 h1 (Ok tt)
+    → AddsSeenNames {T = Unit {0}} told0 holds0 read0 h0 h1 (Ok tt)
     → ((s : Sources) → Tells told0 holds0 s → (after : Sources) × Tells told1 holds1 after × (read s ≡ read0 s ++ read1 after))
-    → Sees told1 holds1 read1 h1 h2 r → Sees told0 holds0 read h0 h2 r
+    → AddsSeenNames told1 holds1 read1 h1 h2 r → AddsSeenNames told0 holds0 read h0 h2 r
 sees-then told0 told1 holds0 holds1 read0 read1 read h0 h1 h2 r first after second =
     record {
       added = adds-then (names_of h0) (names_of h1) (names_of h2) first.added second.added;
@@ -366,11 +366,11 @@ sees-then told0 told1 holds0 holds1 read0 read1 read h0 h1 h2 r first after seco
     }
 
 -- a directory's own file, and the info file
-pub sees-both : (told0 told1 : Option Names) (holds0 holds1 : Option Objects) (made : Made) (old mid : Stacked) (h2 : Option HeldAttributes) (r : Result (Unit {0}) AtPathError) → told1 ≡ told0 → holds1 ≡ holds0
+pub sees-both : (told0 told1 : Option Names) (holds0 holds1 : Option Objects) (made : StackSetup) (old mid : Stacked) (h2 : Option HeldAttributes) (r : Result (Unit {0}) AtPathError) → told1 ≡ told0 → holds1 ≡ holds0
     → attributes_setup_of mid.attributes ≡ attributes_setup_of old.attributes → mid.current ≡ old.current
-    → Sees {T = Unit {0}} told0 holds0 (λ s. own_names_if made (attributes_setup_of old.attributes) s (spelled old.current)) old.attributes mid.attributes (Ok tt)
-    → Sees told1 holds1 (λ s. info_names_if (attributes_setup_of mid.attributes) s (spelled mid.current)) mid.attributes h2 r
-    → Sees told0 holds0 (λ s. names_if made (attributes_setup_of old.attributes) s (spelled old.current)) old.attributes h2 r
+    → AddsSeenNames {T = Unit {0}} told0 holds0 (λ s. own_names_if made (attributes_setup_of old.attributes) s (spelled old.current)) old.attributes mid.attributes (Ok tt)
+    → AddsSeenNames told1 holds1 (λ s. info_names_if (attributes_setup_of mid.attributes) s (spelled mid.current)) mid.attributes h2 r
+    → AddsSeenNames told0 holds0 (λ s. names_if made (attributes_setup_of old.attributes) s (spelled old.current)) old.attributes h2 r
 sees-both told0 told1 holds0 holds1 made old mid h2 r same_told same_holds setup current first second =
     sees-then told0 told1 holds0 holds1 (λ s. own_names_if made (attributes_setup_of old.attributes) s (spelled old.current)) (λ s. info_names_if (attributes_setup_of mid.attributes) s (spelled mid.current))
     (λ s. names_if made (attributes_setup_of old.attributes) s (spelled old.current)) old.attributes mid.attributes h2 r first

@@ -12,9 +12,9 @@ use Rattle.worktree_stack.specs.Excludes.{ancestors}
 use Rattle.worktree_stack.specs.Lookups.{asks_worktree}
 use Rattle.worktree_stack.specs.Moments.{Moment}
 use Rattle.worktree_stack.specs.Reading.{Sources, Tells}
-use Rattle.worktree_stack.specs.Setup.{Made}
+use Rattle.worktree_stack.specs.Setup.{StackSetup}
 use Rattle.worktree_stack.specs.StackSteps.{KeepsPlace, Pops, StepHolds, StepKeeps, StepMoves, StepSees}
-use Rattle.worktree_stack.specs.Stacked.{HasAsMany, HoldsFor, IsInStep, IsLevel, Stacked, made_of, pushed}
+use Rattle.worktree_stack.specs.Stacked.{CountsMatchDirectories, HoldsFor, IsInStep, IsLevel, Stacked, made_of, pushed}
 use Rattle.worktree_stack.specs.Steps.{CarriesOut, Stops}
 use Rattle.worktree_stack.proofs.Lookup.Carrying.{carries-then, stops-after}
 use Rattle.worktree_stack.proofs.Refusals.{rose-earlier}
@@ -52,7 +52,7 @@ module _ {W F : Type 0} (w : WorktreeOf W) (f : FindOf F) where
         platforms = second.platforms ∙ first.platforms;
         no_mkdirs = second.no_mkdirs ∙ first.no_mkdirs;
         untouched = λ none. second.untouched (ap asks_worktree first.made ∙ none) ∙ first.untouched none;
-        store_untouched = λ none. second.store_untouched (ap (λ (m : Made). m.mappings) first.made ∙ none) ∙ first.store_untouched none;
+        store_untouched = λ none. second.store_untouched (ap (λ (m : StackSetup). m.mappings) first.made ∙ none) ∙ first.store_untouched none;
         leaves = leaves-then w a.worktree b.worktree c.worktree first.leaves second.leaves;
         leaves_store = store-then f a.objects b.objects c.objects first.leaves_store second.leaves_store;
         unfaulted = on_ok r (λ same. same ∙ first.unfaulted) second.unfaulted;
@@ -73,7 +73,7 @@ module _ {W F : Type 0} (w : WorktreeOf W) (f : FindOf F) where
   pub holds-entered : (a b : Moment W F) (mid : Stacked) → b.stack ≡ record mid { at = Some mid.current } → KeepsPlace a.stack mid → pushed a.stack.at ≡ ancestors a.stack.current
       → ((s : Sources) → Tells (w.told a.worktree) (f.holds a.objects) s → HoldsFor (made_of a.stack) s (ancestors a.stack.current) a.stack.attributes a.stack.ignore
       → HoldsFor (made_of a.stack) s (fronts a.stack.current) mid.attributes mid.ignore)
-      → (HasAsMany (ancestors a.stack.current) a.stack.attributes a.stack.ignore → HasAsMany (fronts a.stack.current) mid.attributes mid.ignore)
+      → (CountsMatchDirectories (ancestors a.stack.current) a.stack.attributes a.stack.ignore → CountsMatchDirectories (fronts a.stack.current) mid.attributes mid.ignore)
       → StepHolds w f a b
   holds-entered a b mid entered place above in_step levels =
       record {
@@ -81,12 +81,12 @@ module _ {W F : Type 0} (w : WorktreeOf W) (f : FindOf F) where
             let told : HoldsFor (made_of a.stack) s (fronts a.stack.current) mid.attributes mid.ignore =
             in_step s tells (subst (λ (ds : List (List (List ℕ))). HoldsFor (made_of a.stack) s ds a.stack.attributes a.stack.ignore) above held) in
             let there : IsInStep s (record mid { at = Some mid.current }) =
-            subst (λ (m : Made). HoldsFor m s (fronts mid.current) mid.attributes mid.ignore) (sym place.made)
+            subst (λ (m : StackSetup). HoldsFor m s (fronts mid.current) mid.attributes mid.ignore) (sym place.made)
             (subst (λ (n : List (List ℕ)). HoldsFor (made_of a.stack) s (fronts n) mid.attributes mid.ignore) (sym place.current) told) in
             subst (λ (x : Stacked). IsInStep s x) (sym entered) there;
         levels = λ level.
-            let many : HasAsMany (fronts a.stack.current) mid.attributes mid.ignore = levels (subst (λ (ds : List (List (List ℕ))). HasAsMany ds a.stack.attributes a.stack.ignore) above level) in
-            let there : IsLevel (record mid { at = Some mid.current }) = subst (λ (n : List (List ℕ)). HasAsMany (fronts n) mid.attributes mid.ignore) (sym place.current) many in
+            let many : CountsMatchDirectories (fronts a.stack.current) mid.attributes mid.ignore = levels (subst (λ (ds : List (List (List ℕ))). CountsMatchDirectories ds a.stack.attributes a.stack.ignore) above level) in
+            let there : IsLevel (record mid { at = Some mid.current }) = subst (λ (n : List (List ℕ)). CountsMatchDirectories (fronts n) mid.attributes mid.ignore) (sym place.current) many in
             subst (λ (x : Stacked). IsLevel x) (sym entered) there;
       }
 

@@ -10,7 +10,7 @@ use Rattle.glob_rules.specs.declared.Case.{Case}
 use Rattle.worktree_fs.specs.Paths.{spelled, fronts, all_but_last}
 use Rattle.worktree_fs.proofs.Paths.Spelled.{components-spelled}
 use Rattle.worktree_stack.specs.declared.state.Checkout.{Checkout}
-use Rattle.worktree_stack.specs.Setup.{AttributesSetup, Made, Mapping, Held, attributes_setup_of, setup_of, globals_of, all_lists, has_excludes, deciding, deciding_if}
+use Rattle.worktree_stack.specs.Setup.{AttributesSetup, StackSetup, Mapping, Held, attributes_setup_of, setup_of, globals_of, all_lists, has_excludes, deciding, deciding_if}
 use Rattle.worktree_stack.specs.Excludes.{Rulebook, Decision, is_positive, decisive, own, above, exclude}
 use Rattle.worktree_stack.specs.Stacked.{Stacked, AreThoseOf, HoldsRules, IsInStep, made_of, pushed}
 use Rattle.worktree_stack.specs.Reading.{Sources, rulebook, lists_at, attribute_lists}
@@ -40,12 +40,12 @@ decided_at : (root : List ℕ) (case : Case) (mappings : List Mapping) (checkout
     → AreThoseOf (record { root = root; case = case; mappings = mappings; checkout = checkout; attributes = attributes; ignore = Some held.setup }) s (fronts (all_but_last names)) held.lists held.matches
     → deciding held (spelled names) is_dir case ≡ exclude (rulebook (record { root = root; case = case; mappings = mappings; checkout = checkout; attributes = attributes; ignore = Some held.setup }) s) names is_dir
 decided_at root case mappings checkout attributes held s is_dir [] path e a b those =
-    let made : Made = record { root = root; case = case; mappings = mappings; checkout = checkout; attributes = attributes; ignore = Some held.setup } in
+    let made : StackSetup = record { root = root; case = case; mappings = mappings; checkout = checkout; attributes = attributes; ignore = Some held.setup } in
     let bare : Held = record held { lists = [] } in
     own_is (rulebook made s) bare [] is_dir (record { overrides = refl; globals = refl; lists = refl }) ∙ sym (root_excluded (rulebook made s) is_dir)
 decided_at root case mappings checkout attributes held s is_dir (name ∷ names) [] e a b those = absurd (cc (b refl))
 decided_at root case mappings checkout attributes held s is_dir (name ∷ names) (byte ∷ bytes) e a b those =
-    let made : Made = record { root = root; case = case; mappings = mappings; checkout = checkout; attributes = attributes; ignore = Some held.setup } in
+    let made : StackSetup = record { root = root; case = case; mappings = mappings; checkout = checkout; attributes = attributes; ignore = Some held.setup } in
     deciding_is (rulebook made s) held (name ∷ names) is_dir byte bytes e
     (record { overrides = refl; globals = refl; lists = those.lists_are }) refl those.matches_are
 

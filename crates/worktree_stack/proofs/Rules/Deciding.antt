@@ -4,7 +4,7 @@ use Rattle.std.specs.Prelude.{◌≡◌, ℕ, Bool, List, [], ◌∷◌, ◌++�
 use Rattle.std.proofs.Common.{refl, sym, ap, ◌∙◌, subst, arith, length-append}
 use Rattle.std.proofs.lemmas.List.{reverse-append, map-append, length-map}
 use Rattle.glob_rules.specs.declared.ignore.RuleGroup.TheVariants.{Overrides, Directory, Globals}
-use Rattle.glob_rules.specs.Ignore.{Hit, Rules, list_hit, first_place, search_hit, search_place, numbered, place_or}
+use Rattle.glob_rules.specs.Ignore.{Hit, Rules, list_hit, first_place, search_hit, search_place, with_list_number, place_or}
 use Rattle.worktree_fs.specs.Paths.{spelled, fronts, all_but_last}
 use Rattle.worktree_stack.specs.Setup.{Held, by_place, own_decision, directory_decision, deciding}
 use Rattle.worktree_stack.specs.Excludes.{Rulebook, Decision, by_group, is_positive, in_directories, own, own_of_directory, decisive, above, exclude, ancestors}
@@ -43,7 +43,7 @@ by_place_else : (a b : Option (ℕ × Hit)) → by_place (place_or a b) ≡ opti
 by_place_else None b = refl
 by_place_else (Some place) b = refl
 
-by_number : (number : ℕ) (hit : Option Hit) → by_place (numbered number hit) ≡ by_group (Directory number) hit
+by_number : (number : ℕ) (hit : Option Hit) → by_place (with_list_number number hit) ≡ by_group (Directory number) hit
 by_number number None = refl
 by_number number (Some hit) = refl
 
@@ -55,7 +55,7 @@ place_in_directories book path is_dir (d ∷ rest) ladder =
     let here : Option Hit = list_hit path is_dir book.case (book.of_directory d) in
     let n : ℕ = length (map book.of_directory rest) in
     let more : Option (ℕ × Hit) = first_place path is_dir book.case (map book.of_directory rest) in
-    by_place_else (numbered n here) more
+    by_place_else (with_list_number n here) more
     ∙ ap (λ x. option_or x (by_place more)) (by_number n here)
     ∙ ap (λ (k : ℕ). option_or (by_group (Directory k) here) (by_place more)) (length-map rest book.of_directory ∙ sym ladder.0)
     ∙ ap (option_or (by_group (Directory (length d)) here)) (place_in_directories book path is_dir rest ladder.1)

@@ -24,7 +24,7 @@ use Rattle.worktree_stack.specs.ChecksOut.{ReadSame}
 use Rattle.worktree_stack.specs.GoesOn.{IsFresh, IsLater}
 use Rattle.worktree_stack.specs.Reading.{Place, in_tree, in_store, OneReading, file_at, places_in, places_of, attribute_places, attribute_places_of, info_readings, attribute_readings, own_readings, ignore_readings}
 use Rattle.worktree_stack.specs.Refused.{IsAmong}
-use Rattle.worktree_stack.specs.Setup.{AttributesSetup, Made, Setup, attributes_name, mapped_to}
+use Rattle.worktree_stack.specs.Setup.{AttributesSetup, StackSetup, Setup, attributes_name, mapped_to}
 use Rattle.worktree_stack.proofs.CheckOut.LaterTrees.{later-refl, node_of_last, nothing-last}
 use Rattle.worktree_stack.proofs.Rules.SameRead.{places-both}
 
@@ -138,7 +138,7 @@ no-info (Some path) [] some = absurd (some refl)
 no-info (Some path) (b ∷ bs) some = refl
 
 -- the readings of a directory that is new are the same later
-pub fresh-same : (made : Made) (t end : Names) (name : List ℕ) (names : List (List ℕ)) → made.ignore ≡ None → gitbase.AreNames (name ∷ names) → IsLater t end → IsFresh made.root t (Some (name ∷ names))
+pub fresh-same : (made : StackSetup) (t end : Names) (name : List ℕ) (names : List (List ℕ)) → made.ignore ≡ None → gitbase.AreNames (name ∷ names) → IsLater t end → IsFresh made.root t (Some (name ∷ names))
     → ReadSame t end (places_of made (spelled (name ∷ names)))
 fresh-same made t end name names alone are later fresh = all made.attributes made.ignore alone
   where

@@ -18,7 +18,7 @@ use Rattle.worktree_stack.specs.Counted.{count_call, counts_of, files_in, blobs_
 use Rattle.worktree_stack.specs.Placed.{CountsEach, CountsReadings, CountsPlaces, TriesPlaces, IsCut, IsCutOff, Reads}
 use Rattle.worktree_stack.specs.Reading.{Sources, Tells, Place, Text, RulesKind, text_or_none, attributes_from, own_lists_if, info_places, info_readings, of_attributes, of_ignore, OneReading, first_text, ignore_places, attribute_places, ignore_readings, own_readings, info_readings_if, ignore_places_of, attribute_places_of}
 use Rattle.worktree_stack.specs.Refused.{IsRefused}
-use Rattle.worktree_stack.specs.Setup.{AttributesSetup, HeldAttributes, Held, Setup, Made, attributes_setup_of, lists_of, push_list, pop_list, pop_lists, without_highest, without_info, IsLonger, attributes_name, mapped_to, has_excludes}
+use Rattle.worktree_stack.specs.Setup.{AttributesSetup, HeldAttributes, Held, Setup, StackSetup, attributes_setup_of, lists_of, push_list, pop_list, pop_lists, without_highest, without_info, IsLonger, attributes_name, mapped_to, has_excludes}
 use Rattle.worktree_stack.specs.Stacked.{Stacked, made_of, own_count, info_count, count_at, HoldsRules, HasAsManyRules}
 use Rattle.worktree_stack.specs.Excludes.{ancestors}
 use Rattle.worktree_fs.specs.PathStack.{push_directory}
@@ -40,7 +40,7 @@ attribute-as source source' whole whole' path path' mapped mapped' a b c d =
     ap (λ x. attribute_places x whole path mapped) a ∙ ap (λ (w : List ℕ). attribute_places source' w path mapped) b
     ∙ ap (λ (p : List ℕ). attribute_places source' whole' p mapped) c ∙ ap (attribute_places source' whole' path') d
 
-module _ (made : Made) (d whole path : List ℕ) (mapped : Option (List ℕ)) where
+module _ (made : StackSetup) (d whole path : List ℕ) (mapped : Option (List ℕ)) where
   pub ignore-placed : (setup : Setup) (source : Source) → source ≡ setup.source → whole ≡ full_path made.root (joined d setup.file_name) → path ≡ joined d setup.file_name → mapped ≡ mapped_to made.mappings path
       → ignore_places source whole path mapped ≡ ignore_places_of made setup d
   ignore-placed setup source a b c e =
@@ -55,14 +55,14 @@ module _ (made : Made) (d whole path : List ℕ) (mapped : Option (List ℕ)) wh
 
 -- ---- readings
 
-pub ignore-some : (made : Made) (setup : Setup) (d : List ℕ) (i : Option Setup) → i ≡ Some setup → ignore_readings made i d ≡ record { kind = of_ignore; places = ignore_places_of made setup d } ∷ []
+pub ignore-some : (made : StackSetup) (setup : Setup) (d : List ℕ) (i : Option Setup) → i ≡ Some setup → ignore_readings made i d ≡ record { kind = of_ignore; places = ignore_places_of made setup d } ∷ []
 ignore-some made setup d i e = ap (λ (x : Option Setup). ignore_readings made x d) e
 
-pub own-some : (made : Made) (setup : AttributesSetup) (d : List ℕ) (a : Option AttributesSetup) → a ≡ Some setup → own_readings made a d ≡ record { kind = of_attributes; places = attribute_places_of made setup d } ∷ []
+pub own-some : (made : StackSetup) (setup : AttributesSetup) (d : List ℕ) (a : Option AttributesSetup) → a ≡ Some setup → own_readings made a d ≡ record { kind = of_attributes; places = attribute_places_of made setup d } ∷ []
 own-some made setup d a e = ap (λ (x : Option AttributesSetup). own_readings made x d) e
 
 -- the first reading of ignore rules, where there are such
-pub the-ignore : (made : Made) (d : List ℕ) (i : Option Setup) → i ≡ made.ignore → has_excludes made ≡ true → (r : OneReading) × (ignore_readings made i d ≡ r ∷ [])
+pub the-ignore : (made : StackSetup) (d : List ℕ) (i : Option Setup) → i ≡ made.ignore → has_excludes made ≡ true → (r : OneReading) × (ignore_readings made i d ≡ r ∷ [])
 the-ignore made d None e some = absurd (cc (ap is_some e ∙ some))
 the-ignore made d (Some setup) e some = (record { kind = of_ignore; places = ignore_places_of made setup d }, refl)
 
@@ -138,7 +138,7 @@ all-dropped (Some h) setup d before lists setup_is lists_are l =
     go (Some path) (b ∷ bs) e = drop-one before l.more (omega (arith, e))
 
 -- the list of a directory's own attributes was pushed
-pub own-listed : (made : Made) (setup : AttributesSetup) (s : Sources) (d d' : List ℕ) (places : List Place) (text : Option Text) (macros : Bool) (held held' : Option HeldAttributes) (seen : List (List ℕ))
+pub own-listed : (made : StackSetup) (setup : AttributesSetup) (s : Sources) (d d' : List ℕ) (places : List Place) (text : Option Text) (macros : Bool) (held held' : Option HeldAttributes) (seen : List (List ℕ))
     → macros ≡ is_empty d' → d' ≡ d → attributes_setup_of held ≡ Some setup → places ≡ attribute_places_of made setup d → first_text s places ≡ Ok text
     → held' ≡ push_list (attributes_from macros d' text) seen held
     → lists_of held' ≡ lists_of held ++ own_lists_if made (attributes_setup_of held) s d
@@ -249,7 +249,7 @@ counts-kept s of_attributes = refl
 counts-kept s of_ignore = refl
 
 module _ {W F : Type 0} (w : WorktreeOf W) (f : FindOf F) (w0 w1 : W) (o0 o1 : F) where
-  pub reads-counted : {T : Type 0} (old mid : Stacked) (readings : Made → List ℕ → List OneReading) (s1 : Statistics) (r : Result T AtPathError) → mid ≡ counted-push old
+  pub reads-counted : {T : Type 0} (old mid : Stacked) (readings : StackSetup → List ℕ → List OneReading) (s1 : Statistics) (r : Result T AtPathError) → mid ≡ counted-push old
       → Reads w f w0 w1 o0 o1 (readings (made_of mid) (spelled mid.current)) mid.statistics s1 r → Reads w f w0 w1 o0 o1 (readings (made_of old) (spelled old.current)) old.statistics s1 r
   reads-counted {T} old mid readings s1 r mid_is said =
       let there : Reads {T = T} w f w0 w1 o0 o1 (readings (made_of old) (spelled old.current)) (counted-push old).statistics s1 r =
@@ -260,11 +260,11 @@ pub rules-bridge : (s : Sources) (old mid : Stacked) (new : Option Held) → mad
     → (HoldsRules (made_of mid) s (ancestors mid.current) mid.ignore → HoldsRules (made_of mid) s (fronts mid.current) new)
     → HoldsRules (made_of old) s (ancestors old.current) old.ignore → HoldsRules (made_of old) s (fronts old.current) new
 rules-bridge s old mid new made current ignore on holds =
-    subst (λ (m : Made). HoldsRules m s (fronts old.current) new) made
+    subst (λ (m : StackSetup). HoldsRules m s (fronts old.current) new) made
     (subst (λ (n : List (List ℕ)). HoldsRules (made_of mid) s (fronts n) new) current
     (on (subst (λ (h : Option Held). HoldsRules (made_of mid) s (ancestors mid.current) h) (sym ignore)
     (subst (λ (n : List (List ℕ)). HoldsRules (made_of mid) s (ancestors n) old.ignore) (sym current)
-    (subst (λ (m : Made). HoldsRules m s (ancestors old.current) old.ignore) (sym made) holds)))))
+    (subst (λ (m : StackSetup). HoldsRules m s (ancestors old.current) old.ignore) (sym made) holds)))))
 
 pub level-bridge : (old mid : Stacked) (new : Option Held) → mid.current ≡ old.current → mid.ignore ≡ old.ignore
     → (HasAsManyRules (ancestors mid.current) mid.ignore → HasAsManyRules (fronts mid.current) new) → HasAsManyRules (ancestors old.current) old.ignore → HasAsManyRules (fronts old.current) new

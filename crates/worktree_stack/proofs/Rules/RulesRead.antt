@@ -8,7 +8,7 @@ use Rattle.worktree_stack.specs.declared.error.AtPathError.{AtPathError}
 use Rattle.worktree_stack.specs.declared.statistics.Statistics.{Statistics}
 use Rattle.worktree_stack.specs.Placed.{Reads}
 use Rattle.worktree_stack.specs.Reading.{OneReading, attribute_readings, ignore_readings, readings_of}
-use Rattle.worktree_stack.specs.Setup.{Made}
+use Rattle.worktree_stack.specs.Setup.{StackSetup}
 use Rattle.worktree_stack.specs.Stacked.{Stacked, made_of}
 use Rattle.worktree_stack.proofs.Rules.Pushing.{counted-push, reads-counted}
 use Rattle.worktree_stack.proofs.Rules.Readings.{reads-cut, reads-then}
@@ -25,7 +25,7 @@ module _ {W F : Type 0} (w : WorktreeOf W) (f : FindOf F) (w0 w1 : W) (o0 o1 : F
       → Reads {T = Unit {0}} w f w0 w1 o0 o1 (attribute_readings (made_of counted) (made_of counted).attributes (spelled counted.current)) counted.statistics after.statistics (Err e)
       → Reads {T = Unit {0}} w f w0 w1 o0 o1 (readings_of (made_of old) (spelled old.current)) old.statistics after.statistics (Err e)
   rules-unread e read =
-      let made : Made = made_of old in
+      let made : StackSetup = made_of old in
       reads-cut w f w0 w1 o0 o1 (attribute_readings made made.attributes (spelled old.current)) (ignore_readings made made.ignore (spelled old.current)) old.statistics after.statistics e (attributes-read (Err e) read)
 
   -- they were done, and then that of the ignore rules was, or was refused
@@ -34,9 +34,9 @@ module _ {W F : Type 0} (w : WorktreeOf W) (f : FindOf F) (w0 w1 : W) (o0 o1 : F
       → Reads w f w1 w2 o1 o2 (ignore_readings (made_of after) (made_of after).ignore (spelled after.current)) after.statistics s2 r
       → Reads w f w0 w2 o0 o2 (readings_of (made_of old) (spelled old.current)) old.statistics s2 r
   rules-read w2 o2 s2 r made_is current_is first second =
-      let made : Made = made_of old in
+      let made : StackSetup = made_of old in
       let ignore : List OneReading = ignore_readings made made.ignore (spelled old.current) in
       let ignore_is : ignore_readings (made_of after) (made_of after).ignore (spelled after.current) ≡ ignore =
-      ap (λ (m : Made). ignore_readings m m.ignore (spelled after.current)) made_is ∙ ap (λ (n : List (List ℕ)). ignore_readings made made.ignore (spelled n)) current_is in
+      ap (λ (m : StackSetup). ignore_readings m m.ignore (spelled after.current)) made_is ∙ ap (λ (n : List (List ℕ)). ignore_readings made made.ignore (spelled n)) current_is in
       reads-then w f w0 w1 w2 o0 o1 o2 (attribute_readings made made.attributes (spelled old.current)) ignore old.statistics after.statistics s2 tt (attributes-read (Ok tt) first) r
       (subst (λ (rs : List OneReading). Reads w f w1 w2 o1 o2 rs after.statistics s2 r) ignore_is second)

@@ -9,7 +9,7 @@ use Rattle.worktree_fs.specs.Paths.{spelled}
 use Rattle.worktree_fs.specs.Tree.{Names, look}
 use Rattle.worktree_stack.specs.ChecksOut.{AreReadSame, ReadSame}
 use Rattle.worktree_stack.specs.Reading.{Sources, Place, in_tree, in_store, OneReading, file_at, list_at, path_of, text_at, or_next, first_text, with_text, texts_of, places_in, places_of, readings_of, reading, is_read, lists_at, own_lists_if, info_lists, info_lists_if, attribute_places_of, info_places, info_readings, text_or_none, attributes_from, own_readings, info_readings_if, ignore_readings}
-use Rattle.worktree_stack.specs.Setup.{AttributesSetup, HeldAttributes, Held, Made, setup_of}
+use Rattle.worktree_stack.specs.Setup.{AttributesSetup, HeldAttributes, Held, StackSetup, setup_of}
 use Rattle.worktree_stack.specs.Stacked.{HoldsFor}
 use Rattle.worktree_stack.proofs.Lookup.InStep.{rules-none}
 
@@ -46,11 +46,11 @@ module _ (s s1 : Sources) (objects : s1.objects ≡ s.objects) where
       ap (λ t. with_text t (texts_of s readings)) (first-same r.places (same-front s.tree s1.tree r.places (places_in readings) same))
       ∙ ap (with_text (first_text s1 r.places)) (texts-same readings (same-back s.tree s1.tree r.places (places_in readings) same))
 
-  pub reading-same : (made : Made) (d : List ℕ) → ReadSame s.tree s1.tree (places_of made d) → reading made s d ≡ reading made s1 d
+  pub reading-same : (made : StackSetup) (d : List ℕ) → ReadSame s.tree s1.tree (places_of made d) → reading made s d ≡ reading made s1 d
   unfolding reading
   reading-same made d same = texts-same (readings_of made d) same
 
-  own-same : (made : Made) (setup : Option AttributesSetup) (d : List ℕ) → ReadSame s.tree s1.tree (places_in (own_readings made setup d)) → own_lists_if made setup s d ≡ own_lists_if made setup s1 d
+  own-same : (made : StackSetup) (setup : Option AttributesSetup) (d : List ℕ) → ReadSame s.tree s1.tree (places_in (own_readings made setup d)) → own_lists_if made setup s d ≡ own_lists_if made setup s1 d
   own-same made None d same = refl
   own-same made (Some setup) d same =
       ap (λ t. attributes_from (is_empty d) d (text_or_none t) ∷ []) (first-same (attribute_places_of made setup d) (same-front s.tree s1.tree (attribute_places_of made setup d) [] same))
@@ -64,7 +64,7 @@ module _ (s s1 : Sources) (objects : s1.objects ≡ s.objects) where
       go (Some path) [] same = ap (λ t. attributes_from true [] (text_or_none t) ∷ []) (first-same (info_places path) (same-front s.tree s1.tree (info_places path) [] same))
       go (Some path) (b ∷ bs) same = refl
 
-  pub lists-same : (made : Made) (names : List (List ℕ)) → ReadSame s.tree s1.tree (places_of made (spelled names)) → lists_at made s names ≡ lists_at made s1 names
+  pub lists-same : (made : StackSetup) (names : List (List ℕ)) → ReadSame s.tree s1.tree (places_of made (spelled names)) → lists_at made s names ≡ lists_at made s1 names
   lists-same made names same =
       let d : List ℕ = spelled names in
       let own : List OneReading = own_readings made made.attributes d in
@@ -76,7 +76,7 @@ module _ (s s1 : Sources) (objects : s1.objects ≡ s.objects) where
       ∙ ap (λ (l : List AttributeList). own_lists_if made made.attributes s1 d ++ l) (info-same made.attributes d (same-back s.tree s1.tree (places_in own) (places_in info) apart))
 
   -- what is held for some directories is what is read of them in both
-  pub holds-same : (made : Made) (directories : List (List (List ℕ))) (attributes : Option HeldAttributes) (ignore : Option Held) → setup_of ignore ≡ None → AreReadSame made s.tree s1.tree directories
+  pub holds-same : (made : StackSetup) (directories : List (List (List ℕ))) (attributes : Option HeldAttributes) (ignore : Option Held) → setup_of ignore ≡ None → AreReadSame made s.tree s1.tree directories
       → HoldsFor made s directories attributes ignore → HoldsFor made s1 directories attributes ignore
   holds-same made directories attributes ignore alone same holds =
       record { are_read = all-read directories same holds.are_read; lists = holds.lists ∙ all-lists directories same; rules = rules-none made s1 directories ignore alone }

@@ -4,7 +4,7 @@ ghost use Rattle.gitbase_core.specs.Path.{components};
 ghost use Rattle.worktree_fs.specs.Paths.{IsComponent};
 ghost use Rattle.worktree_fs.specs.PathStack.{deepest_names, push, calls_for, calls_below, lookup_calls};
 ghost use Rattle.worktree_stack.specs.ChecksOut.{left_of};
-ghost use Rattle.worktree_stack.specs.GoesOn.{Goes, GoesWithin, KeepsAll, KeepsOn, LeavesLast, PushesOut, Readies, is_wanted};
+ghost use Rattle.worktree_stack.specs.GoesOn.{RunsCheckoutCalls, GoesWithin, KeepsAll, KeepsOn, LeavesLast, PushesOut, Readies, needs_directory};
 ghost use Rattle.worktree_stack.specs.HeldOut.{AddsOut, HoldsOut};
 ghost use Rattle.worktree_stack.specs.Lookups.{is_dir_of, staying};
 ghost use Rattle.worktree_stack.specs.Making.{is_link_of, mkdirs, way_of};
@@ -34,7 +34,7 @@ impl Stack {
 
     /// Tests the component that is the last one of the current path, and sees to it that a
     /// directory is there, where one is to be.
-    fn ready<W: Worktree>(
+    fn check_and_make_directory<W: Worktree>(
         &mut self,
         alloc: Global,
         name: &[u8],
@@ -51,7 +51,7 @@ impl Stack {
         if let Err(why) = component(name, is_link(mode), checkout.validate) {
             return Err(AtPathError::Component(why));
         }
-        if !is_wanted(is_last, mode) {
+        if !needs_directory(is_last, mode) {
             return Ok(());
         }
         create_leading_directory(
@@ -66,7 +66,7 @@ impl Stack {
     /// Makes the path current that lies one component below the deepest directory, where it may be
     /// checked out. Where that is refused the deepest directory is the current path. See
     /// docs/DECISIONS.md#checkout-refused-push.
-    fn push_out<W: Worktree>(
+    fn push_component_in_checkout<W: Worktree>(
         &mut self,
         alloc: Global,
         name: &[u8],
@@ -82,8 +82,10 @@ impl Stack {
             result }
     {
         self.push(alloc, name)?;
-        if let Err(refused) = self.ready(alloc, name, is_last, checkout, mode, worktree) {
-            self.leave();
+        if let Err(refused) = self.check_and_make_directory(
+            alloc, name, is_last, checkout, mode, worktree,
+        ) {
+            self.make_deepest_current();
             return Err(refused);
         }
         Ok(())
@@ -91,7 +93,7 @@ impl Stack {
 
     /// Pushes the component below the deepest directory as a directory that is there, with its
     /// rules.
-    fn step_out<W: Worktree, F: Find>(
+    fn push_directory_in_checkout<W: Worktree, F: Find>(
         &mut self,
         alloc: Global,
         name: &[u8],
@@ -103,7 +105,7 @@ impl Stack {
         requires component { IsComponent name.now }
         requires some { is_some self.old.at ≡ true }
         // What is pushed, made, read and counted, and why it is refused.
-        ensures goes { Goes W.Worktree F.Find worktree.old worktree.new objects.old objects.new
+        ensures goes { RunsCheckoutCalls W.Worktree F.Find worktree.old worktree.new objects.old objects.new
             (way_of checkout (W.precomposes worktree.old) self.old.root (is_dir_of mode))
             (is_link_of mode) checkout.validate.protect_windows
             (calls_for (deepest_names self.old.at) name.now false) (name.now ∷ []) self.old self.new
@@ -126,13 +128,13 @@ impl Stack {
             (mkdirs self.old) s (calls_for (deepest_names self.old.at) name.now false)
             self.old.attributes self.new.attributes) }
     {
-        self.push_out(alloc, name, false, checkout, mode, worktree)?;
+        self.push_component_in_checkout(alloc, name, false, checkout, mode, worktree)?;
         self.push_directory(alloc, worktree, objects)
     }
 
     /// Pushes the components that are left of a path below the deepest directory, all but the last
     /// one as directories that are there, with their rules.
-    fn rest_out<W: Worktree, F: Find>(
+    fn push_rest_in_checkout<W: Worktree, F: Find>(
         &mut self,
         alloc: Global,
         left: &[u8],
@@ -144,7 +146,7 @@ impl Stack {
         requires some { is_some self.old.at ≡ true }
         requires end { components left.now ≡ [] → deepest_names self.old.at ≡ [] }
         // What is pushed, made, read and counted, and why it is refused.
-        ensures goes { Goes W.Worktree F.Find worktree.old worktree.new objects.old objects.new
+        ensures goes { RunsCheckoutCalls W.Worktree F.Find worktree.old worktree.new objects.old objects.new
             (way_of checkout (W.precomposes worktree.old) self.old.root (is_dir_of mode))
             (is_link_of mode) checkout.validate.protect_windows
             (calls_below (deepest_names self.old.at) (components left.now)) (components left.now)
@@ -174,19 +176,21 @@ impl Stack {
         let mut rest = left;
         while let Some(next) = next_component(rest) {
             if next.is_last {
-                return self.push_out(alloc, next.name, true, checkout, mode, worktree);
+                return self.push_component_in_checkout(
+                    alloc, next.name, true, checkout, mode, worktree,
+                );
             }
-            self.step_out(alloc, next.name, checkout, mode, worktree, objects)?;
+            self.push_directory_in_checkout(alloc, next.name, checkout, mode, worktree, objects)?;
             rest = next.rest;
         }
-        self.leave();
+        self.make_deepest_current();
         Ok(())
     }
 
     /// Goes to a normal path, and makes the directories on the way to it.
     /// See docs/DECISIONS.md#checkout-composes.
     /// See docs/DECISIONS.md#checkout-removes-rules.
-    pub(super) fn check_out<W: Worktree, F: Find>(
+    pub(super) fn look_up_making_directories<W: Worktree, F: Find>(
         &mut self,
         alloc: Global,
         relative: &[u8],
@@ -196,7 +200,7 @@ impl Stack {
         objects: &mut F,
     ) -> Result<(), AtPathError>
         // What is pushed, made, read and counted, and why it is refused.
-        ensures goes { Goes W.Worktree F.Find worktree.old worktree.new objects.old objects.new
+        ensures goes { RunsCheckoutCalls W.Worktree F.Find worktree.old worktree.new objects.old objects.new
             (way_of checkout (W.precomposes worktree.old) self.old.root (is_dir_of mode))
             (is_link_of mode) checkout.validate.protect_windows
             (lookup_calls self.old.at (components relative.now))
@@ -222,8 +226,8 @@ impl Stack {
     {
         self.push_root(alloc, worktree, objects)?;
         self.pop_surplus(relative);
-        let left = self.rest(relative);
-        self.rest_out(alloc, left, checkout, mode, worktree, objects)
+        let left = self.components_to_push(relative);
+        self.push_rest_in_checkout(alloc, left, checkout, mode, worktree, objects)
     }
 }
 
@@ -238,8 +242,8 @@ fn is_link(mode: Option<Mode>) -> bool
 }
 
 /// Whether a directory is to be at a component.
-fn is_wanted(is_last: bool, mode: Option<Mode>) -> bool
-    ensures { result ≡ is_wanted is_last (is_dir_of mode) }
+fn needs_directory(is_last: bool, mode: Option<Mode>) -> bool
+    ensures { result ≡ needs_directory is_last (is_dir_of mode) }
 {
     !is_last || mode_is_dir(mode) == Some(true)
 }

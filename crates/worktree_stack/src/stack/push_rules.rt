@@ -10,15 +10,15 @@ ghost use Rattle.worktree_stack.specs.Excludes.{ancestors};
 ghost use Rattle.worktree_stack.specs.Moments.{HidesNoFault, moment};
 ghost use Rattle.worktree_stack.specs.Placed.{Reads};
 ghost use Rattle.worktree_stack.specs.Reading.{Sources, Tells, attribute_readings, own_readings, info_readings_if, ignore_readings, readings_of, rulebook, rules_from, text_of, attributes_from, lists_if, own_lists_if, info_lists_if};
-ghost use Rattle.worktree_stack.specs.SeenNames.{Sees, info_names_if, names_from, names_if, own_names_if};
+ghost use Rattle.worktree_stack.specs.SeenNames.{AddsSeenNames, info_names_if, names_from, names_if, own_names_if};
 ghost use Rattle.worktree_stack.specs.Setup.{attributes_name, attributes_setup_of, lists_of, names_of, push_list, IsLonger};
 ghost use Rattle.worktree_stack.specs.StackSteps.{KeepsPlace, PushesRules};
-ghost use Rattle.worktree_stack.specs.Stacked.{HoldsFor, HoldsRules, HasAsMany, HasAsManyRules, attributes_of, checkout_of, ignore_of, info_count_if, own_count, count_at, made_of};
+ghost use Rattle.worktree_stack.specs.Stacked.{HoldsFor, HoldsRules, CountsMatchDirectories, HasAsManyRules, attributes_of, checkout_of, ignore_of, info_count_if, own_count, count_at, made_of};
 
 use super::Stack;
 use super::read_text::{read_text, set_paths};
 use crate::matched::Matched;
-use crate::order::{Order, of_attributes, of_ignore};
+use crate::order::{Order, attributes_read_order, ignore_read_order};
 use crate::{AtPathError, State};
 use gitbase_core::{Bytes, Find, OutOfMemory, PathText};
 use glob_rules::ignore::{List, ParseIgnore};
@@ -64,7 +64,7 @@ impl Stack {
             ignore.file_name(),
         )?;
         let path = self.rules_path.as_bytes();
-        let order = of_ignore(ignore.source(), self.id_mappings.id_of(path));
+        let order = ignore_read_order(ignore.source(), self.id_mappings.id_of(path));
         let source = read_text(
             alloc,
             worktree,
@@ -123,7 +123,7 @@ impl Stack {
     }
 
     /// Pushes the list of the current path's own `.gitattributes`.
-    fn push_own<W: Worktree, F: Find>(
+    fn push_directory_attributes<W: Worktree, F: Find>(
         &mut self,
         alloc: Global,
         worktree: &mut W,
@@ -149,7 +149,7 @@ impl Stack {
         ensures many { OnOk result (IsLonger (own_count (made_of self.old).attributes)
             (lists_of self.old.attributes) (lists_of self.new.attributes)) }
         // The names are seen that were read.
-        ensures names { Sees (W.told worktree.old) (F.holds objects.old)
+        ensures names { AddsSeenNames (W.told worktree.old) (F.holds objects.old)
             (λ s. own_names_if (made_of self.old) (made_of self.old).attributes s
             (spelled self.old.current)) self.old.attributes self.new.attributes result }
         // What is read and counted, and why it is refused.
@@ -174,7 +174,7 @@ impl Stack {
             attributes_name(),
         )?;
         let path = self.rules_path.as_bytes();
-        let order = of_attributes(attributes.source(), self.id_mappings.id_of(path));
+        let order = attributes_read_order(attributes.source(), self.id_mappings.id_of(path));
         let source = read_text(
             alloc,
             worktree,
@@ -224,7 +224,7 @@ impl Stack {
             (info_count_if (made_of self.old).attributes (spelled self.old.current))
             (lists_of self.old.attributes) (lists_of self.new.attributes)) }
         // The names are seen that were read.
-        ensures names { Sees (W.told worktree.old) (F.holds objects.old)
+        ensures names { AddsSeenNames (W.told worktree.old) (F.holds objects.old)
             (λ s. info_names_if (made_of self.old).attributes s (spelled self.old.current))
             self.old.attributes self.new.attributes result }
         // What is read and counted, and why it is refused.
@@ -290,7 +290,7 @@ impl Stack {
             (count_at (made_of self.old).attributes (spelled self.old.current))
             (lists_of self.old.attributes) (lists_of self.new.attributes)) }
         // The names are seen that were read.
-        ensures names { Sees (W.told worktree.old) (F.holds objects.old)
+        ensures names { AddsSeenNames (W.told worktree.old) (F.holds objects.old)
             (λ s. names_if (made_of self.old) (made_of self.old).attributes s
             (spelled self.old.current)) self.old.attributes self.new.attributes result }
         // What is read and counted, and why it is refused.
@@ -302,7 +302,7 @@ impl Stack {
             (moment worktree.old objects.old self.old)
             (moment worktree.new objects.new self.new) result }
     {
-        self.push_own(alloc, worktree, objects)?;
+        self.push_directory_attributes(alloc, worktree, objects)?;
         if let Err(refused) = self.push_info(alloc, worktree, objects) {
             self.state.pop_list();
             return Err(refused);
@@ -334,8 +334,8 @@ impl Stack {
             → OnOk result (HoldsFor (made_of self.old) s (fronts self.old.current)
             self.new.attributes self.new.ignore) }
         // There are as many lists and matches as directories.
-        ensures levels { HasAsMany (ancestors self.old.current) self.old.attributes self.old.ignore
-            → OnOk result (HasAsMany (fronts self.old.current) self.new.attributes
+        ensures levels { CountsMatchDirectories (ancestors self.old.current) self.old.attributes self.old.ignore
+            → OnOk result (CountsMatchDirectories (fronts self.old.current) self.new.attributes
             self.new.ignore) }
         // What is read and counted, and why it is refused.
         ensures reads { Reads W.Worktree F.Find worktree.old worktree.new objects.old objects.new

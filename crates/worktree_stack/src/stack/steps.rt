@@ -72,7 +72,7 @@ impl Stack {
         ensures undropped { surplus self.old.at (components relative.now) ≡ 0
             → lists_of self.new.attributes ≡ lists_of self.old.attributes }
     {
-        for _ in 0..self.surplus(relative) {
+        for _ in 0..self.count_directories_to_pop(relative) {
             self.pop_directory();
         }
     }
@@ -117,7 +117,7 @@ impl Stack {
             (push_directory (spelled self.old.current) ∷ []) 0 1 }
     {
         if let Err(refused) = self.push_rules(alloc, worktree, objects) {
-            self.leave();
+            self.make_deepest_current();
             return Err(refused);
         }
         self.enter_current();
@@ -138,10 +138,10 @@ impl Stack {
     }
 
     /// Makes the deepest directory the current path.
-    pub(super) fn leave(&mut self)
+    pub(super) fn make_deepest_current(&mut self)
         ensures { self.new ≡ record self.old { current = deepest_names self.old.at } }
     {
-        self.stack.leave();
+        self.stack.make_deepest_current();
     }
 
     /// Pushes the current path, whose rules are pushed.
@@ -200,7 +200,7 @@ impl Stack {
         if self.is_root_pushed() {
             return Ok(());
         }
-        self.leave();
+        self.make_deepest_current();
         self.push_directory(alloc, worktree, objects)
     }
 
@@ -294,7 +294,7 @@ impl Stack {
             self.descend(alloc, next.name, worktree, objects)?;
             rest = next.rest;
         }
-        self.leave();
+        self.make_deepest_current();
         Ok(())
     }
 
@@ -337,29 +337,29 @@ impl Stack {
     {
         self.push_root(alloc, worktree, objects)?;
         self.pop_surplus(relative);
-        let left = self.rest(relative);
+        let left = self.components_to_push(relative);
         self.push_rest(alloc, left, worktree, objects)
     }
 
     /// What is left of a path behind as many components as the deepest directory has.
-    pub(super) fn rest<'p>(&self, relative: &'p [u8]) -> &'p [u8]
+    pub(super) fn components_to_push<'p>(&self, relative: &'p [u8]) -> &'p [u8]
         ensures { components result.now ≡ drop (length (deepest_names self.now.at))
             (components relative.now) }
     {
-        if let Some(rest) = name_in(self.stack.deepest(), relative) {
+        if let Some(rest) = single_component_below(self.stack.deepest(), relative) {
             return rest;
         }
-        self.stack.rest(relative)
+        self.stack.components_to_push(relative)
     }
 
     /// How many of the directories that are pushed are not above a path.
-    fn surplus(&self, relative: &[u8]) -> usize
+    fn count_directories_to_pop(&self, relative: &[u8]) -> usize
         ensures { result ≡ surplus self.now.at (components relative.now) }
     {
-        if name_in(self.stack.deepest(), relative).is_some() {
+        if single_component_below(self.stack.deepest(), relative).is_some() {
             return 0;
         }
-        self.stack.surplus(relative)
+        self.stack.count_directories_to_pop(relative)
     }
 
     /// Counts a lookup, which is not answered yet.
@@ -371,7 +371,7 @@ impl Stack {
     }
 
     /// Answers for the current path, with whether it is a directory.
-    pub(super) fn answer(&mut self, mode: Option<Mode>)
+    pub(super) fn mark_answered(&mut self, mode: Option<Mode>)
         ensures { self.new ≡ record self.old { is_dir = is_dir_of mode; is_answered = true } }
     {
         self.is_dir = mode_is_dir(mode);
@@ -392,7 +392,7 @@ pub(super) fn mode_is_dir(mode: Option<Mode>) -> Option<bool>
 
 /// What a path has behind a directory, where that is one component: in the directory that is pushed
 /// already, a lookup begins with it.
-fn name_in<'p>(directory: &[u8], path: &'p [u8]) -> Option<&'p [u8]>
+fn single_component_below<'p>(directory: &[u8], path: &'p [u8]) -> Option<&'p [u8]>
     ensures { IfSome result (λ name. IsIn (components directory.now) (components path.now)
         (components name.now)) }
 {

@@ -6,7 +6,7 @@ use Rattle.clean_plan.proofs.Runs.{no_usage, text_asked-is, text_asked-unfaulted
 use Rattle.clean_plan.proofs.program.run_clean.Goals as goal
 
 pub returns-clause-runs : goal.returns-clause-runs
-returns-clause-runs g c = record { answer = c.text_asked-answer.result; answers = c.text_asked-answer.ensures; ends = c.finish.ensures }
+returns-clause-runs g c = record { answer = c.text_asked-answer.result; answers = c.text_asked-answer.ensures; ends = c.write_answer.ensures }
 
 pub returns-clause-unfaulted : goal.returns-clause-unfaulted
 returns-clause-unfaulted g c = λ zero.
@@ -14,21 +14,21 @@ returns-clause-unfaulted g c = λ zero.
     run_text _ _ _ _ _ _ _ _ (top.Answers g.W.Worktree g.I.Interrupt _ _ _ _ _)
     (λ (text : List ℕ). (g.W.Worktree.faults c.text_asked-answer.new.worktree ≡ g.W.Worktree.faults c.args.worktree.now)
     × NotIncreased (g.W.Worktree.faults c.args.worktree.now) (g.W.Worktree.faults c.text_asked-answer.new.worktree))
-    (λ text answers. text_asked-unfaulted g.W.Worktree g.I.Interrupt _ _ _ _ _ text answers) c.text_asked-answer.result c.text_asked-answer.ensures c.finish.ensures zero in
+    (λ text answers. text_asked-unfaulted g.W.Worktree g.I.Interrupt _ _ _ _ _ text answers) c.text_asked-answer.result c.text_asked-answer.ensures c.write_answer.ensures zero in
     wrote.1
 
 pub returns-clause-plan : goal.returns-clause-plan
 returns-clause-plan g c = λ t told zero.
     run_text _ _ _ _ _ _ _ _ (top.Answers g.W.Worktree g.I.Interrupt _ _ _ _ _) (λ (text : List ℕ). top.IsOutputAt _ t _ text)
     (λ text answers. text_asked-is g.W.Worktree g.I.Interrupt _ _ _ _ _ text answers t told)
-    c.text_asked-answer.result c.text_asked-answer.ensures c.finish.ensures zero
+    c.text_asked-answer.result c.text_asked-answer.ensures c.write_answer.ensures zero
 
 pub returns-clause-usage : goal.returns-clause-usage
 returns-clause-usage g c =
     run_usage _ _ _ _ _ _ _ _ (top.AnswersClean g.W.Worktree g.I.Interrupt _ _ _ _) _ _ _ _ (no_usage g.W.Worktree g.I.Interrupt _ _ _ _)
-    _ c.text_asked-answer.result c.text_asked-answer.ensures c.finish.ensures
+    _ c.text_asked-answer.result c.text_asked-answer.ensures c.write_answer.ensures
 
 pub returns-clause-complete : goal.returns-clause-complete
 returns-clause-complete g c = λ t told valid quiet calm taken.
-    ends_well _ _ _ _ _ _ _ _ _ c.finish.ensures taken
+    ends_well _ _ _ _ _ _ _ _ _ c.write_answer.ensures taken
     (wants_memory_alone g.W.Worktree g.I.Interrupt _ _ _ _ _ c.text_asked-answer.result c.text_asked-answer.ensures t told quiet calm valid)

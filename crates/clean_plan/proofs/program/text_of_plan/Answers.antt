@@ -14,4 +14,4 @@ returns-in-Ok g c =
     PlanTexts-ok c.in-Ok.plan c.in_ok-plan_bytes-in-Ok.field-0 c.in-Ok.ensures (ap Some c.in_ok-objects.ensures) c.in_ok-plan_bytes-in-Ok.ensures (omega (arith, quiet))
 
 pub returns : goal.returns
-returns g c = PlanTexts-refused c.in-Err.error c.in_ok-of_clean-in-Err.field-0 c.in-Err.ensures (ap Some c.in_ok-objects.ensures) (omega arith) c.in_ok-of_clean-in-Err.ensures
+returns g c = PlanTexts-refused c.in-Err.error c.in_ok-refusal_of_clean_error-in-Err.field-0 c.in-Err.ensures (ap Some c.in_ok-objects.ensures) (omega arith) c.in_ok-refusal_of_clean_error-in-Err.ensures

@@ -16,7 +16,7 @@ loop-at-preserved c =
     let out = takes_out c.args.specs.now in
     let path : List ℕ = c.args.path.now in
     let here = lies_beneath (take c.loop-at.at path) path && out (take c.loop-at.at path) in
-    c.longer-reach.ensures
+    c.reach_past_excluded-reach.ensures
     ∙ ap (λ (n : ℕ). if here then c.loop-at.at + 1 else n) c.loop-at.invariant
     ∙ reach-longer here c.args.begin c.loop-at.at (reach out c.loop-at.at path) (omega (arith, c.requires.begin, c.loop-at.auto.at))
     ∙ ap (λ (n : ℕ). max c.args.begin n) (reach-next out c.loop-at.at path)

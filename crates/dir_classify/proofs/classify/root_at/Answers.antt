@@ -100,7 +100,7 @@ returns-then-not-goes_on g c =
     c.is_repository-in_repository.result (components c.loop-next.rest.now) (components c.in-Some.next.rest.now) c.in-Some.ensures.0 (rw c.as_bytes.ensures at (sym c.goes_on.ensures ∙ c.if-not-goes_on.true)) in
     Reaches-ended g.W.Worktree g.F.Find c.args.worktree.now c.loop-next.worktree c.args.objects.now c.loop-next.objects c.args.excludes.now c.loop-next.excludes given
     c.args.worktree_relative_root.now c.loop-next.path c.loop-next.rest.now c.loop-next.class c.is_repository-in_repository.result c.loop-next.invariant c.requires.spelled
-    c.reached.result false c.reached.ensures (ap is_nil (sym c.in-Some.ensures.0)) (λ part. rw c.as_bytes.ensures at (sym c.goes_on.ensures ∙ c.if-not-goes_on.true)) (λ s. (short s).0) (λ s. (short s).1)
+    c.new_root_outcome.result false c.new_root_outcome.ensures (ap is_nil (sym c.in-Some.ensures.0)) (λ part. rw c.as_bytes.ensures at (sym c.goes_on.ensures ∙ c.if-not-goes_on.true)) (λ s. (short s).0) (λ s. (short s).1)
 
 pub returns-in_err-push_component : goal.returns-in_err-push_component
 returns-in_err-push_component g c =
@@ -117,4 +117,4 @@ returns g c =
     c.is_repository-in_repository.result (components c.loop-next.rest.now) none in
     Reaches-ended g.W.Worktree g.F.Find c.args.worktree.now c.loop-next.worktree c.args.objects.now c.loop-next.objects c.args.excludes.now c.loop-next.excludes given
     c.args.worktree_relative_root.now c.loop-next.path c.loop-next.rest.now c.loop-next.class c.is_repository-in_repository.result c.loop-next.invariant c.requires.spelled
-    c.reached-2.result true c.reached-2.ensures (ap is_nil (sym none)) (λ part. absurd (cc part)) (λ s. (whole s).0) (λ s. (whole s).1)
+    c.new_root_outcome-2.result true c.new_root_outcome-2.ensures (ap is_nil (sym none)) (λ part. absurd (cc part)) (λ s. (whole s).0) (λ s. (whole s).1)

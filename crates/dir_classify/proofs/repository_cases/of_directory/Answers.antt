@@ -10,31 +10,31 @@ use Rattle.dir_classify.proofs.repository_cases.of_directory.Goals as goal
 
 pub returns-clause-class : goal.returns-clause-class
 returns-clause-class g c = λ s told quiet made.
-    c.class_free.ensures
+    c.class_not_ignored.ensures
     ∙ directory-class (setting_of g.M.Matcher c.args.shared.now) made s c.args.rela_path.now c.args.full.now c.requires.full c.args.entry c.requires.entry c.args.kind
-    c.match_of-found.result (c.match_of-found.ensures made s) c.in_ok-disk_kind.disk_kind (rw c.is_hard-hard.ensures at (c.in_ok-disk_kind.ensures.kind s.tree told quiet))
+    c.match_of-found.result (c.match_of-found.ensures made s) c.in_ok-disk_kind.disk_kind (rw c.finds_bare_in_untracked-hard.ensures at (c.in_ok-disk_kind.ensures.kind s.tree told quiet))
 
 pub returns-clause-swallowed : goal.returns-clause-swallowed
 returns-clause-swallowed g c = λ s told made on_disk.
-    rw c.class_free.ensures
+    rw c.class_not_ignored.ensures
     (directory-judged (setting_of g.M.Matcher c.args.shared.now) made s c.args.rela_path.now c.args.full.now c.requires.full c.args.entry c.requires.entry c.args.kind
-    c.match_of-found.result (c.match_of-found.ensures made s) _ _ on_disk c.in_ok-disk_kind.disk_kind (rw c.is_hard-hard.ensures at (c.in_ok-disk_kind.ensures.swallowed s.tree told)))
+    c.match_of-found.result (c.match_of-found.ensures made s) _ _ on_disk c.in_ok-disk_kind.disk_kind (rw c.finds_bare_in_untracked-hard.ensures at (c.in_ok-disk_kind.ensures.swallowed s.tree told)))
 
 pub returns-clause-sought : goal.returns-clause-sought
 returns-clause-sought g c = λ no.
     let o = chosen c.args.shared.now.options in
     c.in_ok-disk_kind.ensures.unasked
     (sought-directory o c.args.entry c.args.kind c.in_ok-disk_kind.disk_kind c.match_of-found.result c.requires.directory c.in_ok-disk_kind.ensures.either
-    (ap (λ (x : Outcome). may_have_sought o x) (sym c.class_free.ensures) ∙ no))
+    (ap (λ (x : Outcome). may_have_sought o x) (sym c.class_not_ignored.ensures) ∙ no))
 
 pub returns-clause-certain : goal.returns-clause-certain
 returns-clause-certain g c = λ idle made s.
-    c.class_free.ensures
+    c.class_not_ignored.ensures
     ∙ directory-still (setting_of g.M.Matcher c.args.shared.now) made s c.args.rela_path.now c.args.full.now c.requires.full c.args.entry c.requires.entry c.args.kind
     c.match_of-found.result (c.match_of-found.ensures made s) c.in_ok-disk_kind.disk_kind (c.in_ok-disk_kind.ensures.certain idle) idle
 
 pub returns-clause-reads_most : goal.returns-clause-reads_most
-returns-clause-reads_most g c = omega (arith, rw c.is_hard-hard.ensures at c.in_ok-disk_kind.ensures.reads_most, most-untracked (chosen c.args.shared.now.options))
+returns-clause-reads_most g c = omega (arith, rw c.finds_bare_in_untracked-hard.ensures at c.in_ok-disk_kind.ensures.reads_most, most-untracked (chosen c.args.shared.now.options))
 
 pub returns-in_err-disk_kind-clause-reads_most : goal.returns-in_err-disk_kind-clause-reads_most
-returns-in_err-disk_kind-clause-reads_most g c = omega (arith, rw c.is_hard-hard.ensures at c.in_err-disk_kind.ensures.reads_most, most-untracked (chosen c.args.shared.now.options))
+returns-in_err-disk_kind-clause-reads_most g c = omega (arith, rw c.finds_bare_in_untracked-hard.ensures at c.in_err-disk_kind.ensures.reads_most, most-untracked (chosen c.args.shared.now.options))

@@ -9,13 +9,13 @@ use Rattle.dir_classify.proofs.repository_cases.of_ignored.Goals as goal
 
 pub returns-clause-class : goal.returns-clause-class
 returns-clause-class g c = λ s told quiet made.
-    c.class_seen.ensures
+    c.class_of_ignored.ensures
     ∙ ignored-class (setting_of g.M.Matcher c.args.shared.now) made s c.args.rela_path.now c.args.full.now c.requires.full c.args.entry c.requires.entry c.args.kind
     c.match_of-found.result (c.match_of-found.ensures made s) c.args.excluded c.in_ok-disk_kind.disk_kind (c.in_ok-disk_kind.ensures.kind s.tree told quiet)
 
 pub returns-clause-swallowed : goal.returns-clause-swallowed
 returns-clause-swallowed g c = λ s told made on_disk.
-    rw c.class_seen.ensures
+    rw c.class_of_ignored.ensures
     (ignored-judged (setting_of g.M.Matcher c.args.shared.now) made s c.args.rela_path.now c.args.full.now c.requires.full c.args.entry c.requires.entry c.args.kind
     c.match_of-found.result (c.match_of-found.ensures made s) _ _ c.args.excluded on_disk c.in_ok-disk_kind.disk_kind (c.in_ok-disk_kind.ensures.swallowed s.tree told))
 
@@ -24,4 +24,4 @@ returns-clause-sought g c = λ no.
     let o = chosen c.args.shared.now.options in
     c.in_ok-disk_kind.ensures.unasked
     (sought-ignored o c.args.rela_path.now c.args.excluded c.args.entry c.match_of-found.result c.in_ok-disk_kind.disk_kind
-    (ap (λ (x : Outcome). may_have_sought o x) (sym c.class_seen.ensures) ∙ no))
+    (ap (λ (x : Outcome). may_have_sought o x) (sym c.class_of_ignored.ensures) ∙ no))

@@ -13,7 +13,7 @@ pub returns-clause-swallowed : goal.returns-clause-swallowed
 returns-clause-swallowed g c = λ s tells step.
     ruled-read _ _ _ (setting_of g.M.Matcher c.args.shared.now) (made_with c.args.excludes.now) s c.args.rela_path.now c.args.full.now c.args.kind c.in_ok-is_dir.is_dir c.in_ok-ruling.ruling
     c.in_ok-is_dir.ensures.keeps.faults c.in_ok-ruling.ensures.keeps.faults c.requires.full (made-some c.args.excludes.now (search rules)) (search rules) (c.in_ok-is_dir.ensures.is_dir s.tree tells.tree_is) (c.in_ok-is_dir.ensures.swallowed s.tree tells.tree_is) (c.in_ok-ruling.ensures.ruling s
-    (tells-then (g.W.Worktree.told c.args.worktree.now) (g.W.Worktree.told c.ruled_as.new.worktree) (g.F.Find.holds c.args.objects.now) (made_with c.args.excludes.now) s c.in_ok-is_dir.ensures.keeps.tree tells) step)
+    (tells-then (g.W.Worktree.told c.args.worktree.now) (g.W.Worktree.told c.is_dir_for_rules.new.worktree) (g.F.Find.holds c.args.objects.now) (made_with c.args.excludes.now) s c.in_ok-is_dir.ensures.keeps.tree tells) step)
 
 pub returns-in_err-ruling-clause-stopped : goal.returns-in_err-ruling-clause-stopped
 returns-in_err-ruling-clause-stopped g c =

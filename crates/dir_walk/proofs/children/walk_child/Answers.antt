@@ -52,8 +52,8 @@ returns-clause-told g c =
           let read : (asks o ev p None (on_disk given s.tree p true) && ev.is_unread p) ≡ false = rw (c.path-path.ensures.path, stands.made_is) at (c.in_ok-class.ensures.read s (telling stands) stands.in_step asked) in
           let leaving : enters o k false ≡ false = sym (c.is_entered.ensures.entered default) ∙ c.if-is_entered.false in let z = c.in_ok-class-2.class in
           let hides : z ≡ leaf_class o ev p k = c.in_ok-class-2.ensures.class made s (c.class_of.ensures.keeps.tree ∙ stands.tree) here in
-          IfOk-weaker c.put_leaf-handed.result _ _ (λ h closes. Gives-leaf given made s p k is q at _ _ limit _ _ h read leaving (Gives-put o limit ev p k z _ _ _ _ h hides closes))
-          (rw (c.path-path.ensures.path, c.is_entered.ensures.given) at c.put_leaf-handed.ensures.gives);
+          IfOk-weaker c.hold_or_emit_leaf-handed.result _ _ (λ h closes. Gives-leaf given made s p k is q at _ _ limit _ _ h read leaving (Gives-put o limit ev p k z _ _ _ _ h hides closes))
+          (rw (c.path-path.ensures.path, c.is_entered.ensures.given) at c.hold_or_emit_leaf-handed.ensures.gives);
       part = λ made s stands quiet default.
           let a = c.args in let w = g.W.Worktree in let o = chosen a.shared.now.options in let given = setting_of g.M.Matcher a.shared.now in
           let ev = evidence given made s in let q = joined a.place.now.path a.name.now in let p = c.push.new.self.path in
@@ -63,9 +63,9 @@ returns-clause-told g c =
           let is : k ≡ class o ev p None (on_disk given s.tree p true) = rw (c.path-path.ensures.path, stands.made_is) at (c.in_ok-class.ensures.class s (telling stands) stands.in_step asked) in
           let leaving : enters o k false ≡ false = sym (c.is_entered.ensures.entered default) ∙ c.if-is_entered.false in let z = c.in_ok-class-2.class in
           let hides : z ≡ leaf_class o ev p k = c.in_ok-class-2.ensures.class made s (c.class_of.ensures.keeps.tree ∙ stands.tree) here in
-          on_err_weaker c.put_leaf-handed.result (λ part. part-leaf given made s p k is q at _ _ _ _ leaving (part-put o ev p k z _ _ _ _ hides part))
-          (rw (c.path-path.ensures.path, c.is_entered.ensures.given) at c.put_leaf-handed.ensures.part);
-      refused = λ made s stands default limit level. memory-only c.put_leaf-handed.result _ tt c.put_leaf-handed.ensures.memory;
+          on_err_weaker c.hold_or_emit_leaf-handed.result (λ part. part-leaf given made s p k is q at _ _ _ _ leaving (part-put o ev p k z _ _ _ _ hides part))
+          (rw (c.path-path.ensures.path, c.is_entered.ensures.given) at c.hold_or_emit_leaf-handed.ensures.part);
+      refused = λ made s stands default limit level. memory-only c.hold_or_emit_leaf-handed.result _ tt c.hold_or_emit_leaf-handed.ensures.memory;
     }
 
 pub returns-in_err-class-clause-walks : goal.returns-in_err-class-clause-walks
@@ -136,9 +136,9 @@ returns-then-is_entered-clause-walks g c =
 
 pub returns-clause-walks : goal.returns-clause-walks
 returns-clause-walks g c =
-    any-leaf c.is_entered.new.delegate c.put_leaf-handed.result (Before-then (Before-classed c.class_of.ensures.keeps c.class_of.ensures.store c.class_of.ensures.rules) (Before-asked c.leaf_class.ensures.worktree))
-    c.is_entered.ensures.default c.is_entered.ensures.given c.is_entered.ensures.breaks c.is_entered.ensures.refusals c.put_leaf-handed.ensures.delegate c.put_leaf-handed.ensures.filtered c.put_leaf-handed.ensures.heeds
-    (ap (λ (x : Standing). x.path) c.in_ok-cut.ensures.pushed) (rw c.path-path.ensures.path at c.put_leaf-handed.ensures.hands) c.put_leaf-handed.ensures.memory
+    any-leaf c.is_entered.new.delegate c.hold_or_emit_leaf-handed.result (Before-then (Before-classed c.class_of.ensures.keeps c.class_of.ensures.store c.class_of.ensures.rules) (Before-asked c.leaf_class.ensures.worktree))
+    c.is_entered.ensures.default c.is_entered.ensures.given c.is_entered.ensures.breaks c.is_entered.ensures.refusals c.hold_or_emit_leaf-handed.ensures.delegate c.hold_or_emit_leaf-handed.ensures.filtered c.hold_or_emit_leaf-handed.ensures.heeds
+    (ap (λ (x : Standing). x.path) c.in_ok-cut.ensures.pushed) (rw c.path-path.ensures.path at c.hold_or_emit_leaf-handed.ensures.hands) c.hold_or_emit_leaf-handed.ensures.memory
 
 pub returns-in_err-cut-clause-walks : goal.returns-in_err-cut-clause-walks
 returns-in_err-cut-clause-walks g c =
@@ -188,11 +188,11 @@ returns-in_err-class-2-clause-opens g c =
 
 pub returns-clause-opens : goal.returns-clause-opens
 returns-clause-opens g c =
-    apart-none (λ made s stands quiet default. omega arith) (c.leaf_class.ensures.worktree.lists ∙ c.class_of.ensures.keeps.lists) c.put_leaf-handed.ensures.entered
-    (omega (arith, shallow-memory c.put_leaf-handed.result c.put_leaf-handed.ensures.memory))
+    apart-none (λ made s stands quiet default. omega arith) (c.leaf_class.ensures.worktree.lists ∙ c.class_of.ensures.keeps.lists) c.hold_or_emit_leaf-handed.ensures.entered
+    (omega (arith, shallow-memory c.hold_or_emit_leaf-handed.result c.hold_or_emit_leaf-handed.ensures.memory))
 
-pub leave-requires : goal.leave-requires
-leave-requires g c =
+pub truncate_to_directory-requires : goal.truncate_to_directory-requires
+truncate_to_directory-requires g c =
     let within = c.in_ok-cut.ensures.within in
     let P : Standing → Type 0 = λ x. IsPushed c.in_ok-cut.cut c.args.place.now x in
     (c.args.place.now, on_ok_weaker c.walk_job-handed.result (λ same. subst P (sym same) within) c.walk_job-handed.ensures.stays)
@@ -201,10 +201,10 @@ pub returns-then-is_entered-clause-stays : goal.returns-then-is_entered-clause-s
 returns-then-is_entered-clause-stays g c =
     let within = c.in_ok-cut.ensures.within in
     let P : Standing → Type 0 = λ x. IsPushed c.in_ok-cut.cut c.args.place.now x in
-    c.leave.ensures c.args.place.now (on_ok_weaker c.walk_job-handed.result (λ same. subst P (sym same) within) c.walk_job-handed.ensures.stays)
+    c.truncate_to_directory.ensures c.args.place.now (on_ok_weaker c.walk_job-handed.result (λ same. subst P (sym same) within) c.walk_job-handed.ensures.stays)
 
-pub leave-requires-2 : goal.leave-requires-2
-leave-requires-2 g c = (c.args.place.now, OnOk-always c.put_leaf-handed.result c.in_ok-cut.ensures.within)
+pub truncate_to_directory-requires-2 : goal.truncate_to_directory-requires-2
+truncate_to_directory-requires-2 g c = (c.args.place.now, OnOk-always c.hold_or_emit_leaf-handed.result c.in_ok-cut.ensures.within)
 
 pub returns-clause-stays : goal.returns-clause-stays
-returns-clause-stays g c = c.leave-2.ensures c.args.place.now (OnOk-always c.put_leaf-handed.result c.in_ok-cut.ensures.within)
+returns-clause-stays g c = c.truncate_to_directory-2.ensures c.args.place.now (OnOk-always c.hold_or_emit_leaf-handed.result c.in_ok-cut.ensures.within)

@@ -41,7 +41,7 @@ returns-in_err-names-clause-walks g c =
       store = search rules;
       interrupt = search rules;
       hands =
-          let p = err_from_is_err_and c.from_residual.result c.from_residual.ensures.1 in rw p.1 (Hands-none refl c.open.ensures.counts.returned c.open.ensures.counts.seen);
+          let p = err_from_is_err_and c.from_residual.result c.from_residual.ensures.1 in rw p.1 (Hands-none refl c.list_directory.ensures.counts.returned c.list_directory.ensures.counts.seen);
       delegate = KeepsDelegate-same;
       filtered = search rules;
       heeds = search rules;
@@ -60,12 +60,12 @@ loop-name-init g c =
     let a = c.args in let told = g.D.Delegate.given in let given = setting_of g.M.Matcher a.shared.now in
     record {
       same = search rules;
-      worktree = let opened = c.open.ensures.worktree in record { tree = opened.tree; faults = opened.faults; list_faults = opened.list_faults; reads = opened.reads; lists = opened.lists; precomposes = opened.precomposes };
+      worktree = let opened = c.list_directory.ensures.worktree in record { tree = opened.tree; faults = opened.faults; list_faults = opened.list_faults; reads = opened.reads; lists = opened.lists; precomposes = opened.precomposes };
       store = AsksStore-same;
       rules = KeepsRules-same;
-      interrupt = c.open.ensures.interrupt;
-      opens = apart-end (λ n one made s stands quiet default. omega (arith, one)) (apart-one c.in_ok-names.ensures.counts.opens c.open.ensures.counts.once) refl refl;
-      puts = Puts-start a.place.now.path c.as_slice-name-items.result.now c.open.ensures.counts.returned c.open.ensures.counts.seen c.new-held.ensures.entries;
+      interrupt = c.list_directory.ensures.interrupt;
+      opens = apart-end (λ n one made s stands quiet default. omega (arith, one)) (apart-one c.in_ok-names.ensures.counts.opens c.list_directory.ensures.counts.once) refl refl;
+      puts = Puts-start a.place.now.path c.as_slice-name-items.result.now c.list_directory.ensures.counts.returned c.list_directory.ensures.counts.seen c.new-held.ensures.entries;
       delegate = KeepsDelegate-same;
       filtered = refl;
       listed = c.in_ok-names.ensures.caused.listed;
@@ -73,7 +73,7 @@ loop-name-init g c =
       kept_on = refl;
       stays = refl;
       so_far = λ made s stands quiet default limit level.
-          rw (c.new-held.ensures.entries, c.new-held.ensures.blocked) (SoFar-none given made s limit a.place.now.path (told a.parts.now.delegate.now) (told a.parts.now.delegate.now) a.parts.now.outcome.now c.open.new.outcome (c.in_ok-names.ensures.counts.counted (told a.parts.now.delegate.now)));
+          rw (c.new-held.ensures.entries, c.new-held.ensures.blocked) (SoFar-none given made s limit a.place.now.path (told a.parts.now.delegate.now) (told a.parts.now.delegate.now) a.parts.now.outcome.now c.list_directory.new.outcome (c.in_ok-names.ensures.counts.counted (told a.parts.now.delegate.now)));
     }
 
 pub returns-in_err-handed-clause-told : goal.returns-in_err-handed-clause-told
@@ -114,36 +114,36 @@ returns-in_err-handed-clause-walks g c =
           rw (p.1, p.2) (Heeds-after g.D.Delegate _ _ _ _ c.loop-name.invariant.kept_on c.in_err-handed.ensures.walks.heeds);
     }
 
-pub returns-in_err-take-clause-told : goal.returns-in_err-take-clause-told
-returns-in_err-take-clause-told g c =
-    let a = c.args in let kept = c.loop-name.invariant in let p = err_from_is_err_and c.from_residual-in_err-take.result c.from_residual-in_err-take.ensures.1 in
+pub returns-in_err-add_handed-clause-told : goal.returns-in_err-add_handed-clause-told
+returns-in_err-add_handed-clause-told g c =
+    let a = c.args in let kept = c.loop-name.invariant in let p = err_from_is_err_and c.from_residual-in_err-add_handed.result c.from_residual-in_err-add_handed.ensures.1 in
     rw (p.1, p.2)
     (told-unheld (moment c.loop-name.parts) a.class.now c.as_slice-name-items.result.now c.loop-name.name-index c.name-item.result
     (λ s told. HasNames-listed (setting_of g.M.Matcher a.shared.now) s.tree a.place.now.path c.as_slice.ensures c.is_empty.ensures c.if-is_empty.false c.as_slice-name-items.ensures c.in_ok-names.ensures.names (rw c.requires.root at (c.in_ok-names.ensures.lists s.tree told)))
     c.path-path.ensures.plain c.loop-name-test.true c.name-item.is kept.worktree kept.store kept.rules kept.delegate kept.so_far c.walk_child.ensures.walks.worktree.faults
     c.in_ok-handed.handed (rw (c.as_bytes.ensures, kept.stays) at c.in_ok-handed.ensures.told))
 
-pub returns-in_err-take-clause-rules : goal.returns-in_err-take-clause-rules
-returns-in_err-take-clause-rules g c = let kept = c.loop-name.invariant in KeepsRules-then kept.worktree.tree kept.store.holds kept.rules c.walk_child.ensures.rules
+pub returns-in_err-add_handed-clause-rules : goal.returns-in_err-add_handed-clause-rules
+returns-in_err-add_handed-clause-rules g c = let kept = c.loop-name.invariant in KeepsRules-then kept.worktree.tree kept.store.holds kept.rules c.walk_child.ensures.rules
 
-pub returns-in_err-take-clause-walks : goal.returns-in_err-take-clause-walks
-returns-in_err-take-clause-walks g c =
+pub returns-in_err-add_handed-clause-walks : goal.returns-in_err-add_handed-clause-walks
+returns-in_err-add_handed-clause-walks g c =
     record {
       about = λ limit level.
-          let p = err_from_is_err_and c.from_residual-in_err-take.result c.from_residual-in_err-take.ensures.1 in rw (p.1, p.2) tt;
+          let p = err_from_is_err_and c.from_residual-in_err-add_handed.result c.from_residual-in_err-add_handed.ensures.1 in rw (p.1, p.2) tt;
       found = λ s told.
-          let p = err_from_is_err_and c.from_residual-in_err-take.result c.from_residual-in_err-take.ensures.1 in rw (p.1, p.2) tt;
-      caused = let p = err_from_is_err_and c.from_residual-in_err-take.result c.from_residual-in_err-take.ensures.1 in rw (p.1, p.2) (record { fault = tt; interrupt = tt; listing = tt; listed = tt; calm = tt });
+          let p = err_from_is_err_and c.from_residual-in_err-add_handed.result c.from_residual-in_err-add_handed.ensures.1 in rw (p.1, p.2) tt;
+      caused = let p = err_from_is_err_and c.from_residual-in_err-add_handed.result c.from_residual-in_err-add_handed.ensures.1 in rw (p.1, p.2) (record { fault = tt; interrupt = tt; listing = tt; listed = tt; calm = tt });
       worktree = KeepsTree-then c.loop-name.invariant.worktree c.walk_child.ensures.walks.worktree;
       store = AsksStore-then c.loop-name.invariant.store c.walk_child.ensures.walks.store;
       interrupt = AsksInterrupt-then c.loop-name.invariant.interrupt c.walk_child.ensures.walks.interrupt;
       hands =
-          let p = err_from_is_err_and c.from_residual-in_err-take.result c.from_residual-in_err-take.ensures.1 in
+          let p = err_from_is_err_and c.from_residual-in_err-add_handed.result c.from_residual-in_err-add_handed.ensures.1 in
           rw p.1 (Hands-refused c.args.place.now.path c.as_slice-name-items.result.now c.loop-name.name-index c.name-item.result c.loop-name-test.true c.name-item.is c.loop-name.invariant.puts (rw (c.as_bytes.ensures, c.loop-name.invariant.stays) at c.in_ok-handed.ensures.walks.hands.puts) (rw c.as_slice-name-items.ensures c.in_ok-names.ensures.names)
           c.path-path.ensures.plain);
       delegate = KeepsDelegate-then c.loop-name.invariant.delegate c.walk_child.ensures.walks.delegate;
       filtered = c.walk_child.ensures.walks.filtered ∙ c.loop-name.invariant.filtered;
-      heeds = let p = err_from_is_err_and c.from_residual-in_err-take.result c.from_residual-in_err-take.ensures.1 in rw (p.1, p.2) (record { broken = tt; stopped = tt; unbroken = c.in_ok-handed.ensures.walks.heeds.kept_on ∙ c.loop-name.invariant.kept_on; kept_on = tt });
+      heeds = let p = err_from_is_err_and c.from_residual-in_err-add_handed.result c.from_residual-in_err-add_handed.ensures.1 in rw (p.1, p.2) (record { broken = tt; stopped = tt; unbroken = c.in_ok-handed.ensures.walks.heeds.kept_on ∙ c.loop-name.invariant.kept_on; kept_on = tt });
     }
 
 pub loop-name-preserved : goal.loop-name-preserved
@@ -156,7 +156,7 @@ loop-name-preserved g c =
       rules = KeepsRules-then kept.worktree.tree kept.store.holds kept.rules c.walk_child.ensures.rules;
       interrupt = AsksInterrupt-then kept.interrupt c.walk_child.ensures.walks.interrupt;
       opens = apart-then (enters-more (setting_of g.M.Matcher c.args.shared.now) c.args.blocked.now (c.args.levels + depth_of c.args.place.now.path) c.args.place.now.path c.as_slice-name-items.result.now c.loop-name.name-index c.name-item.result c.loop-name-test.true c.name-item.is kept.worktree kept.store kept.rules kept.delegate c.walk_child.ensures.walks.worktree.faults) kept.opens (rw (c.as_bytes.ensures, c.loop-name.invariant.stays) at c.in_ok-handed.ensures.opens);
-      puts = rw c.in_ok-take.ensures.entries (Puts-name c.args.place.now.path c.as_slice-name-items.result.now c.loop-name.name-index c.name-item.result c.loop-name-test.true c.name-item.is kept.puts (rw (c.as_bytes.ensures, c.loop-name.invariant.stays) at c.in_ok-handed.ensures.walks.hands.puts));
+      puts = rw c.in_ok-add_handed.ensures.entries (Puts-name c.args.place.now.path c.as_slice-name-items.result.now c.loop-name.name-index c.name-item.result c.loop-name-test.true c.name-item.is kept.puts (rw (c.as_bytes.ensures, c.loop-name.invariant.stays) at c.in_ok-handed.ensures.walks.hands.puts));
       delegate = KeepsDelegate-then kept.delegate c.walk_child.ensures.walks.delegate;
       filtered = c.walk_child.ensures.walks.filtered ∙ kept.filtered;
       listed = c.in_ok-handed.ensures.walks.caused.listed ∙ kept.listed;
@@ -172,32 +172,32 @@ loop-name-preserved g c =
           let name = c.name-item.result in
           let gives : Gives o limit ev (item_told given made s (joined d name)) (told c.loop-name.parts.delegate.now) (told c.walk_child.new.parts.delegate.now) c.loop-name.parts.outcome.now c.walk_child.new.parts.outcome.now c.in_ok-handed.handed =
           rw (c.as_bytes.ensures, c.loop-name.invariant.stays) at (c.in_ok-handed.ensures.told.gives made s now here (kept.delegate.default ∙ default) limit (rw kept.stays level)) in
-          SoFar-more given made s limit d c.as_slice-name-items.result.now c.loop-name.name-index name _ _ _ _ _ _ _ _ _ _ c.in_ok-handed.handed c.loop-name-test.true c.name-item.is (kept.so_far made s stands before default limit level) gives c.in_ok-take.ensures.entries c.in_ok-take.ensures.blocked;
+          SoFar-more given made s limit d c.as_slice-name-items.result.now c.loop-name.name-index name _ _ _ _ _ _ _ _ _ _ c.in_ok-handed.handed c.loop-name-test.true c.name-item.is (kept.so_far made s stands before default limit level) gives c.in_ok-add_handed.ensures.entries c.in_ok-add_handed.ensures.blocked;
     }
 
 pub returns-clause-told : goal.returns-clause-told
 returns-clause-told g c =
     let a = c.args in let kept = c.loop-name.invariant in let held = c.loop-name.held in
-    told-closed g.W.Worktree g.F.Find g.D.Delegate (moment c.loop-name.parts) (setting_of g.M.Matcher a.shared.now) a.place.now.path a.class.now c.as_slice-name-items.result.now c.loop-name.name-index held.entries.items held.blocked c.close.result
+    told-closed g.W.Worktree g.F.Find g.D.Delegate (moment c.loop-name.parts) (setting_of g.M.Matcher a.shared.now) a.place.now.path a.class.now c.as_slice-name-items.result.now c.loop-name.name-index held.entries.items held.blocked c.fold_or_emit_held.result
     (λ s told. HasNames-listed (setting_of g.M.Matcher a.shared.now) s.tree a.place.now.path c.as_slice.ensures c.is_empty.ensures c.if-is_empty.false c.as_slice-name-items.ensures c.in_ok-names.ensures.names (rw c.requires.root at (c.in_ok-names.ensures.lists s.tree told)))
-    c.path-path.ensures.plain c.loop-name-test.false kept.so_far (rw (c.path.ensures.path, kept.stays) at c.close.ensures.gives) (rw (c.path.ensures.path, kept.stays) at c.close.ensures.part) c.close.ensures.memory
+    c.path-path.ensures.plain c.loop-name-test.false kept.so_far (rw (c.path.ensures.path, kept.stays) at c.fold_or_emit_held.ensures.gives) (rw (c.path.ensures.path, kept.stays) at c.fold_or_emit_held.ensures.part) c.fold_or_emit_held.ensures.memory
 
 pub returns-clause-walks : goal.returns-clause-walks
 returns-clause-walks g c =
     record {
-      about = λ limit level. memory-only c.close.result _ tt c.close.ensures.memory;
-      found = λ s told. memory-only c.close.result _ tt c.close.ensures.memory;
+      about = λ limit level. memory-only c.fold_or_emit_held.result _ tt c.fold_or_emit_held.ensures.memory;
+      found = λ s told. memory-only c.fold_or_emit_held.result _ tt c.fold_or_emit_held.ensures.memory;
       caused =
           let kept = c.loop-name.invariant in
-          Caused-later c.close.result kept.worktree.faults kept.store.faults kept.calm kept.listed (Caused-memory c.close.result c.close.ensures.memory);
+          Caused-later c.fold_or_emit_held.result kept.worktree.faults kept.store.faults kept.calm kept.listed (Caused-memory c.fold_or_emit_held.result c.fold_or_emit_held.ensures.memory);
       worktree = search rules;
       store = search rules;
       interrupt = search rules;
       hands =
-          Hands-closed c.args.place.now.path c.as_slice-name-items.result.now c.loop-name.name-index (rw c.as_slice-name-items.ensures c.in_ok-names.ensures.names) c.path-path.ensures.plain c.loop-name.invariant.puts (rw (c.path.ensures.path, c.loop-name.invariant.stays) at c.close.ensures.hands);
-      delegate = KeepsDelegate-then c.loop-name.invariant.delegate c.close.ensures.delegate;
-      filtered = c.close.ensures.filtered ∙ c.loop-name.invariant.filtered;
-      heeds = Heeds-after g.D.Delegate _ _ _ c.close.result c.loop-name.invariant.kept_on c.close.ensures.heeds;
+          Hands-closed c.args.place.now.path c.as_slice-name-items.result.now c.loop-name.name-index (rw c.as_slice-name-items.ensures c.in_ok-names.ensures.names) c.path-path.ensures.plain c.loop-name.invariant.puts (rw (c.path.ensures.path, c.loop-name.invariant.stays) at c.fold_or_emit_held.ensures.hands);
+      delegate = KeepsDelegate-then c.loop-name.invariant.delegate c.fold_or_emit_held.ensures.delegate;
+      filtered = c.fold_or_emit_held.ensures.filtered ∙ c.loop-name.invariant.filtered;
+      heeds = Heeds-after g.D.Delegate _ _ _ c.fold_or_emit_held.result c.loop-name.invariant.kept_on c.fold_or_emit_held.ensures.heeds;
     }
 
 pub returns-in_err-names-clause-told : goal.returns-in_err-names-clause-told
@@ -219,7 +219,7 @@ returns-then-is_empty-clause-walks g c =
       worktree = search rules;
       store = search rules;
       interrupt = search rules;
-      hands = Hands-empty c.open.ensures.counts.returned c.open.ensures.counts.seen (rw c.path-path.ensures.path at c.close_empty.ensures.hands);
+      hands = Hands-empty c.list_directory.ensures.counts.returned c.list_directory.ensures.counts.seen (rw c.path-path.ensures.path at c.close_empty.ensures.hands);
       delegate = search rules;
       filtered = search rules;
       heeds = search rules;
@@ -227,7 +227,7 @@ returns-then-is_empty-clause-walks g c =
 
 pub returns-in_err-names-clause-opens : goal.returns-in_err-names-clause-opens
 returns-in_err-names-clause-opens g c =
-    let p = err_from_is_err_and c.from_residual.result c.from_residual.ensures.1 in rw (p.1, p.2) (apart-tried {opened = unlisted_one c.in_err-names.field-0.0} (λ made s stands quiet default. omega arith) c.in_err-names.ensures.counts.tried c.open.ensures.counts.once)
+    let p = err_from_is_err_and c.from_residual.result c.from_residual.ensures.1 in rw (p.1, p.2) (apart-tried {opened = unlisted_one c.in_err-names.field-0.0} (λ made s stands quiet default. omega arith) c.in_err-names.ensures.counts.tried c.list_directory.ensures.counts.once)
 
 pub returns-then-is_empty-clause-opens : goal.returns-then-is_empty-clause-opens
 returns-then-is_empty-clause-opens g c =
@@ -237,7 +237,7 @@ returns-then-is_empty-clause-opens g c =
     (λ n one made s stands quiet default.
     let lists : ListsNames (look_directory given s.tree d) names = rw c.requires.root at (c.in_ok-names.ensures.lists s.tree stands.tree) in
     let itself = entered-empty given made s d a.class.now names lists bare (a.levels + depth_of d) (omega arith) in omega (arith, one, itself))
-    (apart-one c.in_ok-names.ensures.counts.opens c.open.ensures.counts.once) c.close_empty.ensures.entered (shallow-memory c.close_empty.result c.close_empty.ensures.memory)
+    (apart-one c.in_ok-names.ensures.counts.opens c.list_directory.ensures.counts.once) c.close_empty.ensures.entered (shallow-memory c.close_empty.result c.close_empty.ensures.memory)
 
 pub returns-in_err-handed-clause-opens : goal.returns-in_err-handed-clause-opens
 returns-in_err-handed-clause-opens g c =
@@ -248,9 +248,9 @@ returns-in_err-handed-clause-opens g c =
     (λ s told. HasNames-listed (setting_of g.M.Matcher c.args.shared.now) s.tree c.args.place.now.path c.as_slice.ensures c.is_empty.ensures c.if-is_empty.false c.as_slice-name-items.ensures c.in_ok-names.ensures.names (rw c.requires.root at (c.in_ok-names.ensures.lists s.tree told))) c.path-path.ensures.plain)
     kept.opens (rw (c.as_bytes.ensures, c.loop-name.invariant.stays) at c.in_err-handed.ensures.opens))
 
-pub returns-in_err-take-clause-opens : goal.returns-in_err-take-clause-opens
-returns-in_err-take-clause-opens g c =
-    let kept = c.loop-name.invariant in let p = err_from_is_err_and c.from_residual-in_err-take.result c.from_residual-in_err-take.ensures.1 in
+pub returns-in_err-add_handed-clause-opens : goal.returns-in_err-add_handed-clause-opens
+returns-in_err-add_handed-clause-opens g c =
+    let kept = c.loop-name.invariant in let p = err_from_is_err_and c.from_residual-in_err-add_handed.result c.from_residual-in_err-add_handed.ensures.1 in
     let ends = (enters-last (setting_of g.M.Matcher c.args.shared.now) c.args.blocked.now (c.args.levels + depth_of c.args.place.now.path) c.args.place.now.path c.as_slice-name-items.result.now c.loop-name.name-index c.name-item.result c.loop-name-test.true c.name-item.is kept.worktree kept.store kept.rules kept.delegate c.walk_child.ensures.walks.worktree.faults (omega arith) c.args.class.now 0
     (λ s told. HasNames-listed (setting_of g.M.Matcher c.args.shared.now) s.tree c.args.place.now.path c.as_slice.ensures c.is_empty.ensures c.if-is_empty.false c.as_slice-name-items.ensures c.in_ok-names.ensures.names (rw c.requires.root at (c.in_ok-names.ensures.lists s.tree told))) c.path-path.ensures.plain) in
     rw (p.1, p.2)
@@ -262,4 +262,4 @@ returns-clause-opens g c =
     apart-end
     (enters-all g.W.Worktree g.F.Find g.D.Delegate c.args.parts.now.worktree.now c.loop-name.parts.worktree.now c.args.parts.now.objects.now c.args.parts.now.excludes.now c.args.parts.now.delegate.now (setting_of g.M.Matcher c.args.shared.now) c.args.blocked.now (c.args.levels + depth_of c.args.place.now.path) c.args.place.now.path c.as_slice-name-items.result.now c.loop-name.name-index (omega arith) c.loop-name-test.false c.args.class.now _
     (λ s told. HasNames-listed (setting_of g.M.Matcher c.args.shared.now) s.tree c.args.place.now.path c.as_slice.ensures c.is_empty.ensures c.if-is_empty.false c.as_slice-name-items.ensures c.in_ok-names.ensures.names (rw c.requires.root at (c.in_ok-names.ensures.lists s.tree told))) c.path-path.ensures.plain)
-    c.loop-name.invariant.opens c.close.ensures.entered (shallow-memory c.close.result c.close.ensures.memory)
+    c.loop-name.invariant.opens c.fold_or_emit_held.ensures.entered (shallow-memory c.fold_or_emit_held.result c.fold_or_emit_held.ensures.memory)

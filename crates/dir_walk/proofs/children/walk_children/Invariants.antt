@@ -1,7 +1,7 @@
 use Rattle.std.proofs.Common.{◌≡◌, ◌+◌, ℕ, true, Option, take}
 use Rattle.worktree_fs.specs.Causes.{NotIncreased}
 use Rattle.worktree_fs.specs.Kept.{AsksStore}
-use Rattle.worktree_stack.specs.Setup.{Made}
+use Rattle.worktree_stack.specs.Setup.{StackSetup}
 use Rattle.worktree_stack.specs.Reading.{Sources}
 use Rattle.dir_classify.specs.Chosen.{chosen}
 use Rattle.dir_classify.specs.Kept.{KeepsRules}
@@ -39,7 +39,7 @@ invariant-loop-name g l =
       calm : i.raised l.parts.interrupt.now ≡ i.raised l.fn.parts.interrupt.now;
       kept_on : d.breaks l.parts.delegate.now ≡ d.breaks l.fn.parts.delegate.now;
       stays : l.place ≡ l.fn.place;
-      so_far : (made : Option Made) (s : Sources) → Stands given (w.told l.fn.parts.worktree.now) (f.holds l.fn.parts.objects.now) l.fn.parts.excludes.now l.blocked made s → NotIncreased (w.faults l.fn.parts.worktree.now) (w.faults l.parts.worktree.now)
+      so_far : (made : Option StackSetup) (s : Sources) → Stands given (w.told l.fn.parts.worktree.now) (f.holds l.fn.parts.objects.now) l.fn.parts.excludes.now l.blocked made s → NotIncreased (w.faults l.fn.parts.worktree.now) (w.faults l.parts.worktree.now)
           → d.is_default l.fn.parts.delegate.now ≡ true → (limit : ℕ) → l.levels + depth_of l.fn.place.path ≡ limit
           → SoFar given made s limit l.fn.place.path (take l.name-index l.name-items) (d.given l.fn.parts.delegate.now) (d.given l.parts.delegate.now) l.fn.parts.outcome.now l.parts.outcome.now l.held.entries.items l.held.blocked;
     }

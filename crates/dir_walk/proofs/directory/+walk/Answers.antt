@@ -51,7 +51,7 @@ walk_directory-returns-in_err-names-clause-walks g t c =
       store = search rules;
       interrupt = search rules;
       hands =
-          let p = err_from_is_err_and c.from_residual.result c.from_residual.ensures.1 in rw p.1 (Hands-none refl c.open.ensures.counts.returned c.open.ensures.counts.seen);
+          let p = err_from_is_err_and c.from_residual.result c.from_residual.ensures.1 in rw p.1 (Hands-none refl c.list_directory.ensures.counts.returned c.list_directory.ensures.counts.seen);
       delegate = KeepsDelegate-same;
       filtered = search rules;
       heeds = search rules;
@@ -70,13 +70,13 @@ walk_directory-loop-name-init g t c =
     let a = c.args in let told = g.D.Delegate.given in let given = setting_of g.M.Matcher a.shared.now in
     record {
       same = search rules;
-      worktree = let opened = c.open.ensures.worktree in record { tree = opened.tree; faults = opened.faults; list_faults = opened.list_faults; reads = opened.reads; lists = opened.lists; precomposes = opened.precomposes };
+      worktree = let opened = c.list_directory.ensures.worktree in record { tree = opened.tree; faults = opened.faults; list_faults = opened.list_faults; reads = opened.reads; lists = opened.lists; precomposes = opened.precomposes };
       store = AsksStore-same;
       unmapped = λ none. refl;
       rules = KeepsRules-same;
-      interrupt = c.open.ensures.interrupt;
-      opens = opens-end (λ n one made s stands quiet default. omega (arith, one)) (opens-one c.in_ok-names.ensures.counts.opens c.open.ensures.counts.reads) refl refl;
-      puts = Puts-start a.place.now.path c.as_slice-name-items.result.now c.open.ensures.counts.returned c.open.ensures.counts.seen c.new-held.ensures.entries;
+      interrupt = c.list_directory.ensures.interrupt;
+      opens = opens-end (λ n one made s stands quiet default. omega (arith, one)) (opens-one c.in_ok-names.ensures.counts.opens c.list_directory.ensures.counts.reads) refl refl;
+      puts = Puts-start a.place.now.path c.as_slice-name-items.result.now c.list_directory.ensures.counts.returned c.list_directory.ensures.counts.seen c.new-held.ensures.entries;
       delegate = KeepsDelegate-same;
       filtered = refl;
       listed = c.in_ok-names.ensures.caused.listed;
@@ -84,7 +84,7 @@ walk_directory-loop-name-init g t c =
       kept_on = refl;
       stays = refl;
       so_far = λ made s stands quiet default limit level.
-          rw (c.new-held.ensures.entries, c.new-held.ensures.blocked) (SoFar-none given made s limit a.place.now.path (told a.parts.now.delegate.now) (told a.parts.now.delegate.now) a.parts.now.outcome.now c.open.new.outcome (c.in_ok-names.ensures.counts.counted (told a.parts.now.delegate.now)));
+          rw (c.new-held.ensures.entries, c.new-held.ensures.blocked) (SoFar-none given made s limit a.place.now.path (told a.parts.now.delegate.now) (told a.parts.now.delegate.now) a.parts.now.outcome.now c.list_directory.new.outcome (c.in_ok-names.ensures.counts.counted (told a.parts.now.delegate.now)));
     }
 
 pub walk_directory-returns-in_err-handed-clause-told : goal.walk_directory-returns-in_err-handed-clause-told
@@ -125,36 +125,36 @@ walk_directory-returns-in_err-handed-clause-walks g t c =
           rw (p.1, p.2) (Heeds-after g.D.Delegate _ _ _ _ c.loop-name.invariant.kept_on c.in_err-handed.ensures.walks.heeds);
     }
 
-pub walk_directory-returns-in_err-take-clause-told : goal.walk_directory-returns-in_err-take-clause-told
-walk_directory-returns-in_err-take-clause-told g t c =
-    let a = c.args in let kept = c.loop-name.invariant in let p = err_from_is_err_and c.from_residual-in_err-take.result c.from_residual-in_err-take.ensures.1 in
+pub walk_directory-returns-in_err-add_handed-clause-told : goal.walk_directory-returns-in_err-add_handed-clause-told
+walk_directory-returns-in_err-add_handed-clause-told g t c =
+    let a = c.args in let kept = c.loop-name.invariant in let p = err_from_is_err_and c.from_residual-in_err-add_handed.result c.from_residual-in_err-add_handed.ensures.1 in
     rw (p.1, p.2)
     (told-unheld (moment c.loop-name.parts) a.class.now c.as_slice-name-items.result.now c.loop-name.name-index c.name-item.result
     (λ s told. HasNames-listed (setting_of g.M.Matcher a.shared.now) s.tree a.place.now.path c.as_slice.ensures c.is_empty.ensures c.if-is_empty.false c.as_slice-name-items.ensures c.in_ok-names.ensures.names (rw c.requires.root at (c.in_ok-names.ensures.lists s.tree told)))
     c.path-path.ensures.plain c.loop-name-test.true c.name-item.is kept.worktree kept.store kept.rules kept.delegate kept.so_far c.walk_name.ensures.walks.worktree.faults
     c.in_ok-handed.handed (rw (c.as_bytes.ensures, kept.stays) at c.in_ok-handed.ensures.told))
 
-pub walk_directory-returns-in_err-take-clause-rules : goal.walk_directory-returns-in_err-take-clause-rules
-walk_directory-returns-in_err-take-clause-rules g t c = let kept = c.loop-name.invariant in KeepsRules-then kept.worktree.tree kept.store.holds kept.rules c.walk_name.ensures.rules
+pub walk_directory-returns-in_err-add_handed-clause-rules : goal.walk_directory-returns-in_err-add_handed-clause-rules
+walk_directory-returns-in_err-add_handed-clause-rules g t c = let kept = c.loop-name.invariant in KeepsRules-then kept.worktree.tree kept.store.holds kept.rules c.walk_name.ensures.rules
 
-pub walk_directory-returns-in_err-take-clause-walks : goal.walk_directory-returns-in_err-take-clause-walks
-walk_directory-returns-in_err-take-clause-walks g t c =
+pub walk_directory-returns-in_err-add_handed-clause-walks : goal.walk_directory-returns-in_err-add_handed-clause-walks
+walk_directory-returns-in_err-add_handed-clause-walks g t c =
     record {
       about = λ limit level.
-          let p = err_from_is_err_and c.from_residual-in_err-take.result c.from_residual-in_err-take.ensures.1 in rw (p.1, p.2) tt;
+          let p = err_from_is_err_and c.from_residual-in_err-add_handed.result c.from_residual-in_err-add_handed.ensures.1 in rw (p.1, p.2) tt;
       found = λ s told.
-          let p = err_from_is_err_and c.from_residual-in_err-take.result c.from_residual-in_err-take.ensures.1 in rw (p.1, p.2) tt;
-      caused = let p = err_from_is_err_and c.from_residual-in_err-take.result c.from_residual-in_err-take.ensures.1 in rw (p.1, p.2) (record { fault = tt; interrupt = tt; listing = tt; listed = tt; calm = tt });
+          let p = err_from_is_err_and c.from_residual-in_err-add_handed.result c.from_residual-in_err-add_handed.ensures.1 in rw (p.1, p.2) tt;
+      caused = let p = err_from_is_err_and c.from_residual-in_err-add_handed.result c.from_residual-in_err-add_handed.ensures.1 in rw (p.1, p.2) (record { fault = tt; interrupt = tt; listing = tt; listed = tt; calm = tt });
       worktree = KeepsTree-then c.loop-name.invariant.worktree c.walk_name.ensures.walks.worktree;
       store = AsksStore-then c.loop-name.invariant.store c.walk_name.ensures.walks.store;
       interrupt = AsksInterrupt-then c.loop-name.invariant.interrupt c.walk_name.ensures.walks.interrupt;
       hands =
-          let p = err_from_is_err_and c.from_residual-in_err-take.result c.from_residual-in_err-take.ensures.1 in
+          let p = err_from_is_err_and c.from_residual-in_err-add_handed.result c.from_residual-in_err-add_handed.ensures.1 in
           rw p.1 (Hands-refused c.args.place.now.path c.as_slice-name-items.result.now c.loop-name.name-index c.name-item.result c.loop-name-test.true c.name-item.is c.loop-name.invariant.puts (rw (c.as_bytes.ensures, c.loop-name.invariant.stays) at c.in_ok-handed.ensures.walks.hands.puts) (rw c.as_slice-name-items.ensures c.in_ok-names.ensures.names)
           c.path-path.ensures.plain);
       delegate = KeepsDelegate-then c.loop-name.invariant.delegate c.walk_name.ensures.walks.delegate;
       filtered = c.walk_name.ensures.walks.filtered ∙ c.loop-name.invariant.filtered;
-      heeds = let p = err_from_is_err_and c.from_residual-in_err-take.result c.from_residual-in_err-take.ensures.1 in rw (p.1, p.2) (record { broken = tt; stopped = tt; unbroken = c.in_ok-handed.ensures.walks.heeds.kept_on ∙ c.loop-name.invariant.kept_on; kept_on = tt });
+      heeds = let p = err_from_is_err_and c.from_residual-in_err-add_handed.result c.from_residual-in_err-add_handed.ensures.1 in rw (p.1, p.2) (record { broken = tt; stopped = tt; unbroken = c.in_ok-handed.ensures.walks.heeds.kept_on ∙ c.loop-name.invariant.kept_on; kept_on = tt });
     }
 
 pub walk_directory-loop-name-preserved : goal.walk_directory-loop-name-preserved
@@ -168,7 +168,7 @@ walk_directory-loop-name-preserved g t c =
       rules = KeepsRules-then kept.worktree.tree kept.store.holds kept.rules c.walk_name.ensures.rules;
       interrupt = AsksInterrupt-then kept.interrupt c.walk_name.ensures.walks.interrupt;
       opens = opens-then (enters-more (setting_of g.M.Matcher c.args.shared.now) c.args.blocked.now (c.args.levels + depth_of c.args.place.now.path) c.args.place.now.path c.as_slice-name-items.result.now c.loop-name.name-index c.name-item.result c.loop-name-test.true c.name-item.is kept.worktree kept.store kept.rules kept.delegate c.walk_name.ensures.walks.worktree.faults) kept.rules.made (omega arith) kept.opens (rw (c.as_bytes.ensures, c.loop-name.invariant.stays) at c.in_ok-handed.ensures.opens);
-      puts = rw c.in_ok-take.ensures.entries (Puts-name c.args.place.now.path c.as_slice-name-items.result.now c.loop-name.name-index c.name-item.result c.loop-name-test.true c.name-item.is kept.puts (rw (c.as_bytes.ensures, c.loop-name.invariant.stays) at c.in_ok-handed.ensures.walks.hands.puts));
+      puts = rw c.in_ok-add_handed.ensures.entries (Puts-name c.args.place.now.path c.as_slice-name-items.result.now c.loop-name.name-index c.name-item.result c.loop-name-test.true c.name-item.is kept.puts (rw (c.as_bytes.ensures, c.loop-name.invariant.stays) at c.in_ok-handed.ensures.walks.hands.puts));
       delegate = KeepsDelegate-then kept.delegate c.walk_name.ensures.walks.delegate;
       filtered = c.walk_name.ensures.walks.filtered ∙ kept.filtered;
       listed = c.in_ok-handed.ensures.walks.caused.listed ∙ kept.listed;
@@ -184,32 +184,32 @@ walk_directory-loop-name-preserved g t c =
           let name = c.name-item.result in
           let gives : Gives o limit ev (item_told given made s (joined d name)) (told c.loop-name.parts.delegate.now) (told c.walk_name.new.parts.delegate.now) c.loop-name.parts.outcome.now c.walk_name.new.parts.outcome.now c.in_ok-handed.handed =
           rw (c.as_bytes.ensures, c.loop-name.invariant.stays) at (c.in_ok-handed.ensures.told.gives made s now here (kept.delegate.default ∙ default) limit (rw kept.stays level)) in
-          SoFar-more given made s limit d c.as_slice-name-items.result.now c.loop-name.name-index name _ _ _ _ _ _ _ _ _ _ c.in_ok-handed.handed c.loop-name-test.true c.name-item.is (kept.so_far made s stands before default limit level) gives c.in_ok-take.ensures.entries c.in_ok-take.ensures.blocked;
+          SoFar-more given made s limit d c.as_slice-name-items.result.now c.loop-name.name-index name _ _ _ _ _ _ _ _ _ _ c.in_ok-handed.handed c.loop-name-test.true c.name-item.is (kept.so_far made s stands before default limit level) gives c.in_ok-add_handed.ensures.entries c.in_ok-add_handed.ensures.blocked;
     }
 
 pub walk_directory-returns-clause-told : goal.walk_directory-returns-clause-told
 walk_directory-returns-clause-told g t c =
     let a = c.args in let kept = c.loop-name.invariant in let held = c.loop-name.held in
-    told-closed g.W.Worktree g.F.Find g.D.Delegate (moment c.loop-name.parts) (setting_of g.M.Matcher a.shared.now) a.place.now.path a.class.now c.as_slice-name-items.result.now c.loop-name.name-index held.entries.items held.blocked c.close.result
+    told-closed g.W.Worktree g.F.Find g.D.Delegate (moment c.loop-name.parts) (setting_of g.M.Matcher a.shared.now) a.place.now.path a.class.now c.as_slice-name-items.result.now c.loop-name.name-index held.entries.items held.blocked c.fold_or_emit_held.result
     (λ s told. HasNames-listed (setting_of g.M.Matcher a.shared.now) s.tree a.place.now.path c.as_slice.ensures c.is_empty.ensures c.if-is_empty.false c.as_slice-name-items.ensures c.in_ok-names.ensures.names (rw c.requires.root at (c.in_ok-names.ensures.lists s.tree told)))
-    c.path-path.ensures.plain c.loop-name-test.false kept.so_far (rw (c.path.ensures.path, kept.stays) at c.close.ensures.gives) (rw (c.path.ensures.path, kept.stays) at c.close.ensures.part) c.close.ensures.memory
+    c.path-path.ensures.plain c.loop-name-test.false kept.so_far (rw (c.path.ensures.path, kept.stays) at c.fold_or_emit_held.ensures.gives) (rw (c.path.ensures.path, kept.stays) at c.fold_or_emit_held.ensures.part) c.fold_or_emit_held.ensures.memory
 
 pub walk_directory-returns-clause-walks : goal.walk_directory-returns-clause-walks
 walk_directory-returns-clause-walks g t c =
     record {
-      about = λ limit level. memory-only c.close.result _ tt c.close.ensures.memory;
-      found = λ s told. memory-only c.close.result _ tt c.close.ensures.memory;
+      about = λ limit level. memory-only c.fold_or_emit_held.result _ tt c.fold_or_emit_held.ensures.memory;
+      found = λ s told. memory-only c.fold_or_emit_held.result _ tt c.fold_or_emit_held.ensures.memory;
       caused =
           let kept = c.loop-name.invariant in
-          Caused-later c.close.result kept.worktree.faults kept.store.faults kept.calm kept.listed (Caused-memory c.close.result c.close.ensures.memory);
+          Caused-later c.fold_or_emit_held.result kept.worktree.faults kept.store.faults kept.calm kept.listed (Caused-memory c.fold_or_emit_held.result c.fold_or_emit_held.ensures.memory);
       worktree = search rules;
       store = search rules;
       interrupt = search rules;
       hands =
-          Hands-closed c.args.place.now.path c.as_slice-name-items.result.now c.loop-name.name-index (rw c.as_slice-name-items.ensures c.in_ok-names.ensures.names) c.path-path.ensures.plain c.loop-name.invariant.puts (rw (c.path.ensures.path, c.loop-name.invariant.stays) at c.close.ensures.hands);
-      delegate = KeepsDelegate-then c.loop-name.invariant.delegate c.close.ensures.delegate;
-      filtered = c.close.ensures.filtered ∙ c.loop-name.invariant.filtered;
-      heeds = Heeds-after g.D.Delegate _ _ _ c.close.result c.loop-name.invariant.kept_on c.close.ensures.heeds;
+          Hands-closed c.args.place.now.path c.as_slice-name-items.result.now c.loop-name.name-index (rw c.as_slice-name-items.ensures c.in_ok-names.ensures.names) c.path-path.ensures.plain c.loop-name.invariant.puts (rw (c.path.ensures.path, c.loop-name.invariant.stays) at c.fold_or_emit_held.ensures.hands);
+      delegate = KeepsDelegate-then c.loop-name.invariant.delegate c.fold_or_emit_held.ensures.delegate;
+      filtered = c.fold_or_emit_held.ensures.filtered ∙ c.loop-name.invariant.filtered;
+      heeds = Heeds-after g.D.Delegate _ _ _ c.fold_or_emit_held.result c.loop-name.invariant.kept_on c.fold_or_emit_held.ensures.heeds;
     }
 
 pub walk_name-returns-then-is_entered-clause-told : goal.walk_name-returns-then-is_entered-clause-told
@@ -235,8 +235,8 @@ walk_name-returns-clause-told g t c =
           let read : (asks o ev p None (on_disk given s.tree p true) && ev.is_unread p) ≡ false = rw (c.path-path.ensures.path, stands.made_is) at (c.in_ok-class.ensures.read s (telling stands) stands.in_step asked) in
           let leaving : enters o k false ≡ false = sym (c.is_entered.ensures.entered default) ∙ c.if-is_entered.false in let z = c.in_ok-class-2.class in
           let hides : z ≡ leaf_class o ev p k = c.in_ok-class-2.ensures.class made s (c.class_of.ensures.keeps.tree ∙ stands.tree) here in
-          IfOk-weaker c.put_leaf-handed.result _ _ (λ h closes. Gives-leaf given made s p k is q at _ _ limit _ _ h read leaving (Gives-put o limit ev p k z _ _ _ _ h hides closes))
-          (rw (c.path-path.ensures.path, c.is_entered.ensures.given) at c.put_leaf-handed.ensures.gives);
+          IfOk-weaker c.hold_or_emit_leaf-handed.result _ _ (λ h closes. Gives-leaf given made s p k is q at _ _ limit _ _ h read leaving (Gives-put o limit ev p k z _ _ _ _ h hides closes))
+          (rw (c.path-path.ensures.path, c.is_entered.ensures.given) at c.hold_or_emit_leaf-handed.ensures.gives);
       part = λ made s stands quiet default.
           let a = c.args in let w = g.W.Worktree in let o = chosen a.shared.now.options in let given = setting_of g.M.Matcher a.shared.now in
           let ev = evidence given made s in let q = joined a.place.now.path a.name.now in let p = c.push.new.self.path in
@@ -246,9 +246,9 @@ walk_name-returns-clause-told g t c =
           let is : k ≡ class o ev p None (on_disk given s.tree p true) = rw (c.path-path.ensures.path, stands.made_is) at (c.in_ok-class.ensures.class s (telling stands) stands.in_step asked) in
           let leaving : enters o k false ≡ false = sym (c.is_entered.ensures.entered default) ∙ c.if-is_entered.false in let z = c.in_ok-class-2.class in
           let hides : z ≡ leaf_class o ev p k = c.in_ok-class-2.ensures.class made s (c.class_of.ensures.keeps.tree ∙ stands.tree) here in
-          on_err_weaker c.put_leaf-handed.result (λ part. part-leaf given made s p k is q at _ _ _ _ leaving (part-put o ev p k z _ _ _ _ hides part))
-          (rw (c.path-path.ensures.path, c.is_entered.ensures.given) at c.put_leaf-handed.ensures.part);
-      refused = λ made s stands default limit level. memory-only c.put_leaf-handed.result _ tt c.put_leaf-handed.ensures.memory;
+          on_err_weaker c.hold_or_emit_leaf-handed.result (λ part. part-leaf given made s p k is q at _ _ _ _ leaving (part-put o ev p k z _ _ _ _ hides part))
+          (rw (c.path-path.ensures.path, c.is_entered.ensures.given) at c.hold_or_emit_leaf-handed.ensures.part);
+      refused = λ made s stands default limit level. memory-only c.hold_or_emit_leaf-handed.result _ tt c.hold_or_emit_leaf-handed.ensures.memory;
     }
 
 pub walk_directory-returns-in_err-names-clause-told : goal.walk_directory-returns-in_err-names-clause-told
@@ -270,7 +270,7 @@ walk_directory-returns-then-is_empty-clause-walks g t c =
       worktree = search rules;
       store = search rules;
       interrupt = search rules;
-      hands = Hands-empty c.open.ensures.counts.returned c.open.ensures.counts.seen (rw c.path-path.ensures.path at c.close_empty.ensures.hands);
+      hands = Hands-empty c.list_directory.ensures.counts.returned c.list_directory.ensures.counts.seen (rw c.path-path.ensures.path at c.close_empty.ensures.hands);
       delegate = search rules;
       filtered = search rules;
       heeds = search rules;
@@ -344,13 +344,13 @@ walk_name-returns-then-is_entered-clause-walks g t c =
 
 pub walk_name-returns-clause-walks : goal.walk_name-returns-clause-walks
 walk_name-returns-clause-walks g t c =
-    any-leaf c.is_entered.new.delegate c.put_leaf-handed.result (Before-then (Before-classed c.class_of.ensures.keeps c.class_of.ensures.store c.class_of.ensures.rules) (Before-asked c.leaf_class.ensures.worktree))
-    c.is_entered.ensures.default c.is_entered.ensures.given c.is_entered.ensures.breaks c.is_entered.ensures.refusals c.put_leaf-handed.ensures.delegate c.put_leaf-handed.ensures.filtered c.put_leaf-handed.ensures.heeds
-    (ap (λ (x : Standing). x.path) c.in_ok-cut.ensures.pushed) (rw c.path-path.ensures.path at c.put_leaf-handed.ensures.hands) c.put_leaf-handed.ensures.memory
+    any-leaf c.is_entered.new.delegate c.hold_or_emit_leaf-handed.result (Before-then (Before-classed c.class_of.ensures.keeps c.class_of.ensures.store c.class_of.ensures.rules) (Before-asked c.leaf_class.ensures.worktree))
+    c.is_entered.ensures.default c.is_entered.ensures.given c.is_entered.ensures.breaks c.is_entered.ensures.refusals c.hold_or_emit_leaf-handed.ensures.delegate c.hold_or_emit_leaf-handed.ensures.filtered c.hold_or_emit_leaf-handed.ensures.heeds
+    (ap (λ (x : Standing). x.path) c.in_ok-cut.ensures.pushed) (rw c.path-path.ensures.path at c.hold_or_emit_leaf-handed.ensures.hands) c.hold_or_emit_leaf-handed.ensures.memory
 
 pub walk_directory-returns-in_err-names-clause-opens : goal.walk_directory-returns-in_err-names-clause-opens
 walk_directory-returns-in_err-names-clause-opens g t c =
-    let p = err_from_is_err_and c.from_residual.result c.from_residual.ensures.1 in rw (p.1, p.2) (opens-refused {opened = unlisted_one c.in_err-names.field-0.0} (λ made s stands quiet default. omega arith) c.in_err-names.ensures.counts.tried c.open.ensures.counts.reads)
+    let p = err_from_is_err_and c.from_residual.result c.from_residual.ensures.1 in rw (p.1, p.2) (opens-refused {opened = unlisted_one c.in_err-names.field-0.0} (λ made s stands quiet default. omega arith) c.in_err-names.ensures.counts.tried c.list_directory.ensures.counts.reads)
 
 pub walk_directory-returns-then-is_empty-clause-opens : goal.walk_directory-returns-then-is_empty-clause-opens
 walk_directory-returns-then-is_empty-clause-opens g t c =
@@ -360,7 +360,7 @@ walk_directory-returns-then-is_empty-clause-opens g t c =
     (λ n one made s stands quiet default.
     let lists : ListsNames (look_directory given s.tree d) names = rw c.requires.root at (c.in_ok-names.ensures.lists s.tree stands.tree) in
     let itself = entered-empty given made s d a.class.now names lists bare (a.levels + depth_of d) (omega arith) in omega (arith, one, itself))
-    (opens-one c.in_ok-names.ensures.counts.opens c.open.ensures.counts.reads) c.close_empty.ensures.entered (shallow-memory c.close_empty.result c.close_empty.ensures.memory)
+    (opens-one c.in_ok-names.ensures.counts.opens c.list_directory.ensures.counts.reads) c.close_empty.ensures.entered (shallow-memory c.close_empty.result c.close_empty.ensures.memory)
 
 pub walk_directory-returns-in_err-handed-clause-opens : goal.walk_directory-returns-in_err-handed-clause-opens
 walk_directory-returns-in_err-handed-clause-opens g t c =
@@ -371,9 +371,9 @@ walk_directory-returns-in_err-handed-clause-opens g t c =
     (λ s told. HasNames-listed (setting_of g.M.Matcher c.args.shared.now) s.tree c.args.place.now.path c.as_slice.ensures c.is_empty.ensures c.if-is_empty.false c.as_slice-name-items.ensures c.in_ok-names.ensures.names (rw c.requires.root at (c.in_ok-names.ensures.lists s.tree told))) c.path-path.ensures.plain)
     kept.rules.made (omega arith) kept.opens (rw (c.as_bytes.ensures, c.loop-name.invariant.stays) at c.in_err-handed.ensures.opens))
 
-pub walk_directory-returns-in_err-take-clause-opens : goal.walk_directory-returns-in_err-take-clause-opens
-walk_directory-returns-in_err-take-clause-opens g t c =
-    let kept = c.loop-name.invariant in let p = err_from_is_err_and c.from_residual-in_err-take.result c.from_residual-in_err-take.ensures.1 in
+pub walk_directory-returns-in_err-add_handed-clause-opens : goal.walk_directory-returns-in_err-add_handed-clause-opens
+walk_directory-returns-in_err-add_handed-clause-opens g t c =
+    let kept = c.loop-name.invariant in let p = err_from_is_err_and c.from_residual-in_err-add_handed.result c.from_residual-in_err-add_handed.ensures.1 in
     let ends = (enters-last (setting_of g.M.Matcher c.args.shared.now) c.args.blocked.now (c.args.levels + depth_of c.args.place.now.path) c.args.place.now.path c.as_slice-name-items.result.now c.loop-name.name-index c.name-item.result c.loop-name-test.true c.name-item.is kept.worktree kept.store kept.rules kept.delegate c.walk_name.ensures.walks.worktree.faults (omega arith) c.args.class.now 0
     (λ s told. HasNames-listed (setting_of g.M.Matcher c.args.shared.now) s.tree c.args.place.now.path c.as_slice.ensures c.is_empty.ensures c.if-is_empty.false c.as_slice-name-items.ensures c.in_ok-names.ensures.names (rw c.requires.root at (c.in_ok-names.ensures.lists s.tree told))) c.path-path.ensures.plain) in
     rw (p.1, p.2)
@@ -385,7 +385,7 @@ walk_directory-returns-clause-opens g t c =
     opens-end
     (enters-all g.W.Worktree g.F.Find g.D.Delegate c.args.parts.now.worktree.now c.loop-name.parts.worktree.now c.args.parts.now.objects.now c.args.parts.now.excludes.now c.args.parts.now.delegate.now (setting_of g.M.Matcher c.args.shared.now) c.args.blocked.now (c.args.levels + depth_of c.args.place.now.path) c.args.place.now.path c.as_slice-name-items.result.now c.loop-name.name-index (omega arith) c.loop-name-test.false c.args.class.now _
     (λ s told. HasNames-listed (setting_of g.M.Matcher c.args.shared.now) s.tree c.args.place.now.path c.as_slice.ensures c.is_empty.ensures c.if-is_empty.false c.as_slice-name-items.ensures c.in_ok-names.ensures.names (rw c.requires.root at (c.in_ok-names.ensures.lists s.tree told))) c.path-path.ensures.plain)
-    c.loop-name.invariant.opens c.close.ensures.entered (shallow-memory c.close.result c.close.ensures.memory)
+    c.loop-name.invariant.opens c.fold_or_emit_held.ensures.entered (shallow-memory c.fold_or_emit_held.result c.fold_or_emit_held.ensures.memory)
 
 pub walk_name-returns-in_err-cut-clause-opens : goal.walk_name-returns-in_err-cut-clause-opens
 walk_name-returns-in_err-cut-clause-opens g t c =
@@ -436,7 +436,7 @@ pub walk_name-returns-clause-opens : goal.walk_name-returns-clause-opens
 walk_name-returns-clause-opens g t c =
     let path = ap (λ (x : Standing). x.path) c.in_ok-cut.ensures.pushed in let o = chosen c.args.shared.now.options in
     opens-still (λ n none made s stands quiet default. omega (arith, none))
-    (opens-class c.args.place.now.path c.args.name.now c.requires.name c.class_of.ensures.keeps.lists (rw (c.path-path.ensures.path, path) at c.in_ok-class.ensures.reads)) c.leaf_class.ensures.worktree.lists c.put_leaf-handed.ensures.entered (omega (arith, shallow-memory c.put_leaf-handed.result c.put_leaf-handed.ensures.memory))
+    (opens-class c.args.place.now.path c.args.name.now c.requires.name c.class_of.ensures.keeps.lists (rw (c.path-path.ensures.path, path) at c.in_ok-class.ensures.reads)) c.leaf_class.ensures.worktree.lists c.hold_or_emit_leaf-handed.ensures.entered (omega (arith, shallow-memory c.hold_or_emit_leaf-handed.result c.hold_or_emit_leaf-handed.ensures.memory))
     (λ on. c.leaf_class.ensures.reads (hides-none o on))
 
 pub walk_name-returns-in_err-cut-clause-walks : goal.walk_name-returns-in_err-cut-clause-walks
@@ -454,8 +454,8 @@ walk_name-returns-then-is_entered-clause-rules g t c = KeepsRules-then c.class_o
 pub walk_directory-returns-in_err-handed-clause-unmapped : goal.walk_directory-returns-in_err-handed-clause-unmapped
 walk_directory-returns-in_err-handed-clause-unmapped g t c = let kept = c.loop-name.invariant in unmapped-then c.args.parts.now.excludes.now c.loop-name.parts.excludes.now kept.rules.made kept.unmapped c.walk_name.ensures.unmapped
 
-pub walk_directory-returns-in_err-take-clause-unmapped : goal.walk_directory-returns-in_err-take-clause-unmapped
-walk_directory-returns-in_err-take-clause-unmapped g t c = let kept = c.loop-name.invariant in unmapped-then c.args.parts.now.excludes.now c.loop-name.parts.excludes.now kept.rules.made kept.unmapped c.walk_name.ensures.unmapped
+pub walk_directory-returns-in_err-add_handed-clause-unmapped : goal.walk_directory-returns-in_err-add_handed-clause-unmapped
+walk_directory-returns-in_err-add_handed-clause-unmapped g t c = let kept = c.loop-name.invariant in unmapped-then c.args.parts.now.excludes.now c.loop-name.parts.excludes.now kept.rules.made kept.unmapped c.walk_name.ensures.unmapped
 
 pub walk_directory-returns-clause-unmapped : goal.walk_directory-returns-clause-unmapped
 walk_directory-returns-clause-unmapped g t c = c.loop-name.invariant.unmapped
@@ -475,24 +475,24 @@ walk_name-returns-in_err-class-2-clause-unmapped g t c = c.class_of.ensures.unma
 pub walk_name-returns-clause-unmapped : goal.walk_name-returns-clause-unmapped
 walk_name-returns-clause-unmapped g t c = c.class_of.ensures.unmapped
 
-pub walk_name-leave-requires : goal.walk_name-leave-requires
-walk_name-leave-requires g t c =
+pub walk_name-truncate_to_directory-requires : goal.walk_name-truncate_to_directory-requires
+walk_name-truncate_to_directory-requires g t c =
     let within = c.in_ok-cut.ensures.within in let P : Standing → Type 0 = λ x. IsPushed c.in_ok-cut.cut c.args.place.now x in
     (c.args.place.now, on_ok_weaker c.walk_directory-handed.result (λ same. subst P (sym same) within) c.walk_directory-handed.ensures.stays)
 
 pub walk_name-returns-then-is_entered-clause-stays : goal.walk_name-returns-then-is_entered-clause-stays
 walk_name-returns-then-is_entered-clause-stays g t c =
     let within = c.in_ok-cut.ensures.within in let P : Standing → Type 0 = λ x. IsPushed c.in_ok-cut.cut c.args.place.now x in
-    c.leave.ensures c.args.place.now (on_ok_weaker c.walk_directory-handed.result (λ same. subst P (sym same) within) c.walk_directory-handed.ensures.stays)
+    c.truncate_to_directory.ensures c.args.place.now (on_ok_weaker c.walk_directory-handed.result (λ same. subst P (sym same) within) c.walk_directory-handed.ensures.stays)
 
-pub walk_name-leave-requires-2 : goal.walk_name-leave-requires-2
-walk_name-leave-requires-2 g t c = (c.args.place.now, OnOk-always c.put_leaf-handed.result c.in_ok-cut.ensures.within)
+pub walk_name-truncate_to_directory-requires-2 : goal.walk_name-truncate_to_directory-requires-2
+walk_name-truncate_to_directory-requires-2 g t c = (c.args.place.now, OnOk-always c.hold_or_emit_leaf-handed.result c.in_ok-cut.ensures.within)
 
 pub walk_name-returns-clause-stays : goal.walk_name-returns-clause-stays
-walk_name-returns-clause-stays g t c = c.leave-2.ensures c.args.place.now (OnOk-always c.put_leaf-handed.result c.in_ok-cut.ensures.within)
+walk_name-returns-clause-stays g t c = c.truncate_to_directory-2.ensures c.args.place.now (OnOk-always c.hold_or_emit_leaf-handed.result c.in_ok-cut.ensures.within)
 
 pub walk_directory-returns-then-is_empty-clause-stays : goal.walk_directory-returns-then-is_empty-clause-stays
 walk_directory-returns-then-is_empty-clause-stays g t c = OnOk-always c.close_empty.result refl
 
 pub walk_directory-returns-clause-stays : goal.walk_directory-returns-clause-stays
-walk_directory-returns-clause-stays g t c = OnOk-always c.close.result c.loop-name.invariant.stays
+walk_directory-returns-clause-stays g t c = OnOk-always c.fold_or_emit_held.result c.loop-name.invariant.stays

@@ -39,8 +39,8 @@ returns-in_err-handed-clause-told g c =
           let given = setting_of g.M.Matcher a.shared.now in
           let made = made_with a.parts.now.excludes.now in
           let asked = c.in_ok-blocked.ensures in
-          let before : NotIncreased (w.faults a.parts.now.worktree.now) (w.faults c.blocked_directory.new.worktree) = omega (arith, quiet, c.walk_deep.ensures.walks.ends.worktree.faults) in
-          let here : NotIncreased (w.faults c.blocked_directory.new.worktree) (w.faults c.walk_deep.new.parts.worktree.now) = omega (arith, quiet, asked.keeps.faults) in
+          let before : NotIncreased (w.faults a.parts.now.worktree.now) (w.faults c.blocked_directory.new.worktree) = omega (arith, quiet, c.walk_within_depth_limit.ensures.walks.ends.worktree.faults) in
+          let here : NotIncreased (w.faults c.blocked_directory.new.worktree) (w.faults c.walk_within_depth_limit.new.parts.worktree.now) = omega (arith, quiet, asked.keeps.faults) in
           let stands = Stands-asked given tells asked.keeps (asked.blocked made s tells.tells.tree_is before) in
           let p = err_from_is_err_and c.from_residual-in_err-handed.result c.from_residual-in_err-handed.ensures.1 in
           rw p.1 (part-out (chosen a.shared.now.options) (directory_told given made s a.path.now a.class.now) _ _ _ _ (rw c.in_ok-place.ensures at (c.in_err-handed.ensures.told.part made s stands here default)));
@@ -50,8 +50,8 @@ returns-in_err-handed-clause-told g c =
           let given = setting_of g.M.Matcher a.shared.now in
           let made = made_with a.parts.now.excludes.now in
           let asked = c.in_ok-blocked.ensures in
-          let before : NotIncreased (w.faults a.parts.now.worktree.now) (w.faults c.blocked_directory.new.worktree) = omega (arith, quiet, c.walk_deep.ensures.walks.ends.worktree.faults) in
-          let Failed = Increased (w.faults c.blocked_directory.new.worktree) (w.faults c.walk_deep.new.parts.worktree.now) in
+          let before : NotIncreased (w.faults a.parts.now.worktree.now) (w.faults c.blocked_directory.new.worktree) = omega (arith, quiet, c.walk_within_depth_limit.ensures.walks.ends.worktree.faults) in
+          let Failed = Increased (w.faults c.blocked_directory.new.worktree) (w.faults c.walk_within_depth_limit.new.parts.worktree.now) in
           let stands = Stands-asked given tells asked.keeps (asked.blocked made s tells.tells.tree_is before) in
           let p = err_from_is_err_and c.from_residual-in_err-handed.result c.from_residual-in_err-handed.ensures.1 in
           rw (p.1, p.2)
@@ -82,20 +82,20 @@ returns-in_err-handed-clause-opens g c =
     (opens-around c.args.strategy _ _ _ _ _ _ _ _ _ _ _ _ _ _ _ _ _ _
     (λ n few s tells default quiet.
     let made = made_with a.parts.now.excludes.now in
-    let before : NotIncreased (w.faults a.parts.now.worktree.now) (w.faults c.blocked_directory.new.worktree) = omega (arith, quiet, c.walk_deep.ensures.walks.ends.worktree.faults) in
-    let here : NotIncreased (w.faults c.blocked_directory.new.worktree) (w.faults c.walk_deep.new.parts.worktree.now) = omega (arith, quiet, asked.keeps.faults) in
+    let before : NotIncreased (w.faults a.parts.now.worktree.now) (w.faults c.blocked_directory.new.worktree) = omega (arith, quiet, c.walk_within_depth_limit.ensures.walks.ends.worktree.faults) in
+    let here : NotIncreased (w.faults c.blocked_directory.new.worktree) (w.faults c.walk_within_depth_limit.new.parts.worktree.now) = omega (arith, quiet, asked.keeps.faults) in
     let stands = Stands-asked given tells asked.keeps (asked.blocked made s tells.tells.tree_is before) in
     let most = few made s stands here default in omega (arith, most, unlisted-same Handed (Unit {0}) c.in_err-handed.field-0.0))
     asked.keeps.lists asked.reads refl (refused-same Handed (Unit {0}) c.in_err-handed.field-0.0) (deep-same Handed (Unit {0}) c.in_err-handed.field-0.0) (rw c.in_ok-place.ensures at c.in_err-handed.ensures.opens))
 
 pub returns-in_err-handed-clause-unmapped : goal.returns-in_err-handed-clause-unmapped
-returns-in_err-handed-clause-unmapped g c = c.walk_deep.ensures.unmapped
+returns-in_err-handed-clause-unmapped g c = c.walk_within_depth_limit.ensures.unmapped
 
 pub returns-in_err-handed-clause-leaves : goal.returns-in_err-handed-clause-leaves
 returns-in_err-handed-clause-leaves g c =
     record {
       puts = rw c.in_ok-place.ensures at c.in_err-handed.ensures.walks.hands.puts;
-      filtered = c.walk_deep.ensures.walks.filtered;
+      filtered = c.walk_within_depth_limit.ensures.walks.filtered;
       ends =
           let w = g.W.Worktree in
           let f = g.F.Find in
@@ -117,11 +117,11 @@ returns-clause-told g c =
           let given = setting_of g.M.Matcher a.shared.now in
           let made = made_with a.parts.now.excludes.now in
           let asked = c.in_ok-blocked.ensures in
-          let before : NotIncreased (w.faults a.parts.now.worktree.now) (w.faults c.blocked_directory.new.worktree) = omega (arith, quiet, c.walk_deep.ensures.walks.ends.worktree.faults) in
-          let here : NotIncreased (w.faults c.blocked_directory.new.worktree) (w.faults c.walk_deep.new.parts.worktree.now) = omega (arith, quiet, asked.keeps.faults) in
+          let before : NotIncreased (w.faults a.parts.now.worktree.now) (w.faults c.blocked_directory.new.worktree) = omega (arith, quiet, c.walk_within_depth_limit.ensures.walks.ends.worktree.faults) in
+          let here : NotIncreased (w.faults c.blocked_directory.new.worktree) (w.faults c.walk_within_depth_limit.new.parts.worktree.now) = omega (arith, quiet, asked.keeps.faults) in
           let stands = Stands-asked given tells asked.keeps (asked.blocked made s tells.tells.tree_is before) in
           on_ok_weaker c.put_handed.result
-          (gives-all (chosen a.shared.now.options) (directory_told given made s a.path.now a.class.now) a.depth_limit (evidence given made s) c.in_ok-handed.handed _ _ _ a.parts.now.outcome.now c.walk_deep.new.parts.outcome.now
+          (gives-all (chosen a.shared.now.options) (directory_told given made s a.path.now a.class.now) a.depth_limit (evidence given made s) c.in_ok-handed.handed _ _ _ a.parts.now.outcome.now c.walk_within_depth_limit.new.parts.outcome.now
           (rw c.in_ok-place.ensures at (c.in_ok-handed.ensures.told.gives made s stands here default)) c.put_handed.new.outcome)
           c.put_handed.ensures.gives;
       part = λ s tells quiet default.
@@ -130,11 +130,11 @@ returns-clause-told g c =
           let given = setting_of g.M.Matcher a.shared.now in
           let made = made_with a.parts.now.excludes.now in
           let asked = c.in_ok-blocked.ensures in
-          let before : NotIncreased (w.faults a.parts.now.worktree.now) (w.faults c.blocked_directory.new.worktree) = omega (arith, quiet, c.walk_deep.ensures.walks.ends.worktree.faults) in
-          let here : NotIncreased (w.faults c.blocked_directory.new.worktree) (w.faults c.walk_deep.new.parts.worktree.now) = omega (arith, quiet, asked.keeps.faults) in
+          let before : NotIncreased (w.faults a.parts.now.worktree.now) (w.faults c.blocked_directory.new.worktree) = omega (arith, quiet, c.walk_within_depth_limit.ensures.walks.ends.worktree.faults) in
+          let here : NotIncreased (w.faults c.blocked_directory.new.worktree) (w.faults c.walk_within_depth_limit.new.parts.worktree.now) = omega (arith, quiet, asked.keeps.faults) in
           let stands = Stands-asked given tells asked.keeps (asked.blocked made s tells.tells.tree_is before) in
           on_err_weaker c.put_handed.result
-          (part-all (chosen a.shared.now.options) (directory_told given made s a.path.now a.class.now) a.depth_limit (evidence given made s) c.in_ok-handed.handed _ _ _ a.parts.now.outcome.now c.walk_deep.new.parts.outcome.now
+          (part-all (chosen a.shared.now.options) (directory_told given made s a.path.now a.class.now) a.depth_limit (evidence given made s) c.in_ok-handed.handed _ _ _ a.parts.now.outcome.now c.walk_within_depth_limit.new.parts.outcome.now
           (rw c.in_ok-place.ensures at (c.in_ok-handed.ensures.told.gives made s stands here default)) c.put_handed.new.outcome)
           c.put_handed.ensures.part;
       refused = λ s tells quiet default. memory-only c.put_handed.result _ (inl tt) c.put_handed.ensures.memory;
@@ -156,20 +156,20 @@ returns-clause-opens g c =
     opens-around c.args.strategy _ _ _ _ _ _ _ _ _ _ _ _ _ _ _ _ _ _
     (λ n few s tells default quiet.
     let made = made_with a.parts.now.excludes.now in
-    let before : NotIncreased (w.faults a.parts.now.worktree.now) (w.faults c.blocked_directory.new.worktree) = omega (arith, quiet, c.walk_deep.ensures.walks.ends.worktree.faults) in
-    let here : NotIncreased (w.faults c.blocked_directory.new.worktree) (w.faults c.walk_deep.new.parts.worktree.now) = omega (arith, quiet, asked.keeps.faults) in
+    let before : NotIncreased (w.faults a.parts.now.worktree.now) (w.faults c.blocked_directory.new.worktree) = omega (arith, quiet, c.walk_within_depth_limit.ensures.walks.ends.worktree.faults) in
+    let here : NotIncreased (w.faults c.blocked_directory.new.worktree) (w.faults c.walk_within_depth_limit.new.parts.worktree.now) = omega (arith, quiet, asked.keeps.faults) in
     let stands = Stands-asked given tells asked.keeps (asked.blocked made s tells.tells.tree_is before) in
     let most = few made s stands here default in omega (arith, most))
     asked.keeps.lists asked.reads c.put_handed.ensures.entered (omega arith) (omega (arith, shallow-memory c.put_handed.result c.put_handed.ensures.memory)) (rw c.in_ok-place.ensures at c.in_ok-handed.ensures.opens)
 
 pub returns-clause-unmapped : goal.returns-clause-unmapped
-returns-clause-unmapped g c = c.walk_deep.ensures.unmapped
+returns-clause-unmapped g c = c.walk_within_depth_limit.ensures.unmapped
 
 pub returns-clause-leaves : goal.returns-clause-leaves
 returns-clause-leaves g c =
     record {
       puts = Puts-out (option_to_list c.in_ok-handed.handed.entry) (rw c.in_ok-place.ensures at c.in_ok-handed.ensures.walks.hands.puts) c.put_handed.ensures.puts;
-      filtered = c.put_handed.ensures.filtered ∙ c.walk_deep.ensures.walks.filtered;
+      filtered = c.put_handed.ensures.filtered ∙ c.walk_within_depth_limit.ensures.walks.filtered;
       ends =
           let w = g.W.Worktree in
           let f = g.F.Find in

@@ -11,7 +11,7 @@ use Rattle.dir_walk.specs.declared.outcome.Outcome.{Outcome}
 use Rattle.dir_walk.specs.Opens.{refused_walk}
 use Rattle.dir_walk.specs.Root.{rooted, traversal_root}
 use Rattle.dir_walk.specs.Rooting.{IsNormalized}
-use Rattle.dir_walk.specs.Unopened.{deep_one, deep_walk, unlisted_one, unlisted_walk}
+use Rattle.dir_walk.specs.Unopened.{too_deep_count, deep_walk, unlisted_one, unlisted_walk}
 use Rattle.dir_walk.specs.WalkRefused.{recursion_of}
 use Rattle.dir_walk.specs.Walks.{IsRootOf}
 use Rattle.dir_walk.proofs.Gives.FeedsSo.{feeds-broken, feeds-done, feeds-nothing, feeds-refused}
@@ -129,7 +129,7 @@ returns-clause-walks g c =
     let from = rw c.in-Err-Refused.field-0-is at c.in-Err-Refused.ensures in
     let e = c.in-Err-Refused.error in
     let unlisted : unlisted_walk c.walk_from.result ≤ unlisted_one e = rw (c.in-Err-Refused.is, c.in-Err-Refused.field-0-is) (omega arith) in
-    let low : deep_one e ≤ deep_walk c.walk_from.result = rw (c.in-Err-Refused.is, c.in-Err-Refused.field-0-is) (omega arith) in
+    let low : too_deep_count e ≤ deep_walk c.walk_from.result = rw (c.in-Err-Refused.is, c.in-Err-Refused.field-0-is) (omega arith) in
     record {
       walks_worktree =
           walks-refused w f i d a.strategy given a.explicit.now a.depth_limit recursion (λ r. r.0) (λ r. r.1) root found.keeps normal rooted_is e from.leaves.ends from.caused.about from.caused.found

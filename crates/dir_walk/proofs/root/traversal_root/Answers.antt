@@ -15,54 +15,54 @@ returns-then-is_absolute-clause-refused g c = λ t told.
     (sym c.in_ok-normalize.ensures ∙ c.in-Some.is)
     (ap is_absolute (sym c.as_bytes.ensures) ∙ sym c.is_absolute.ensures ∙ c.if-is_absolute.true)
 
-pub returns-in_err-through_components-in-Some-clause-refused : goal.returns-in_err-through_components-in-Some-clause-refused
-returns-in_err-through_components-in-Some-clause-refused g c = λ t told.
-    let p = err_from_is_err_and c.from_residual-in_err-through_components-in-Some.result c.from_residual-in_err-through_components-in-Some.ensures.1 in
+pub returns-in_err-check_root_components-in-Some-clause-refused : goal.returns-in_err-check_root_components-in-Some-clause-refused
+returns-in_err-check_root_components-in-Some-clause-refused g c = λ t told.
+    let p = err_from_is_err_and c.from_residual-in_err-check_root_components-in-Some.result c.from_residual-in_err-check_root_components-in-Some.ensures.1 in
     let given = setting_of g.M.Matcher c.args.shared.now in
-    let e = c.in_err-through_components-in-Some.field-0.0 in
+    let e = c.in_err-check_root_components-in-Some.field-0.0 in
     rw (p.1, p.2)
     (ends-through given t c.args.explicit.now c.in_ok-asked.asked (c.in_ok-asked.ensures.fault t told) c.in-Some.path e
     (sym c.in_ok-normalize.ensures ∙ c.in-Some.is)
     (ap is_absolute (sym c.as_bytes.ensures) ∙ sym c.is_absolute.ensures ∙ c.if-is_absolute.false)
-    (subst (λ (bytes : List ℕ). EndsIn (root_at given t bytes) e) c.as_bytes-in-Some.ensures (c.in_err-through_components-in-Some.ensures.refused t (c.in_ok-asked.ensures.keeps.tree ∙ told))))
+    (subst (λ (bytes : List ℕ). EndsIn (root_at given t bytes) e) c.as_bytes-in-Some.ensures (c.in_err-check_root_components-in-Some.ensures.refused t (c.in_ok-asked.ensures.keeps.tree ∙ told))))
 
-pub returns-in_err-through_components-in-Some-clause-fault : goal.returns-in_err-through_components-in-Some-clause-fault
-returns-in_err-through_components-in-Some-clause-fault g c = λ before now.
-    let p = err_from_is_err_and c.from_residual-in_err-through_components-in-Some.result c.from_residual-in_err-through_components-in-Some.ensures.1 in
+pub returns-in_err-check_root_components-in-Some-clause-fault : goal.returns-in_err-check_root_components-in-Some-clause-fault
+returns-in_err-check_root_components-in-Some-clause-fault g c = λ before now.
+    let p = err_from_is_err_and c.from_residual-in_err-check_root_components-in-Some.result c.from_residual-in_err-check_root_components-in-Some.ensures.1 in
     rw (p.1, p.2)
-    (through-fault c.args.shared.now.worktree_root.now c.as_bytes-in-Some.result.now c.in_err-through_components-in-Some.field-0.0
-    (Increased (g.W.Worktree.faults c.root_asked.new.worktree) (g.W.Worktree.faults c.through_components.new.worktree))
-    (Increased (g.W.Worktree.faults c.args.worktree.now) (g.W.Worktree.faults c.through_components.new.worktree)) (Increased before now)
-    c.in_err-through_components-in-Some.ensures.about
+    (through-fault c.args.shared.now.worktree_root.now c.as_bytes-in-Some.result.now c.in_err-check_root_components-in-Some.field-0.0
+    (Increased (g.W.Worktree.faults c.root_asked.new.worktree) (g.W.Worktree.faults c.check_root_components.new.worktree))
+    (Increased (g.W.Worktree.faults c.args.worktree.now) (g.W.Worktree.faults c.check_root_components.new.worktree)) (Increased before now)
+    c.in_err-check_root_components-in-Some.ensures.about
     (λ more. let k = c.in_ok-asked.ensures.keeps.faults in omega (arith, k, more))
-    (c.in_err-through_components-in-Some.ensures.fault before now))
+    (c.in_err-check_root_components-in-Some.ensures.fault before now))
 
 pub returns-in-None-clause-refused : goal.returns-in-None-clause-refused
 returns-in-None-clause-refused g c = λ t told.
     ends-outside (setting_of g.M.Matcher c.args.shared.now) t c.args.explicit.now c.in_ok-asked.asked (c.in_ok-asked.ensures.fault t told)
     (sym c.in_ok-normalize.ensures ∙ c.in-None.is)
 
-pub returns-in_ok-through_components-in-Some-clause-root : goal.returns-in_ok-through_components-in-Some-clause-root
-returns-in_ok-through_components-in-Some-clause-root g c = λ t told quiet.
+pub returns-in_ok-check_root_components-in-Some-clause-root : goal.returns-in_ok-check_root_components-in-Some-clause-root
+returns-in_ok-check_root_components-in-Some-clause-root g c = λ t told quiet.
     sym (root-normalized (setting_of g.M.Matcher c.args.shared.now) t c.args.explicit.now c.in_ok-asked.asked c.in-Some.path
-    (let more = c.in_ok-through_components-in-Some.ensures.keeps.faults in c.in_ok-asked.ensures.root t told (omega (arith, quiet, more)))
+    (let more = c.in_ok-check_root_components-in-Some.ensures.keeps.faults in c.in_ok-asked.ensures.root t told (omega (arith, quiet, more)))
     (sym c.in_ok-normalize.ensures ∙ c.in-Some.is)
     (ap is_absolute (sym c.as_bytes.ensures) ∙ sym c.is_absolute.ensures ∙ c.if-is_absolute.false))
-    ∙ subst (λ (bytes : List ℕ). root_at (setting_of g.M.Matcher c.args.shared.now) t bytes ≡ rooted bytes) c.as_bytes-in-Some.ensures (c.in_ok-through_components-in-Some.ensures.through t (c.in_ok-asked.ensures.keeps.tree ∙ told))
+    ∙ subst (λ (bytes : List ℕ). root_at (setting_of g.M.Matcher c.args.shared.now) t bytes ≡ rooted bytes) c.as_bytes-in-Some.ensures (c.in_ok-check_root_components-in-Some.ensures.through t (c.in_ok-asked.ensures.keeps.tree ∙ told))
 
-pub returns-in_ok-through_components-in-Some-clause-way : goal.returns-in_ok-through_components-in-Some-clause-way
-returns-in_ok-through_components-in-Some-clause-way g c = λ t told.
+pub returns-in_ok-check_root_components-in-Some-clause-way : goal.returns-in_ok-check_root_components-in-Some-clause-way
+returns-in_ok-check_root_components-in-Some-clause-way g c = λ t told.
     let given = setting_of g.M.Matcher c.args.shared.now in
     root-or-top given t c.args.explicit.now c.in_ok-asked.asked (c.in_ok-asked.ensures.fault t told) c.in-Some.path
     (sym c.in_ok-normalize.ensures ∙ c.in-Some.is)
     (ap is_absolute (sym c.as_bytes.ensures) ∙ sym c.is_absolute.ensures ∙ c.if-is_absolute.false)
-    (subst (λ (bytes : List ℕ). root_at given t bytes ≡ rooted bytes) c.as_bytes-in-Some.ensures (c.in_ok-through_components-in-Some.ensures.through t (c.in_ok-asked.ensures.keeps.tree ∙ told)))
+    (subst (λ (bytes : List ℕ). root_at given t bytes ≡ rooted bytes) c.as_bytes-in-Some.ensures (c.in_ok-check_root_components-in-Some.ensures.through t (c.in_ok-asked.ensures.keeps.tree ∙ told)))
 
-pub returns-in_ok-through_components-in-Some-clause-shape : goal.returns-in_ok-through_components-in-Some-clause-shape
-returns-in_ok-through_components-in-Some-clause-shape g c = normal-root c.in_ok-asked.asked c.in-Some.path
+pub returns-in_ok-check_root_components-in-Some-clause-shape : goal.returns-in_ok-check_root_components-in-Some-clause-shape
+returns-in_ok-check_root_components-in-Some-clause-shape g c = normal-root c.in_ok-asked.asked c.in-Some.path
     (sym c.in_ok-normalize.ensures ∙ c.in-Some.is)
     (ap is_absolute (sym c.as_bytes.ensures) ∙ sym c.is_absolute.ensures ∙ c.if-is_absolute.false)
 
-pub returns-in_ok-through_components-in-Some-clause-asked : goal.returns-in_ok-through_components-in-Some-clause-asked
-returns-in_ok-through_components-in-Some-clause-asked g c =
+pub returns-in_ok-check_root_components-in-Some-clause-asked : goal.returns-in_ok-check_root_components-in-Some-clause-asked
+returns-in_ok-check_root_components-in-Some-clause-asked g c =
     (c.in_ok-asked.asked, c.in_ok-asked.ensures.asked, sym c.in_ok-normalize.ensures ∙ c.in-Some.is, ap is_absolute (sym c.as_bytes.ensures) ∙ sym c.is_absolute.ensures ∙ c.if-is_absolute.false)

@@ -240,7 +240,7 @@ returns-clause-told g c =
           let is = way.reached s tells.tells tells.in_step first in
           let out : is_root_entered given.options (evidence given made s) (reached_by r false) ≡ false = sym (asked.entered made s (way.keeps.tree ∙ tells.tells.tree_is) second default) ∙ c.if-branch.false in
           rw asked.given at
-          (gives-put given made s a.root.now c.requires.root r is out g.D.Delegate a.depth_limit a.shared.now.worktree_root.now c.is_root_entered.new.delegate c.put_root.new.delegate a.parts.now.outcome.now c.put_root.new.outcome c.put_root.result c.put_root.ensures.puts);
+          (gives-put given made s a.root.now c.requires.root r is out g.D.Delegate a.depth_limit a.shared.now.worktree_root.now c.is_root_entered.new.delegate c.emit_unentered_root.new.delegate a.parts.now.outcome.now c.emit_unentered_root.new.outcome c.emit_unentered_root.result c.emit_unentered_root.ensures.puts);
       part = λ s tells quiet default walked walk.
           let a = c.args in
           let w = g.W.Worktree in
@@ -255,7 +255,7 @@ returns-clause-told g c =
           let is = way.reached s tells.tells tells.in_step first in
           let out : is_root_entered given.options (evidence given made s) (reached_by r false) ≡ false = sym (asked.entered made s (way.keeps.tree ∙ tells.tells.tree_is) second default) ∙ c.if-branch.false in
           rw asked.given at
-          (on_err_weaker c.put_root.result (part-only given made s a.root.now c.requires.root r is out walked (told c.is_root_entered.new.delegate) (told c.put_root.new.delegate) a.parts.now.outcome.now c.put_root.new.outcome walk) c.put_root.ensures.puts.part);
+          (on_err_weaker c.emit_unentered_root.result (part-only given made s a.root.now c.requires.root r is out walked (told c.is_root_entered.new.delegate) (told c.emit_unentered_root.new.delegate) a.parts.now.outcome.now c.emit_unentered_root.new.outcome walk) c.emit_unentered_root.ensures.puts.part);
       refused = λ s tells quiet default.
           let a = c.args in
           let w = g.W.Worktree in
@@ -270,9 +270,9 @@ returns-clause-told g c =
           let is = way.reached s tells.tells tells.in_step first in
           let out : is_root_entered given.options (evidence given made s) (reached_by r false) ≡ false = sym (asked.entered made s (way.keeps.tree ∙ tells.tells.tree_is) second default) ∙ c.if-branch.false in
           let stored : Type 0 = Increased (g.F.Find.faults a.parts.now.objects.now) (g.F.Find.faults c.root_at.new.objects) in
-          IfErr-weaker c.put_root.result (OnRefused (OnlyRoot top a.root.now r)) (OnRefused (StartRefuses given made s a.root.now a.depth_limit stored))
+          IfErr-weaker c.emit_unentered_root.result (OnRefused (OnlyRoot top a.root.now r)) (OnRefused (StartRefuses given made s a.root.now a.depth_limit stored))
           (refused-any (OnlyRoot top a.root.now r) (StartRefuses given made s a.root.now a.depth_limit stored) (λ e. only-refuses given made s top a.root.now a.depth_limit stored r e (no-root given made s a.root.now c.requires.root r is out)))
-          c.put_root.ensures.puts.refused;
+          c.emit_unentered_root.ensures.puts.refused;
     }
 
 pub returns-clause-no_root : goal.returns-clause-no_root
@@ -288,7 +288,7 @@ returns-clause-no_root g c = λ s told quiet.
     let second : NotIncreased (w.faults c.root_at.new.worktree) (w.faults c.is_root_entered.new.worktree) = omega (arith, quiet, way.keeps.faults) in
     let asked = c.in_ok-is_root_entered.ensures in
     let shape = c.requires.root in
-    let none : Type 0 = IsNoTop given made s (recursion_of g.D.Delegate a.parts.now.delegate.now c.put_root.new.delegate) in
+    let none : Type 0 = IsNoTop given made s (recursion_of g.D.Delegate a.parts.now.delegate.now c.emit_unentered_root.new.delegate) in
     let way_is : is_empty a.root.now ≡ true → is_root_entered given.options (evidence given made s) (way_to given made s []) ≡ is_root_entered given.options (evidence given made s) (reached_by r false) =
     λ empty.
     ap (λ (p : List ℕ). is_root_entered given.options (evidence given made s) (way_to given made s p)) (sym (bare a.root.now empty))
@@ -299,17 +299,17 @@ returns-clause-no_root g c = λ s told quiet.
     ∙ sym (asked.entered made s (way.keeps.tree ∙ told) second default)
     ∙ c.if-branch.false in
     let answered : is_empty a.root.now ≡ true
-    → IsAnswered (is_root_entered given.options (evidence given made s) (way_to given made s [])) false (g.D.Delegate.refusals a.parts.now.delegate.now) (g.D.Delegate.refusals c.put_root.new.delegate) =
+    → IsAnswered (is_root_entered given.options (evidence given made s) (way_to given made s [])) false (g.D.Delegate.refusals a.parts.now.delegate.now) (g.D.Delegate.refusals c.emit_unentered_root.new.delegate) =
     λ empty.
     let r0 = g.D.Delegate.refusals a.parts.now.delegate.now in
     let r1 = g.D.Delegate.refusals c.is_root_entered.new.delegate in
     let shut = subst (λ (b : Bool). IsAnswered (is_root_entered given.options (evidence given made s) (reached_by r false)) b r0 r1) c.if-branch.false (asked.answered made s (way.keeps.tree ∙ told) second) in
-    subst (λ (n : ℕ). IsAnswered (is_root_entered given.options (evidence given made s) (way_to given made s [])) false r0 n) (sym c.put_root.ensures.refusals)
+    subst (λ (n : ℕ). IsAnswered (is_root_entered given.options (evidence given made s) (way_to given made s [])) false r0 n) (sym c.emit_unentered_root.ensures.refusals)
     (subst (λ (b : Bool). IsAnswered b false r0 r1) (sym (way_is empty)) shut) in
-    IfErr-weaker c.put_root.result (OnRefused (OnlyRoot top a.root.now r)) (OnRefused (OnNoRoot none))
+    IfErr-weaker c.emit_unentered_root.result (OnRefused (OnlyRoot top a.root.now r)) (OnRefused (OnNoRoot none))
     (refused-any (OnlyRoot top a.root.now r) (OnNoRoot none) (λ e. only-no_root none top a.root.now r e
     (λ empty holds. record { node = no-node given made s a.root.now shape r (way.top (bare a.root.now empty) s told first) empty holds; unentered = unentered empty; answered = answered empty })))
-    c.put_root.ensures.puts.refused
+    c.emit_unentered_root.ensures.puts.refused
 
 pub returns-clause-unstarted : goal.returns-clause-unstarted
 returns-clause-unstarted g c =
@@ -318,16 +318,16 @@ returns-clause-unstarted g c =
     let asked = c.in_ok-is_root_entered.ensures in
     let told = g.D.Delegate.given in
     let lists = g.W.Worktree.lists in
-    let Unfed : Type 0 = told c.put_root.new.delegate ≡ told c.is_root_entered.new.delegate in
-    let Same : Type 0 = (lists c.is_root_entered.new.worktree ≡ lists a.parts.now.worktree.now) × (a.parts.now.interrupt.now ≡ a.parts.now.interrupt.now) × (told c.put_root.new.delegate ≡ told a.parts.now.delegate.now) in
-    IfErr-weaker c.put_root.result (OnRefused (OnNoStart Unfed)) (OnRefused (OnNoStart Same)) (refused-any (OnNoStart Unfed) (OnNoStart Same) (no-start-weaker (λ unfed. (asked.keeps.lists ∙ way.keeps.lists, refl, unfed ∙ asked.given))))
-    c.put_root.ensures.puts.unfed
+    let Unfed : Type 0 = told c.emit_unentered_root.new.delegate ≡ told c.is_root_entered.new.delegate in
+    let Same : Type 0 = (lists c.is_root_entered.new.worktree ≡ lists a.parts.now.worktree.now) × (a.parts.now.interrupt.now ≡ a.parts.now.interrupt.now) × (told c.emit_unentered_root.new.delegate ≡ told a.parts.now.delegate.now) in
+    IfErr-weaker c.emit_unentered_root.result (OnRefused (OnNoStart Unfed)) (OnRefused (OnNoStart Same)) (refused-any (OnNoStart Unfed) (OnNoStart Same) (no-start-weaker (λ unfed. (asked.keeps.lists ∙ way.keeps.lists, refl, unfed ∙ asked.given))))
+    c.emit_unentered_root.ensures.puts.unfed
 
 pub returns-clause-opens : goal.returns-clause-opens
 returns-clause-opens g c =
     let way = c.in_ok-reached.ensures in
     let asked = c.in_ok-is_root_entered.ensures in
-    opens-short c.root_at.new.worktree c.args.strategy (asks-from way.prefix way.reads) (λ s tells default quiet. omega arith) c.put_root.result (shallow-put c.args.shared.now.worktree_root.now c.args.root.now c.in_ok-reached.reached c.put_root.result c.put_root.ensures.puts.refused) (asked.keeps.lists ∙ way.keeps.lists) asked.reads c.put_root.ensures.entered (omega arith)
+    opens-short c.root_at.new.worktree c.args.strategy (asks-from way.prefix way.reads) (λ s tells default quiet. omega arith) c.emit_unentered_root.result (shallow-put c.args.shared.now.worktree_root.now c.args.root.now c.in_ok-reached.reached c.emit_unentered_root.result c.emit_unentered_root.ensures.puts.refused) (asked.keeps.lists ∙ way.keeps.lists) asked.reads c.emit_unentered_root.ensures.entered (omega arith)
 
 pub returns-clause-unmapped : goal.returns-clause-unmapped
 returns-clause-unmapped g c = λ held. c.in_ok-reached.ensures.unmapped
@@ -336,6 +336,6 @@ pub returns-clause-leaves : goal.returns-clause-leaves
 returns-clause-leaves g c =
     record {
       puts = search rules;
-      filtered = c.put_root.ensures.filtered ∙ AddsShown-same (chosen c.args.shared.now.options) c.in_ok-is_root_entered.ensures.given;
+      filtered = c.emit_unentered_root.ensures.filtered ∙ AddsShown-same (chosen c.args.shared.now.options) c.in_ok-is_root_entered.ensures.given;
       ends = search rules;
     }

@@ -13,4 +13,4 @@ returns-in-Ok g c =
     TellsCleaning-ok c.in-Ok.report c.into_vec-found.result.items c.in_ok-clean_found-in-Ok.field-0 c.in-Ok.ensures (ap Some c.in_ok-objects.ensures) c.into_vec-found.ensures c.in_ok-clean_found-in-Ok.ensures (omega (arith, quiet))
 
 pub returns : goal.returns
-returns g c = TellsCleaning-refused c.in-Err.error c.in_ok-of_report-in-Err.field-0 c.in-Err.ensures (ap Some c.in_ok-objects.ensures) (omega arith) c.in_ok-of_report-in-Err.ensures
+returns g c = TellsCleaning-refused c.in-Err.error c.in_ok-refusal_of_report_error-in-Err.field-0 c.in-Err.ensures (ap Some c.in_ok-objects.ensures) (omega arith) c.in_ok-refusal_of_report_error-in-Err.ensures

@@ -1,5 +1,5 @@
 use Rattle.std.proofs.Common.{rules, ◌≡◌, Ok, Err, inl, Some, List, ℕ, refl, sym, ap, ◌∙◌}
-use Rattle.worktree_fs.specs.Owners.{Owned}
+use Rattle.worktree_fs.specs.Owners.{OwnershipByPath}
 use Rattle.worktree_fs.specs.Tree.{Names}
 use Rattle.git_places.specs.GitDirectory.{git_at}
 use Rattle.git_places.specs.Limits.{absolute, stop_at, unless_stop}
@@ -27,7 +27,7 @@ returns-in_err-git g c =
     let inv = c.loop-path.invariant in
     let dir_is : c.in_ok-directory.directory ≡ absolute path = c.in_ok-directory.ensures ∙ ap absolute c.as_bytes.ensures in
     let arg_is : c.as_bytes-in-loop-path.result.now ≡ absolute path = c.as_bytes-in-loop-path.ensures ∙ dir_is in
-    let carry = λ (t : Names) (owned : Owned) (told : g.W.Worktree.told c.args.worktree.now ≡ Some t) (by : g.O.Owners.told c.args.owners.now ≡ Some owned).
+    let carry = λ (t : Names) (owned : OwnershipByPath) (told : g.W.Worktree.told c.args.worktree.now ≡ Some t) (by : g.O.Owners.told c.args.owners.now ≡ Some owned).
     passes errors.Fault errors.OutOfMemory c.in_err-git.field-0.0 (git_at t c.as_bytes-in-loop-path.result.now) (top_in c.args.limits.now t owned c.args.current.now)
     (c.in_err-git.ensures.gives t (inv.keeps.tree ∙ told))
     (λ h. sym (inv.same t owned told by) ∙ refuses (stop_at owned c.args.limits.now) path t c.in_err-git.field-0.0 inv.spelled (ap (git_at t) (sym arg_is) ∙ h))
@@ -78,7 +78,7 @@ returns-in_err-goes_up g c =
     let dir_is : c.in_ok-directory.directory ≡ absolute path = c.in_ok-directory.ensures ∙ ap absolute c.as_bytes.ensures in
     let arg_is : c.as_bytes-in-loop-path.result.now ≡ absolute path = c.as_bytes-in-loop-path.ensures ∙ dir_is in
     let up = rises_by path c.pop_component.new.self inv.spelled (sym c.pop_component.ensures.popped ∙ c.if-not-pop_component.false) c.pop_component.ensures.path in
-    let carry = λ (t : Names) (owned : Owned) (told : g.W.Worktree.told c.args.worktree.now ≡ Some t) (by : g.O.Owners.told c.args.owners.now ≡ Some owned).
+    let carry = λ (t : Names) (owned : OwnershipByPath) (told : g.W.Worktree.told c.args.worktree.now ≡ Some t) (by : g.O.Owners.told c.args.owners.now ≡ Some owned).
     passes errors.Fault errors.OutOfMemory e (unless_stop (stop_at owned c.args.limits.now c.as_bytes-in-loop-path-2.result.now)) (top_in c.args.limits.now t owned c.args.current.now)
     (c.in_err-goes_up.ensures.gives owned (inv.owners.told ∙ by))
     (λ h. sym (inv.same t owned told by)

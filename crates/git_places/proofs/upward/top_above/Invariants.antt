@@ -1,7 +1,7 @@
 use Rattle.std.proofs.Common.{◌≡◌, Some, length}
 use Rattle.worktree_fs.specs.Kept.{Asks}
 use Rattle.worktree_fs.specs.KeptOwners.{AsksOwners}
-use Rattle.worktree_fs.specs.Owners.{Owned}
+use Rattle.worktree_fs.specs.Owners.{OwnershipByPath}
 use Rattle.worktree_fs.specs.Tree.{Names}
 use Rattle.git_places.specs.Upward.{top_in}
 use Rattle.git_places.proofs.UpwardLemmas.{IsSpelled}
@@ -11,7 +11,7 @@ abbrev pub invariant-loop-path : goal.invariant-loop-path
 invariant-loop-path g l =
     record {
       spelled : IsSpelled l.path;
-      same : (t : Names) (owned : Owned) → g.W.Worktree.told l.fn.worktree ≡ Some t → g.O.Owners.told l.fn.owners ≡ Some owned
+      same : (t : Names) (owned : OwnershipByPath) → g.W.Worktree.told l.fn.worktree ≡ Some t → g.O.Owners.told l.fn.owners ≡ Some owned
           → top_in l.limits t owned l.path ≡ top_in l.limits t owned l.fn.current;
       unfaulted : g.W.Worktree.faults l.worktree ≡ g.W.Worktree.faults l.fn.worktree;
       owners_unfaulted : g.O.Owners.faults l.owners ≡ g.O.Owners.faults l.fn.owners;

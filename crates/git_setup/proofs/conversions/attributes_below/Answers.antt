@@ -1,7 +1,7 @@
 use Rattle.std.proofs.Common.{Bool, Ok, ◌∙◌, ap, sym, subst}
 use Rattle.std.specs.List.{list_any}
-use Rattle.git_places.specs.Answers.{GivesBy}
-use Rattle.git_setup.specs.Conversions.{leads_past}
+use Rattle.git_places.specs.Answers.{IsFoundOrFailed}
+use Rattle.git_setup.specs.Conversions.{has_attributes_above_entry}
 use Rattle.git_setup.specs.declared.error.GitRefusal.{GitRefusal}
 use Rattle.git_setup.specs.declared.error.GitRefusal.TheVariants as errors
 use Rattle.git_setup.proofs.LeadsPast.{from_is}
@@ -9,11 +9,11 @@ use Rattle.git_setup.proofs.conversions.attributes_below.Goals as goal
 
 pub returns-in-Some : goal.returns-in-Some
 returns-in-Some g c =
-    let found = c.leads_past_from.ensures in
+    let found = c.has_attributes_above_entries.ensures in
     record {
       gives = λ t told.
-          subst (λ (past : Bool). GivesBy {A = Bool} {E = GitRefusal} errors.Fault errors.OutOfMemory c.leads_past_from.result (Ok past))
-          (from_is t c.args.root.now c.in-Some.first.now c.in-Some.rest.now ∙ ap (list_any (leads_past t c.args.root.now)) (sym c.in-Some.ensures.cases.0))
+          subst (λ (past : Bool). IsFoundOrFailed {A = Bool} {E = GitRefusal} errors.Fault errors.OutOfMemory c.has_attributes_above_entries.result (Ok past))
+          (from_is t c.args.root.now c.in-Some.first.now c.in-Some.rest.now ∙ ap (list_any (has_attributes_above_entry t c.args.root.now)) (sym c.in-Some.ensures.cases.0))
           (found.gives t told);
       cause = found.cause;
       unfaulted = found.unfaulted;

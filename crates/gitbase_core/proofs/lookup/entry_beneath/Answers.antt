@@ -3,12 +3,12 @@ use Rattle.gitbase_core.proofs.PathSearch.{got}
 use Rattle.gitbase_core.proofs.FoldedSearch.{never-fold_case, no-fold_case, number-in_run}
 use Rattle.gitbase_core.proofs.lookup.entry_beneath.Goals as goal
 
-pub run-start-requires : goal.run-start-requires
-run-start-requires c = never-fold_case c.args.entries.now c.args.numbers.now c.requires
+pub find_prefix_range_icase-start-requires : goal.find_prefix_range_icase-start-requires
+find_prefix_range_icase-start-requires c = never-fold_case c.args.entries.now c.args.numbers.now c.requires
 
 pub returns-in_default : goal.returns-in_default
 returns-in_default c =
-    no-fold_case c.args.dir.now c.args.entries.now c.args.numbers.now c.requires _ _ c.run-start.ensures
+    no-fold_case c.args.dir.now c.args.entries.now c.args.numbers.now c.requires _ _ c.find_prefix_range_icase-start.ensures
     (rw c.in_default.is at c.least.ensures)
 
 pub returns : goal.returns
@@ -17,4 +17,4 @@ returns c =
     let number = c.in-Some.number in
     let least = rw c.in-Some.is at c.least.ensures in
     sym (got entries number c.get.result c.get.ensures.lookup.3)
-    ∙ number-in_run c.args.dir.now entries c.args.numbers.now c.requires _ _ c.run-start.ensures number least.0 least.1
+    ∙ number-in_run c.args.dir.now entries c.args.numbers.now c.requires _ _ c.find_prefix_range_icase-start.ensures number least.0 least.1

@@ -13,4 +13,4 @@ returns-in-Ok g c =
     StatusTexts-ok c.in-Ok.status c.in_ok-status_bytes-in-Ok.field-0 c.in-Ok.ensures (ap Some c.in_ok-objects.ensures) c.in_ok-status_bytes-in-Ok.ensures (omega (arith, quiet))
 
 pub returns : goal.returns
-returns g c = StatusTexts-refused c.in-Err.error c.in_ok-of_status-in-Err.field-0 c.in-Err.ensures (ap Some c.in_ok-objects.ensures) (omega arith) c.in_ok-of_status-in-Err.ensures
+returns g c = StatusTexts-refused c.in-Err.error c.in_ok-refusal_of_status_error-in-Err.field-0 c.in-Err.ensures (ap Some c.in_ok-objects.ensures) (omega arith) c.in_ok-refusal_of_status_error-in-Err.ensures

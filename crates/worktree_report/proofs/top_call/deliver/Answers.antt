@@ -7,9 +7,9 @@ returns-in-Ok g c =
 
 pub returns-in-Err : goal.returns-in-Err
 returns-in-Err g c =
-    let told = c.say_fixed.ensures.told in
+    let told = c.write_fixed_refusal.ensures.told in
     record {
       by = inr (record { status_is = told.status_is; written = c.in-Err.ensures.part; cause = c.in-Err.ensures.cause; said = told.said });
       refusals = c.write_whole.ensures.later;
-      err_refusals = c.say_fixed.ensures.later;
+      err_refusals = c.write_fixed_refusal.ensures.later;
     }

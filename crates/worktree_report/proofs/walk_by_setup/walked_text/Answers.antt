@@ -6,4 +6,4 @@ pub returns-in-Ok : goal.returns-in-Ok
 returns-in-Ok g c = Texts-made c.in-Ok.text c.in-Ok.ensures (ap Some c.in_ok-objects.ensures)
 
 pub returns : goal.returns
-returns g c = Texts-unmade c.in-Err.error c.in_ok-of_report-in-Err.field-0 c.in-Err.ensures (ap Some c.in_ok-objects.ensures) (omega arith) c.in_ok-of_report-in-Err.ensures
+returns g c = Texts-unmade c.in-Err.error c.in_ok-refusal_of_report_error-in-Err.field-0 c.in-Err.ensures (ap Some c.in_ok-objects.ensures) (omega arith) c.in_ok-refusal_of_report_error-in-Err.ensures

@@ -13,7 +13,7 @@ returns c =
     let sections = c.args.sections.now in
     let places = c.deref.result.now in
     let all : places ≡ c.args.self.now = c.deref.ensures.value ∙ c.self.view_is in
-    c.last_placed.ensures
+    c.last_value_at_places.ensures
     ∙ ap (λ (ps : List SectionPlace). first_placed name subsection key sections (reverse ps))
     (c.run_of-run.ensures ∙ ap (λ (k : List ℕ). filter (has_key k) places) c.key_of.ensures)
     ∙ ap (λ (ps : List SectionPlace). first_placed name subsection key sections (reverse (filter (has_key (key_of subsection)) ps))) all

@@ -6,8 +6,8 @@ use Rattle.glob_rules.proofs.pathspec.common.common_end.Goals as goal
 
 pub loop-end-init : goal.loop-end-init
 loop-end-init c = record {
-  within = omega (arith, c.same_length-end.ensures);
-  same = common_begins c.args.left.now c.args.right.now c.same_length-end.result c.same_length-end.ensures;
+  within = omega (arith, c.common_prefix_length-end.ensures);
+  same = common_begins c.args.left.now c.args.right.now c.common_prefix_length-end.result c.common_prefix_length-end.ensures;
 }
 
 pub is_common_front-requires-clause-left : goal.is_common_front-requires-clause-left

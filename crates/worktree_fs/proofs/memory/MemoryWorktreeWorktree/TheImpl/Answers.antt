@@ -3,7 +3,7 @@ use Rattle.std.specs.Prelude.{MatchResult}
 use Rattle.worktree_fs.specs.Tree.{Names, look, spot}
 use Rattle.worktree_fs.specs.MadeAndRemoved.{AnswersInside, Removes}
 use Rattle.worktree_fs.specs.Answers.{ListsNames, ListRefuses}
-use Rattle.worktree_fs.specs.Memory.{Memory, ListsInOrder, told_by, fails}
+use Rattle.worktree_fs.specs.Memory.{Memory, ListsInOrder, told_by, count_call_and_check_fault}
 use Rattle.worktree_fs.specs.declared.memory.plan.CallKind.TheVariants as calls
 use Rattle.worktree_fs.specs.Changes.{make_answer, after_make, remove_answer, after_remove}
 use Rattle.worktree_fs.specs.declared.answers.ListError.{ListError}
@@ -105,7 +105,7 @@ remove_node-tells c =
     let old = c.args.self.now.tree in
     let new = c.new.self.now.tree in
     let at = spot old c.args.path.now false in
-    let planned = fails c.args.self.now calls.RemoveNode in
+    let planned = count_call_and_check_fault c.args.self.now calls.RemoveNode in
     let after = after_remove old at in
     record {
       answer = λ t told. subst (λ (n : Names). IfOk c.result (λ answer. answer ≡ remove_answer (spot n c.args.path.now false))) (told_is old t told)

@@ -8,4 +8,4 @@ pub returns-clause-inside : goal.returns-clause-inside
 returns-clause-inside c =
     let tree = c.args.self.now.tree in
     let told : told_by tree ≡ Some tree = search rules in
-    inside_of c.args.self.now.composes tree c.args.path.now (told_tree tree tree told) c.made-answer.result (search rules)
+    inside_of c.args.self.now.composes tree c.args.path.now (told_tree tree tree told) c.make_dir_unless_planned_fault-answer.result (search rules)

@@ -1,5 +1,5 @@
 use Rattle.std.proofs.Common.{◌≡◌, Some, rules}
-use Rattle.worktree_fs.specs.Memory.{told_by, fails}
+use Rattle.worktree_fs.specs.Memory.{told_by, count_call_and_check_fault}
 use Rattle.worktree_fs.specs.Told.{told_tree}
 use Rattle.worktree_fs.specs.declared.memory.plan.CallKind.TheVariants as calls
 use Rattle.worktree_fs.proofs.Trees.Answered.{gone_of}
@@ -9,4 +9,4 @@ pub returns-clause-gone : goal.returns-clause-gone
 returns-clause-gone c =
     let tree = c.args.self.now.tree in
     let told : told_by tree ≡ Some tree = search rules in
-    gone_of tree c.args.path.now (told_tree tree tree told) (fails c.args.self.now calls.RemoveNode) c.removed-answer.result c.removed-answer.new.self.tree (search rules) (search rules)
+    gone_of tree c.args.path.now (told_tree tree tree told) (count_call_and_check_fault c.args.self.now calls.RemoveNode) c.remove_unless_planned_fault-answer.result c.remove_unless_planned_fault-answer.new.self.tree (search rules) (search rules)

@@ -1,13 +1,13 @@
 use Rattle.std.proofs.Common.{◌∙◌, ap, sym, List, ℕ, Some, None, slice_index_or}
-use Rattle.worktree_fs.specs.Tree.{Names, Node, Place, child, resolve, onward, walking, behind}
+use Rattle.worktree_fs.specs.Tree.{Names, Node, Place, child, resolve, resolve_from_node, walking, behind}
 use Rattle.worktree_fs.specs.Stored.{names_in}
 use Rattle.worktree_fs.specs.Way.{place_by}
 use Rattle.worktree_fs.proofs.Trees.Grown.{child_gap}
 use Rattle.worktree_fs.proofs.Routes.Ways.{at_range, at_name, at_child, nth_node, component-leads}
 use Rattle.worktree_fs.proofs.memory.trace.take_component.Goals as goal
 
-pub on-requires-clause-node : goal.on-requires-clause-node
-on-requires-clause-node c = nth_node c.args.dir.now c.in-Ok.at c.index-dir-at.result (at_range c.args.dir.now c.requires.stands.sorted.rising c.args.component.now c.in-Ok.at c.in-Ok.ensures.found)
+pub resolve_at_node-requires-clause-node : goal.resolve_at_node-requires-clause-node
+resolve_at_node-requires-clause-node c = nth_node c.args.dir.now c.in-Ok.at c.index-dir-at.result (at_range c.args.dir.now c.requires.stands.sorted.rising c.args.component.now c.in-Ok.at c.in-Ok.ensures.found)
 
 pub returns-in-Ok-clause-leads : goal.returns-in-Ok-clause-leads
 returns-in-Ok-clause-leads c =
@@ -21,8 +21,8 @@ returns-in-Ok-clause-leads c =
     (ap (λ (h : Names). child h c.args.component.now) c.requires.stands.here
     ∙ at_child dir rising c.args.component.now c.in-Ok.at c.in-Ok.ensures.found
     ∙ ap (λ (n : Node). Some n) (nth_node dir c.in-Ok.at c.index-dir-at.result (at_range dir rising c.args.component.now c.in-Ok.at c.in-Ok.ensures.found)))
-    ∙ ap (λ (n : List ℕ). onward (walking (λ (p : Place). resolve links c.args.follow p left) (behind links c.args.follow) c.args.follow) place left n (Some node)) (sym (at_name dir rising c.args.component.now c.in-Ok.at c.in-Ok.ensures.found))
-    ∙ c.on.ensures.leads
+    ∙ ap (λ (n : List ℕ). resolve_from_node (walking (λ (p : Place). resolve links c.args.follow p left) (behind links c.args.follow) c.args.follow) place left n (Some node)) (sym (at_name dir rising c.args.component.now c.in-Ok.at c.in-Ok.ensures.found))
+    ∙ c.resolve_at_node.ensures.leads
 
 pub returns-in-Err-clause-leads : goal.returns-in-Err-clause-leads
 returns-in-Err-clause-leads c =

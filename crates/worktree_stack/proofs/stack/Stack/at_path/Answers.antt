@@ -4,7 +4,7 @@ use Rattle.std.specs.Prelude.{IsErrAnd, Result, Option, is_some}
 use Rattle.gitbase_core.specs.Path.{components}
 use Rattle.worktree_fs.specs.PathStack.{lookup_calls}
 use Rattle.worktree_stack.specs.ChecksOut.{ChecksOut, left_of}
-use Rattle.worktree_stack.specs.GoesOn.{Goes, GoesWithin}
+use Rattle.worktree_stack.specs.GoesOn.{RunsCheckoutCalls, GoesWithin}
 use Rattle.worktree_stack.specs.LooksUp.{LooksUp}
 use Rattle.worktree_stack.specs.Lookups.{is_dir_of, staying}
 use Rattle.worktree_stack.specs.Making.{is_link_of, way_of}
@@ -46,31 +46,31 @@ returns-in_err-look_up-clause-looks_up g c keeps =
 pub returns-in_default-clause-looks_up : goal.returns-in_default-clause-looks_up
 returns-in_default-clause-looks_up g c keeps =
     look-answered g.W.Worktree g.F.Find (moment c.args.worktree.now c.args.objects.now c.count_platform.new.self) (moment c.look_up.new.worktree c.look_up.new.objects c.look_up.new.self) c.args.relative.now (is_dir_of c.args.mode)
-    c.args.self.now c.answer.new.self c.count_platform.ensures (search rules) c.answer.ensures c.in_ok-look_up.ensures.keeps c.in_ok-look_up.ensures.arrives c.in_ok-look_up.ensures.moves c.look_up.ensures.holds c.in_ok-look_up.ensures.sees c.in_ok-look_up.ensures.asks
+    c.args.self.now c.mark_answered.new.self c.count_platform.ensures (search rules) c.mark_answered.ensures c.in_ok-look_up.ensures.keeps c.in_ok-look_up.ensures.arrives c.in_ok-look_up.ensures.moves c.look_up.ensures.holds c.in_ok-look_up.ensures.sees c.in_ok-look_up.ensures.asks
 
-pub returns-in_err-check_out-clause-checks_out : goal.returns-in_err-check_out-clause-checks_out
-returns-in_err-check_out-clause-checks_out g c checkout is =
+pub returns-in_err-look_up_making_directories-clause-checks_out : goal.returns-in_err-look_up_making_directories-clause-checks_out
+returns-in_err-look_up_making_directories-clause-checks_out g c checkout is =
     let W = g.W.Worktree in
     let F = g.F.Find in
     let a = c.args in
     let old : Stacked = a.self.now in
-    let new : Stacked = c.check_out.new.self in
+    let new : Stacked = c.look_up_making_directories.new.self in
     let k : Checkout = c.in-Some.checkout in
     let counted = c.count_platform.ensures in
     let parts : List (List ℕ) = components a.relative.now in
-    let e : AtPathError = c.in_err-check_out.field-0.0 in
-    let same : IsErrAnd c.from_residual-in_err-check_out.result (λ x. x ≡ e) = search rules in
+    let e : AtPathError = c.in_err-look_up_making_directories.field-0.0 in
+    let same : IsErrAnd c.from_residual-in_err-look_up_making_directories.result (λ x. x ≡ e) = search rules in
     let has : old.checkout ≡ Some k = sym (ap (λ (s : Stacked). s.checkout) counted) ∙ sym c.checkout.ensures.checkout ∙ c.in-Some.is in
     let free : old.ignore ≡ None = sym (ap (λ (s : Stacked). s.ignore) counted) ∙ c.checkout.ensures.alone (ap is_some c.in-Some.is) in
-    let went = c.in_err-check_out.ensures in
-    subst (λ (x : Checkout). ChecksOut W F a.worktree.now c.check_out.new.worktree a.objects.now c.check_out.new.objects x a.relative.now (is_dir_of a.mode) (is_link_of a.mode) old new c.from_residual-in_err-check_out.result) (same-checkout old.checkout has is)
-    (subst (λ (r : Result (Unit {0}) AtPathError). ChecksOut W F a.worktree.now c.check_out.new.worktree a.objects.now c.check_out.new.objects k a.relative.now (is_dir_of a.mode) (is_link_of a.mode) old new r) (sym (is_err c.from_residual-in_err-check_out.result e same))
-    (checks-refused W F a.worktree.now c.check_out.new.worktree a.objects.now c.check_out.new.objects k a.relative.now (is_dir_of a.mode) (is_link_of a.mode) old has free (search rules) new e
-    (subst (λ (m : Stacked). Goes W F a.worktree.now c.check_out.new.worktree a.objects.now c.check_out.new.objects (way_of k (W.precomposes a.worktree.now) m.root (is_dir_of a.mode)) (is_link_of a.mode) k.validate.protect_windows (lookup_calls m.at parts) (left_of m.at parts) m new (Err e)) counted
-    (subst (λ (r : Result (Unit {0}) AtPathError). Goes W F a.worktree.now c.check_out.new.worktree a.objects.now c.check_out.new.objects (way_of k (W.precomposes a.worktree.now) c.count_platform.new.self.root (is_dir_of a.mode)) (is_link_of a.mode) k.validate.protect_windows (lookup_calls c.count_platform.new.self.at parts) (left_of c.count_platform.new.self.at parts) c.count_platform.new.self new r) c.in_err-check_out.was c.check_out.ensures.goes))
-    went.arrives.on_way (subst (λ (m : Stacked). length (pushed (staying m.at parts)) ≤ length (pushed new.at)) counted c.check_out.ensures.arrives.stays)
-    (subst (λ (m : Stacked). GoesWithin W F a.worktree.now c.check_out.new.worktree a.objects.now c.check_out.new.objects (way_of k (W.precomposes a.worktree.now) m.root (is_dir_of a.mode)) parts (left_of m.at parts) m new (Err e)) counted
-    (subst (λ (r : Result (Unit {0}) AtPathError). GoesWithin W F a.worktree.now c.check_out.new.worktree a.objects.now c.check_out.new.objects (way_of k (W.precomposes a.worktree.now) c.count_platform.new.self.root (is_dir_of a.mode)) parts (left_of c.count_platform.new.self.at parts) c.count_platform.new.self new r) c.in_err-check_out.was c.check_out.ensures.within))))
+    let went = c.in_err-look_up_making_directories.ensures in
+    subst (λ (x : Checkout). ChecksOut W F a.worktree.now c.look_up_making_directories.new.worktree a.objects.now c.look_up_making_directories.new.objects x a.relative.now (is_dir_of a.mode) (is_link_of a.mode) old new c.from_residual-in_err-look_up_making_directories.result) (same-checkout old.checkout has is)
+    (subst (λ (r : Result (Unit {0}) AtPathError). ChecksOut W F a.worktree.now c.look_up_making_directories.new.worktree a.objects.now c.look_up_making_directories.new.objects k a.relative.now (is_dir_of a.mode) (is_link_of a.mode) old new r) (sym (is_err c.from_residual-in_err-look_up_making_directories.result e same))
+    (checks-refused W F a.worktree.now c.look_up_making_directories.new.worktree a.objects.now c.look_up_making_directories.new.objects k a.relative.now (is_dir_of a.mode) (is_link_of a.mode) old has free (search rules) new e
+    (subst (λ (m : Stacked). RunsCheckoutCalls W F a.worktree.now c.look_up_making_directories.new.worktree a.objects.now c.look_up_making_directories.new.objects (way_of k (W.precomposes a.worktree.now) m.root (is_dir_of a.mode)) (is_link_of a.mode) k.validate.protect_windows (lookup_calls m.at parts) (left_of m.at parts) m new (Err e)) counted
+    (subst (λ (r : Result (Unit {0}) AtPathError). RunsCheckoutCalls W F a.worktree.now c.look_up_making_directories.new.worktree a.objects.now c.look_up_making_directories.new.objects (way_of k (W.precomposes a.worktree.now) c.count_platform.new.self.root (is_dir_of a.mode)) (is_link_of a.mode) k.validate.protect_windows (lookup_calls c.count_platform.new.self.at parts) (left_of c.count_platform.new.self.at parts) c.count_platform.new.self new r) c.in_err-look_up_making_directories.was c.look_up_making_directories.ensures.goes))
+    went.arrives.on_way (subst (λ (m : Stacked). length (pushed (staying m.at parts)) ≤ length (pushed new.at)) counted c.look_up_making_directories.ensures.arrives.stays)
+    (subst (λ (m : Stacked). GoesWithin W F a.worktree.now c.look_up_making_directories.new.worktree a.objects.now c.look_up_making_directories.new.objects (way_of k (W.precomposes a.worktree.now) m.root (is_dir_of a.mode)) parts (left_of m.at parts) m new (Err e)) counted
+    (subst (λ (r : Result (Unit {0}) AtPathError). GoesWithin W F a.worktree.now c.look_up_making_directories.new.worktree a.objects.now c.look_up_making_directories.new.objects (way_of k (W.precomposes a.worktree.now) c.count_platform.new.self.root (is_dir_of a.mode)) parts (left_of c.count_platform.new.self.at parts) c.count_platform.new.self new r) c.in_err-look_up_making_directories.was c.look_up_making_directories.ensures.within))))
 
 pub returns-clause-checks_out : goal.returns-clause-checks_out
 returns-clause-checks_out g c checkout is =
@@ -78,19 +78,19 @@ returns-clause-checks_out g c checkout is =
     let F = g.F.Find in
     let a = c.args in
     let old : Stacked = a.self.now in
-    let went_to : Stacked = c.check_out.new.self in
+    let went_to : Stacked = c.look_up_making_directories.new.self in
     let k : Checkout = c.in-Some.checkout in
     let counted = c.count_platform.ensures in
     let parts : List (List ℕ) = components a.relative.now in
     let has : old.checkout ≡ Some k = sym (ap (λ (s : Stacked). s.checkout) counted) ∙ sym c.checkout.ensures.checkout ∙ c.in-Some.is in
     let free : old.ignore ≡ None = sym (ap (λ (s : Stacked). s.ignore) counted) ∙ c.checkout.ensures.alone (ap is_some c.in-Some.is) in
-    subst (λ (x : Checkout). ChecksOut W F a.worktree.now c.check_out.new.worktree a.objects.now c.check_out.new.objects x a.relative.now (is_dir_of a.mode) (is_link_of a.mode) old c.answer-2.new.self (Ok tt)) (same-checkout old.checkout has is)
-    (checks-answered W F a.worktree.now c.check_out.new.worktree a.objects.now c.check_out.new.objects k a.relative.now (is_dir_of a.mode) (is_link_of a.mode) old has free (search rules) went_to c.answer-2.new.self c.answer-2.ensures
-    (subst (λ (m : Stacked). Goes W F a.worktree.now c.check_out.new.worktree a.objects.now c.check_out.new.objects (way_of k (W.precomposes a.worktree.now) m.root (is_dir_of a.mode)) (is_link_of a.mode) k.validate.protect_windows (lookup_calls m.at parts) (left_of m.at parts) m went_to (Ok tt)) counted
-    (subst (λ (r : Result (Unit {0}) AtPathError). Goes W F a.worktree.now c.check_out.new.worktree a.objects.now c.check_out.new.objects (way_of k (W.precomposes a.worktree.now) c.count_platform.new.self.root (is_dir_of a.mode)) (is_link_of a.mode) k.validate.protect_windows (lookup_calls c.count_platform.new.self.at parts) (left_of c.count_platform.new.self.at parts) c.count_platform.new.self went_to r) c.in_ok-check_out.was c.check_out.ensures.goes))
-    c.in_ok-check_out.ensures.arrives.looked_up (subst (λ (m : Stacked). length (pushed (staying m.at parts)) ≤ length (pushed went_to.at)) counted c.check_out.ensures.arrives.stays)
-    (subst (λ (m : Stacked). GoesWithin W F a.worktree.now c.check_out.new.worktree a.objects.now c.check_out.new.objects (way_of k (W.precomposes a.worktree.now) m.root (is_dir_of a.mode)) parts (left_of m.at parts) m went_to (Ok tt)) counted
-    (subst (λ (r : Result (Unit {0}) AtPathError). GoesWithin W F a.worktree.now c.check_out.new.worktree a.objects.now c.check_out.new.objects (way_of k (W.precomposes a.worktree.now) c.count_platform.new.self.root (is_dir_of a.mode)) parts (left_of c.count_platform.new.self.at parts) c.count_platform.new.self went_to r) c.in_ok-check_out.was c.check_out.ensures.within)))
+    subst (λ (x : Checkout). ChecksOut W F a.worktree.now c.look_up_making_directories.new.worktree a.objects.now c.look_up_making_directories.new.objects x a.relative.now (is_dir_of a.mode) (is_link_of a.mode) old c.mark_answered-2.new.self (Ok tt)) (same-checkout old.checkout has is)
+    (checks-answered W F a.worktree.now c.look_up_making_directories.new.worktree a.objects.now c.look_up_making_directories.new.objects k a.relative.now (is_dir_of a.mode) (is_link_of a.mode) old has free (search rules) went_to c.mark_answered-2.new.self c.mark_answered-2.ensures
+    (subst (λ (m : Stacked). RunsCheckoutCalls W F a.worktree.now c.look_up_making_directories.new.worktree a.objects.now c.look_up_making_directories.new.objects (way_of k (W.precomposes a.worktree.now) m.root (is_dir_of a.mode)) (is_link_of a.mode) k.validate.protect_windows (lookup_calls m.at parts) (left_of m.at parts) m went_to (Ok tt)) counted
+    (subst (λ (r : Result (Unit {0}) AtPathError). RunsCheckoutCalls W F a.worktree.now c.look_up_making_directories.new.worktree a.objects.now c.look_up_making_directories.new.objects (way_of k (W.precomposes a.worktree.now) c.count_platform.new.self.root (is_dir_of a.mode)) (is_link_of a.mode) k.validate.protect_windows (lookup_calls c.count_platform.new.self.at parts) (left_of c.count_platform.new.self.at parts) c.count_platform.new.self went_to r) c.in_ok-look_up_making_directories.was c.look_up_making_directories.ensures.goes))
+    c.in_ok-look_up_making_directories.ensures.arrives.looked_up (subst (λ (m : Stacked). length (pushed (staying m.at parts)) ≤ length (pushed went_to.at)) counted c.look_up_making_directories.ensures.arrives.stays)
+    (subst (λ (m : Stacked). GoesWithin W F a.worktree.now c.look_up_making_directories.new.worktree a.objects.now c.look_up_making_directories.new.objects (way_of k (W.precomposes a.worktree.now) m.root (is_dir_of a.mode)) parts (left_of m.at parts) m went_to (Ok tt)) counted
+    (subst (λ (r : Result (Unit {0}) AtPathError). GoesWithin W F a.worktree.now c.look_up_making_directories.new.worktree a.objects.now c.look_up_making_directories.new.objects (way_of k (W.precomposes a.worktree.now) c.count_platform.new.self.root (is_dir_of a.mode)) parts (left_of c.count_platform.new.self.at parts) c.count_platform.new.self went_to r) c.in_ok-look_up_making_directories.was c.look_up_making_directories.ensures.within)))
 
 pub returns-in_err-look_up-clause-asked : goal.returns-in_err-look_up-clause-asked
 returns-in_err-look_up-clause-asked g c =
@@ -100,13 +100,13 @@ pub returns-in_default-clause-asked : goal.returns-in_default-clause-asked
 returns-in_default-clause-asked g c =
     asked-as g.W.Worktree c.args.worktree.now c.look_up.new.worktree (components c.args.relative.now) c.args.self.now c.count_platform.new.self c.count_platform.ensures c.look_up.ensures.asks.asked
 
-pub returns-in_err-check_out-clause-asked : goal.returns-in_err-check_out-clause-asked
-returns-in_err-check_out-clause-asked g c =
-    asked-as g.W.Worktree c.args.worktree.now c.check_out.new.worktree (components c.args.relative.now) c.args.self.now c.count_platform.new.self c.count_platform.ensures c.check_out.ensures.goes.asked
+pub returns-in_err-look_up_making_directories-clause-asked : goal.returns-in_err-look_up_making_directories-clause-asked
+returns-in_err-look_up_making_directories-clause-asked g c =
+    asked-as g.W.Worktree c.args.worktree.now c.look_up_making_directories.new.worktree (components c.args.relative.now) c.args.self.now c.count_platform.new.self c.count_platform.ensures c.look_up_making_directories.ensures.goes.asked
 
 pub returns-clause-asked : goal.returns-clause-asked
 returns-clause-asked g c =
-    asked-as g.W.Worktree c.args.worktree.now c.check_out.new.worktree (components c.args.relative.now) c.args.self.now c.count_platform.new.self c.count_platform.ensures c.check_out.ensures.goes.asked
+    asked-as g.W.Worktree c.args.worktree.now c.look_up_making_directories.new.worktree (components c.args.relative.now) c.args.self.now c.count_platform.new.self c.count_platform.ensures c.look_up_making_directories.ensures.goes.asked
 
 pub returns-clause-held : goal.returns-clause-held
 returns-clause-held g c checkout is s tells =
@@ -119,7 +119,7 @@ returns-clause-held g c checkout is s tells =
     let composes = W.precomposes a.worktree.now in
     let kind = is_dir_of a.mode in
     let has : old.checkout ≡ Some k = sym (ap (λ (x : Stacked). x.checkout) counted) ∙ sym c.checkout.ensures.checkout ∙ c.in-Some.is in
-    subst (λ (x : Checkout). HoldsOut (made_of old) (way_of x composes old.root kind) (mkdirs old) s (lookup_calls old.at parts) old.attributes c.answer-2.new.self.attributes) (same-checkout old.checkout has is)
-    (subst (λ (h : Option HeldAttributes). HoldsOut (made_of old) (way_of k composes old.root kind) (mkdirs old) s (lookup_calls old.at parts) old.attributes h) (sym (ap (λ (x : Stacked). x.attributes) c.answer-2.ensures))
-    (subst (λ (m : Stacked). HoldsOut (made_of m) (way_of k composes m.root kind) (mkdirs m) s (lookup_calls m.at parts) m.attributes c.check_out.new.self.attributes) counted
-    (c.in_ok-check_out.ensures.held s tells)))
+    subst (λ (x : Checkout). HoldsOut (made_of old) (way_of x composes old.root kind) (mkdirs old) s (lookup_calls old.at parts) old.attributes c.mark_answered-2.new.self.attributes) (same-checkout old.checkout has is)
+    (subst (λ (h : Option HeldAttributes). HoldsOut (made_of old) (way_of k composes old.root kind) (mkdirs old) s (lookup_calls old.at parts) old.attributes h) (sym (ap (λ (x : Stacked). x.attributes) c.mark_answered-2.ensures))
+    (subst (λ (m : Stacked). HoldsOut (made_of m) (way_of k composes m.root kind) (mkdirs m) s (lookup_calls m.at parts) m.attributes c.look_up_making_directories.new.self.attributes) counted
+    (c.in_ok-look_up_making_directories.ensures.held s tells)))

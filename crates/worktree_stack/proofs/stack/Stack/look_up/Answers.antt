@@ -23,8 +23,8 @@ use Rattle.worktree_stack.proofs.stack.Stack.look_up.Goals as goal
 
 pub push_rest-requires-clause-end : goal.push_rest-requires-clause-end
 push_rest-requires-clause-end g c =
-    ends c.args.self.now.at c.push_root.new.self.at c.pop_surplus.new.self.at (components c.args.relative.now) (components c.rest-left.result.now)
-    (record { rooted = c.in_ok-push_root.ensures.stands.at; popped = c.pop_surplus.ensures.at; left_is = c.rest-left.ensures })
+    ends c.args.self.now.at c.push_root.new.self.at c.pop_surplus.new.self.at (components c.args.relative.now) (components c.components_to_push-left.result.now)
+    (record { rooted = c.in_ok-push_root.ensures.stands.at; popped = c.pop_surplus.ensures.at; left_is = c.components_to_push-left.ensures })
 
 -- ---- the root was refused
 
@@ -84,9 +84,9 @@ returns-clause-keeps g c =
 
 pub returns-clause-arrives : goal.returns-clause-arrives
 returns-clause-arrives g c =
-    let staying : IsStaying c.args.self.now.at c.push_root.new.self.at c.pop_surplus.new.self.at (components c.args.relative.now) (components c.rest-left.result.now) =
-    record { rooted = c.in_ok-push_root.ensures.stands.at; popped = c.pop_surplus.ensures.at; left_is = c.rest-left.ensures } in
-    arrives-whole c.args.self.now.at c.push_root.new.self.at c.pop_surplus.new.self.at (components c.args.relative.now) (components c.rest-left.result.now) staying c.push_rest.new.self c.push_rest.result refl c.push_rest.ensures.arrives
+    let staying : IsStaying c.args.self.now.at c.push_root.new.self.at c.pop_surplus.new.self.at (components c.args.relative.now) (components c.components_to_push-left.result.now) =
+    record { rooted = c.in_ok-push_root.ensures.stands.at; popped = c.pop_surplus.ensures.at; left_is = c.components_to_push-left.ensures } in
+    arrives-whole c.args.self.now.at c.push_root.new.self.at c.pop_surplus.new.self.at (components c.args.relative.now) (components c.components_to_push-left.result.now) staying c.push_rest.new.self c.push_rest.result refl c.push_rest.ensures.arrives
 
 pub returns-clause-moves : goal.returns-clause-moves
 returns-clause-moves g c =
@@ -96,11 +96,11 @@ returns-clause-moves g c =
     let rooted = moment c.push_root.new.worktree c.push_root.new.objects c.push_root.new.self in
     let popped = moment c.push_root.new.worktree c.push_root.new.objects c.pop_surplus.new.self in
     let now = moment c.push_rest.new.worktree c.push_rest.new.objects c.push_rest.new.self in
-    let below : List Call = calls_below (deepest_names c.pop_surplus.new.self.at) (components c.rest-left.result.now) in
+    let below : List Call = calls_below (deepest_names c.pop_surplus.new.self.at) (components c.components_to_push-left.result.now) in
     let pops : List Call = replicate (surplus c.push_root.new.self.at (components c.args.relative.now)) pop_directory in
     let first : List Call = root_calls c.args.self.now.at ++ pops in
-    let calls = calls_are c.args.self.now.at c.push_root.new.self.at c.pop_surplus.new.self.at (components c.args.relative.now) (components c.rest-left.result.now)
-    (record { rooted = c.in_ok-push_root.ensures.stands.at; popped = c.pop_surplus.ensures.at; left_is = c.rest-left.ensures }) in
+    let calls = calls_are c.args.self.now.at c.push_root.new.self.at c.pop_surplus.new.self.at (components c.args.relative.now) (components c.components_to_push-left.result.now)
+    (record { rooted = c.in_ok-push_root.ensures.stands.at; popped = c.pop_surplus.ensures.at; left_is = c.components_to_push-left.ensures }) in
     let keeps : StepKeeps {T = Unit {0}} W F before popped (Ok tt) = keeps-popped W F before rooted c.pop_surplus.new.self c.in_ok-push_root.ensures.keeps c.pop_surplus.ensures.pops in
     let moves : StepMoves {T = Unit {0}} W F before popped first (Ok tt) = moves-popped W F before rooted c.pop_surplus.new.self (root_calls c.args.self.now.at) pops c.in_ok-push_root.ensures.moves c.pop_surplus.ensures.pops in
     record {
@@ -134,10 +134,10 @@ returns-clause-sees g c =
     let now = moment c.push_rest.new.worktree c.push_rest.new.objects c.push_rest.new.self in
     let n = surplus c.push_root.new.self.at (components c.args.relative.now) in
     let first : List Call = root_calls c.args.self.now.at ++ replicate n pop_directory in
-    let below : List Call = calls_below (deepest_names c.pop_surplus.new.self.at) (components c.rest-left.result.now) in
+    let below : List Call = calls_below (deepest_names c.pop_surplus.new.self.at) (components c.components_to_push-left.result.now) in
     sees-behind W F before popped now first below (lookup_calls c.args.self.now.at (components c.args.relative.now)) c.push_rest.result
-    (calls_are c.args.self.now.at c.push_root.new.self.at c.pop_surplus.new.self.at (components c.args.relative.now) (components c.rest-left.result.now)
-    (record { rooted = c.in_ok-push_root.ensures.stands.at; popped = c.pop_surplus.ensures.at; left_is = c.rest-left.ensures }))
+    (calls_are c.args.self.now.at c.push_root.new.self.at c.pop_surplus.new.self.at (components c.args.relative.now) (components c.components_to_push-left.result.now)
+    (record { rooted = c.in_ok-push_root.ensures.stands.at; popped = c.pop_surplus.ensures.at; left_is = c.components_to_push-left.ensures }))
     (keeps-popped W F before rooted c.pop_surplus.new.self c.in_ok-push_root.ensures.keeps c.pop_surplus.ensures.pops)
     (sees-popped-on W F before rooted c.pop_surplus.new.self (root_calls c.args.self.now.at) n c.in_ok-push_root.ensures.keeps c.in_ok-push_root.ensures.sees c.pop_surplus.ensures.pops) c.push_rest.ensures.sees
 
@@ -149,12 +149,12 @@ returns-clause-asks g c =
     let rooted = moment c.push_root.new.worktree c.push_root.new.objects c.push_root.new.self in
     let popped = moment c.push_root.new.worktree c.push_root.new.objects c.pop_surplus.new.self in
     let now = moment c.push_rest.new.worktree c.push_rest.new.objects c.push_rest.new.self in
-    let is : IsStaying c.args.self.now.at c.push_root.new.self.at c.pop_surplus.new.self.at (components c.args.relative.now) (components c.rest-left.result.now) =
-    record { rooted = c.in_ok-push_root.ensures.stands.at; popped = c.pop_surplus.ensures.at; left_is = c.rest-left.ensures } in
-    let below : List Call = calls_below (deepest_names c.pop_surplus.new.self.at) (components c.rest-left.result.now) in
+    let is : IsStaying c.args.self.now.at c.push_root.new.self.at c.pop_surplus.new.self.at (components c.args.relative.now) (components c.components_to_push-left.result.now) =
+    record { rooted = c.in_ok-push_root.ensures.stands.at; popped = c.pop_surplus.ensures.at; left_is = c.components_to_push-left.ensures } in
+    let below : List Call = calls_below (deepest_names c.pop_surplus.new.self.at) (components c.components_to_push-left.result.now) in
     let parts : List (List ℕ) = components c.args.relative.now in
     asks-whole W F before rooted popped now (root_calls c.args.self.now.at) (surplus c.push_root.new.self.at parts) below (lookup_calls c.args.self.now.at parts)
-    (calls_are c.args.self.now.at c.push_root.new.self.at c.pop_surplus.new.self.at (components c.args.relative.now) (components c.rest-left.result.now) is)
+    (calls_are c.args.self.now.at c.push_root.new.self.at c.pop_surplus.new.self.at (components c.args.relative.now) (components c.components_to_push-left.result.now) is)
     refl (keeps-popped W F before rooted c.pop_surplus.new.self c.in_ok-push_root.ensures.keeps c.pop_surplus.ensures.pops)
     (length (root_calls c.args.self.now.at)) (length (deepest_names c.pop_surplus.new.self.at)) (length (deepest_names c.push_rest.new.self.at) + refused_one c.push_rest.result)
     (length (pushed (staying c.args.self.now.at parts))) (length (pushed c.push_rest.new.self.at) + refused_one c.push_rest.result)
@@ -162,5 +162,5 @@ returns-clause-asks g c =
       arith,
       root-length c.args.self.now.at parts,
       length-pushed c.push_rest.new.self.at c.push_rest.ensures.arrives.some,
-      ap length (stay_names c.args.self.now.at c.push_root.new.self.at c.pop_surplus.new.self.at (components c.args.relative.now) (components c.rest-left.result.now) is),
+      ap length (stay_names c.args.self.now.at c.push_root.new.self.at c.pop_surplus.new.self.at (components c.args.relative.now) (components c.components_to_push-left.result.now) is),
     )) c.push_root.ensures.asks c.push_rest.ensures.asks

@@ -29,8 +29,8 @@ returns-clause-at c =
 
 pub returns-clause-pops : goal.returns-clause-pops
 returns-clause-pops c =
-    let all : surplus c.args.self.now.at (components c.args.relative.now) ≡ c.loop.counter = omega (arith, c.loop-test.false, c.loop.auto.counter-end, c.surplus-end.ensures) in
+    let all : surplus c.args.self.now.at (components c.args.relative.now) ≡ c.loop.counter = omega (arith, c.loop-test.false, c.loop.auto.counter-end, c.count_directories_to_pop-end.ensures) in
     pops-as (replicate c.loop.counter pop_directory) (replicate (surplus c.args.self.now.at (components c.args.relative.now)) pop_directory) c.args.self.now c.loop.self (ap (λ n. replicate n pop_directory) all) c.loop.invariant.pops
 
 pub returns-clause-undropped : goal.returns-clause-undropped
-returns-clause-undropped c none = c.loop.invariant.undropped (c.surplus-end.ensures ∙ none)
+returns-clause-undropped c none = c.loop.invariant.undropped (c.count_directories_to_pop-end.ensures ∙ none)

@@ -6,7 +6,7 @@ use Rattle.worktree_stack.specs.declared.error.AtPathError.TheVariants as errors
 use Rattle.worktree_stack.specs.declared.statistics.Statistics.{Statistics}
 use Rattle.worktree_stack.specs.Placed.{Reads}
 use Rattle.worktree_stack.specs.Reading.{ignore_readings}
-use Rattle.worktree_stack.specs.Setup.{Made}
+use Rattle.worktree_stack.specs.Setup.{StackSetup}
 use Rattle.worktree_stack.specs.Stacked.{made_of}
 use Rattle.worktree_stack.specs.Stacked.{ignore_of}
 use Rattle.worktree_stack.proofs.Lookup.InStep.{pushed_more}
@@ -17,7 +17,7 @@ use Rattle.worktree_stack.proofs.stack.Stack.push_ignore.Goals as goal
 
 pub returns-in_err-matched-clause-reads : goal.returns-in_err-matched-clause-reads
 returns-in_err-matched-clause-reads g c =
-    let made : Made = made_of c.args.self.now in
+    let made : StackSetup = made_of c.args.self.now in
     let d : List ℕ = spelled c.args.self.now.current in
     let the = the-ignore made d made.ignore refl (search rules) in
     let memory : IsErrAnd c.from_residual.result (λ x. x ≡ errors.OutOfMemory) = search rules in
@@ -27,7 +27,7 @@ pub returns-in_err-push_directory-clause-reads : goal.returns-in_err-push_direct
 returns-in_err-push_directory-clause-reads g c =
     let W = g.W.Worktree in
     let F = g.F.Find in
-    let made : Made = made_of c.args.self.now in
+    let made : StackSetup = made_of c.args.self.now in
     let d : List ℕ = spelled c.args.self.now.current in
     let the = the-ignore made d made.ignore refl (search rules) in
     let memory : IsErrAnd c.from_residual-in_err-push_directory.result (λ x. x ≡ errors.OutOfMemory) = search rules in

@@ -8,7 +8,7 @@ use Rattle.worktree_stack.specs.declared.statistics.Statistics.{Statistics}
 use Rattle.worktree_stack.specs.Placed.{Reads}
 use Rattle.worktree_stack.specs.Reading.{Text, attributes_from, OneReading, of_attributes, text_of, info_readings_if, info_places}
 use Rattle.worktree_stack.specs.SeenNames.{names_from}
-use Rattle.worktree_stack.specs.Setup.{AttributesSetup, HeldAttributes, Made, attributes_setup_of, lists_of, names_of, push_list}
+use Rattle.worktree_stack.specs.Setup.{AttributesSetup, HeldAttributes, StackSetup, attributes_setup_of, lists_of, names_of, push_list}
 use Rattle.worktree_stack.specs.Stacked.{made_of, attributes_of}
 use Rattle.glob_rules.specs.AttributeNames.{SeesPart}
 use Rattle.glob_rules.specs.Attributes.{AttributeList}
@@ -21,7 +21,7 @@ pub returns-in_err-source-clause-reads : goal.returns-in_err-source-clause-reads
 returns-in_err-source-clause-reads g c =
     let W = g.W.Worktree in
     let F = g.F.Find in
-    let made : Made = made_of c.args.self.now in
+    let made : StackSetup = made_of c.args.self.now in
     let setup : AttributesSetup = c.in-Some.attributes.now.setup in
     let held_is : c.args.self.now.attributes ≡ Some c.in-Some.attributes.now = search rules in
     let setup_is : made.attributes ≡ Some setup = ap attributes_setup_of held_is in
@@ -47,7 +47,7 @@ pub returns-in_err-push_attribute_list-clause-reads : goal.returns-in_err-push_a
 returns-in_err-push_attribute_list-clause-reads g c =
     let W = g.W.Worktree in
     let F = g.F.Find in
-    let made : Made = made_of c.args.self.now in
+    let made : StackSetup = made_of c.args.self.now in
     let setup : AttributesSetup = c.in-Some.attributes.now.setup in
     let held_is : c.args.self.now.attributes ≡ Some c.in-Some.attributes.now = search rules in
     let setup_is : made.attributes ≡ Some setup = ap attributes_setup_of held_is in
@@ -79,7 +79,7 @@ returns-in_err-source-clause-names g c =
 
 pub returns-in_err-push_attribute_list-clause-names : goal.returns-in_err-push_attribute_list-clause-names
 returns-in_err-push_attribute_list-clause-names g c =
-    let made : Made = made_of c.args.self.now in
+    let made : StackSetup = made_of c.args.self.now in
     let setup : AttributesSetup = c.in-Some.attributes.now.setup in
     let held_is : c.args.self.now.attributes ≡ Some c.in-Some.attributes.now = search rules in
     let setup_is : made.attributes ≡ Some setup = ap attributes_setup_of held_is in
@@ -97,7 +97,7 @@ returns-in_err-push_attribute_list-clause-names g c =
 
 pub returns-clause-names : goal.returns-clause-names
 returns-clause-names g c =
-    let made : Made = made_of c.args.self.now in
+    let made : StackSetup = made_of c.args.self.now in
     let setup : AttributesSetup = c.in-Some.attributes.now.setup in
     let held_is : c.args.self.now.attributes ≡ Some c.in-Some.attributes.now = search rules in
     let setup_is : made.attributes ≡ Some setup = ap attributes_setup_of held_is in

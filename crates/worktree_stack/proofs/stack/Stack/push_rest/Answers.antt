@@ -254,26 +254,26 @@ returns-clause-moves g c =
     let so_far = c.loop-next.invariant in
     record {
       carried =
-          carries-as told holds _ _ c.args.self.now c.leave.new.self (no-calls _ so_far.done (deepest_names c.loop-next.self.at) (components c.loop-next.rest.now) so_far.front (search rules))
-          (carries-left told holds _ c.args.self.now c.loop-next.self c.leave.new.self so_far.moves.carried c.leave.ensures);
+          carries-as told holds _ _ c.args.self.now c.make_deepest_current.new.self (no-calls _ so_far.done (deepest_names c.loop-next.self.at) (components c.loop-next.rest.now) so_far.front (search rules))
+          (carries-left told holds _ c.args.self.now c.loop-next.self c.make_deepest_current.new.self so_far.moves.carried c.make_deepest_current.ensures);
       stopped = tt;
     }
 
 pub returns-clause-holds : goal.returns-clause-holds
 returns-clause-holds g c =
-    holds-as g.W.Worktree g.F.Find (moment c.args.worktree.now c.args.objects.now c.args.self.now) (moment c.loop-next.worktree c.loop-next.objects c.loop-next.self) c.leave.new.self
-    (record c.loop-next.self { current = deepest_names c.loop-next.self.at }) c.leave.ensures (λ s held. held) (λ level. level) c.loop-next.invariant.holds
+    holds-as g.W.Worktree g.F.Find (moment c.args.worktree.now c.args.objects.now c.args.self.now) (moment c.loop-next.worktree c.loop-next.objects c.loop-next.self) c.make_deepest_current.new.self
+    (record c.loop-next.self { current = deepest_names c.loop-next.self.at }) c.make_deepest_current.ensures (λ s held. held) (λ level. level) c.loop-next.invariant.holds
 
 pub returns-clause-sees : goal.returns-clause-sees
 returns-clause-sees g c =
     let so_far = c.loop-next.invariant in
-    sees-left (g.W.Worktree.told c.args.worktree.now) (g.F.Find.holds c.args.objects.now) (made_of c.args.self.now) so_far.done _ c.args.self.now.attributes c.loop-next.self.attributes c.leave.new.self.attributes
-    (no-calls _ so_far.done (deepest_names c.loop-next.self.at) (components c.loop-next.rest.now) so_far.front (search rules)) (ap (λ (s : Stacked). s.attributes) c.leave.ensures) so_far.sees
+    sees-left (g.W.Worktree.told c.args.worktree.now) (g.F.Find.holds c.args.objects.now) (made_of c.args.self.now) so_far.done _ c.args.self.now.attributes c.loop-next.self.attributes c.make_deepest_current.new.self.attributes
+    (no-calls _ so_far.done (deepest_names c.loop-next.self.at) (components c.loop-next.rest.now) so_far.front (search rules)) (ap (λ (s : Stacked). s.attributes) c.make_deepest_current.ensures) so_far.sees
 
 pub returns-clause-asks : goal.returns-clause-asks
 returns-clause-asks g c =
     let so_far = c.loop-next.invariant in
-    let at : c.leave.new.self.at ≡ c.loop-next.self.at = ap (λ (s : Stacked). s.at) c.leave.ensures in
-    asks-front g.W.Worktree (moment c.args.worktree.now c.args.objects.now c.args.self.now) (moment c.loop-next.worktree c.loop-next.objects c.loop-next.self) (moment c.loop-next.worktree c.loop-next.objects c.leave.new.self)
-    so_far.done _ _ so_far.front refl (length (deepest_names c.args.self.now.at)) (length (deepest_names c.loop-next.self.at)) (length (deepest_names c.leave.new.self.at) + 0)
+    let at : c.make_deepest_current.new.self.at ≡ c.loop-next.self.at = ap (λ (s : Stacked). s.at) c.make_deepest_current.ensures in
+    asks-front g.W.Worktree (moment c.args.worktree.now c.args.objects.now c.args.self.now) (moment c.loop-next.worktree c.loop-next.objects c.loop-next.self) (moment c.loop-next.worktree c.loop-next.objects c.make_deepest_current.new.self)
+    so_far.done _ _ so_far.front refl (length (deepest_names c.args.self.now.at)) (length (deepest_names c.loop-next.self.at)) (length (deepest_names c.make_deepest_current.new.self.at) + 0)
     (omega (arith, ap (λ (d : Option (List (List ℕ))). length (deepest_names d)) at)) so_far.asks

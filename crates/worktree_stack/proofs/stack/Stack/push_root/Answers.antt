@@ -17,16 +17,16 @@ returns-then-is_root_pushed-clause-lists g c way s tells =
 
 pub returns-clause-asks : goal.returns-clause-asks
 returns-clause-asks g c =
-    root-asks g.W.Worktree (moment c.args.worktree.now c.args.objects.now c.args.self.now) (moment c.args.worktree.now c.args.objects.now c.leave.new.self) (moment c.push_directory.new.worktree c.push_directory.new.objects c.push_directory.new.self)
-    c.leave.ensures (sym c.is_root_pushed.ensures ∙ c.if-is_root_pushed.false) refl c.push_directory.ensures.asks
+    root-asks g.W.Worktree (moment c.args.worktree.now c.args.objects.now c.args.self.now) (moment c.args.worktree.now c.args.objects.now c.make_deepest_current.new.self) (moment c.push_directory.new.worktree c.push_directory.new.objects c.push_directory.new.self)
+    c.make_deepest_current.ensures (sym c.is_root_pushed.ensures ∙ c.if-is_root_pushed.false) refl c.push_directory.ensures.asks
 
 pub returns-clause-sees : goal.returns-clause-sees
 returns-clause-sees g c =
-    sees-root (g.W.Worktree.told c.args.worktree.now) (g.F.Find.holds c.args.objects.now) c.args.self.now c.leave.new.self c.push_directory.new.self.attributes c.push_directory.result
-    (sym c.is_root_pushed.ensures ∙ c.if-is_root_pushed.false) c.leave.ensures c.push_directory.ensures.pushes.sees
+    sees-root (g.W.Worktree.told c.args.worktree.now) (g.F.Find.holds c.args.objects.now) c.args.self.now c.make_deepest_current.new.self c.push_directory.new.self.attributes c.push_directory.result
+    (sym c.is_root_pushed.ensures ∙ c.if-is_root_pushed.false) c.make_deepest_current.ensures c.push_directory.ensures.pushes.sees
 
 pub returns-clause-lists : goal.returns-clause-lists
 returns-clause-lists g c way s tells =
     on_ok c.push_directory.result
-    (λ pushed. adds-root way s c.args.self.now c.leave.new.self c.push_directory.new.self.attributes (sym c.is_root_pushed.ensures ∙ c.if-is_root_pushed.false) c.leave.ensures pushed)
+    (λ pushed. adds-root way s c.args.self.now c.make_deepest_current.new.self c.push_directory.new.self.attributes (sym c.is_root_pushed.ensures ∙ c.if-is_root_pushed.false) c.make_deepest_current.ensures pushed)
     (c.push_directory.ensures.pushes.lists s tells)

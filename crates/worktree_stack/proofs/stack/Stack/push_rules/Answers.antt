@@ -6,7 +6,7 @@ use Rattle.worktree_stack.specs.declared.error.AtPathError.{AtPathError}
 use Rattle.worktree_stack.specs.declared.statistics.Statistics.{Statistics}
 use Rattle.worktree_stack.specs.Placed.{Reads}
 use Rattle.worktree_stack.specs.Reading.{is_read, texts_of, reading, Sources, attribute_readings, readings_of, lists_at}
-use Rattle.worktree_stack.specs.Setup.{AttributesSetup, HeldAttributes, lists_of, names_of, IsLonger, pop_lists, Made, attributes_setup_of}
+use Rattle.worktree_stack.specs.Setup.{AttributesSetup, HeldAttributes, lists_of, names_of, IsLonger, pop_lists, StackSetup, attributes_setup_of}
 use Rattle.worktree_stack.specs.Stacked.{Stacked, made_of, attributes_of, count_at}
 use Rattle.worktree_stack.proofs.Refusals.{is_err}
 use Rattle.worktree_stack.proofs.Rules.Readings.{later}
@@ -14,7 +14,7 @@ use Rattle.worktree_stack.proofs.Rules.RulesRead.{attributes-read, rules-read, r
 use Rattle.worktree_stack.proofs.Lookup.InStep.{pushed_all}
 use Rattle.worktree_stack.proofs.Lookup.Levels.{lists-level}
 use Rattle.worktree_stack.proofs.Rules.Pushing.{all-dropped, rules-bridge, level-bridge}
-use Rattle.worktree_stack.specs.SeenNames.{Sees, names_at}
+use Rattle.worktree_stack.specs.SeenNames.{AddsSeenNames, names_at}
 use Rattle.worktree_stack.proofs.Lookup.Seeing.{names-popped, sees-before, sees-undone}
 use Rattle.worktree_stack.proofs.Lookup.StackSteps.{no-answer}
 use Rattle.worktree_stack.proofs.stack.Stack.push_rules.Goals as goal
@@ -54,7 +54,7 @@ returns-clause-in_step g c s tells holds =
     let W = g.W.Worktree in
     let F = g.F.Find in
     let old : Stacked = c.args.self.now in
-    let made : Made = made_of old in
+    let made : StackSetup = made_of old in
     let after : Stacked = c.push_attributes.new.self in
     let made_is : made_of after ≡ made = search rules in
     let current_is : after.current ≡ old.current = search rules in
@@ -70,7 +70,7 @@ returns-clause-in_step g c s tells holds =
     (c.in_default.ensures.rules s (later W F c.args.worktree.now c.push_attributes.new.worktree c.args.objects.now c.push_attributes.new.objects s first.leaves first.leaves_store tells)) holds.rules)
 
 -- the readings of a directory are its reading
-read-as : (made : Made) (s : Sources) (d : List ℕ) → is_read (texts_of s (readings_of made d)) ≡ true → is_read (reading made s d) ≡ true
+read-as : (made : StackSetup) (s : Sources) (d : List ℕ) → is_read (texts_of s (readings_of made d)) ≡ true → is_read (reading made s d) ≡ true
 unfolding reading
 read-as made s d read = read
 
@@ -105,8 +105,8 @@ returns-in_err-push_attributes-clause-pushes g c =
       held = search rules;
       held_lists = search rules;
       sees =
-          subst (λ (r : Result (Unit {0}) AtPathError). Sees told holds (λ s. names_at (made_of old) s old.current) old.attributes new r) (sym (is_err c.from_residual.result e said))
-          (subst (λ (m : Stacked). Sees {T = Unit {0}} told holds (λ s. names_at (made_of m) s m.current) m.attributes new (Err e)) c.count_push.ensures c.in_err-push_attributes.ensures.names);
+          subst (λ (r : Result (Unit {0}) AtPathError). AddsSeenNames told holds (λ s. names_at (made_of old) s old.current) old.attributes new r) (sym (is_err c.from_residual.result e said))
+          (subst (λ (m : Stacked). AddsSeenNames {T = Unit {0}} told holds (λ s. names_at (made_of m) s m.current) m.attributes new (Err e)) c.count_push.ensures c.in_err-push_attributes.ensures.names);
     }
 
 pub returns-in-Err-clause-pushes : goal.returns-in-Err-clause-pushes
@@ -132,7 +132,7 @@ returns-in-Err-clause-pushes g c =
       sees =
           sees-undone told holds _ old.attributes after.attributes (attributes_of c.pop_attributes.new.self) c.in-Err.refused
           (sees-before told holds _ old.attributes after.attributes c.in-Err.refused
-          (subst (λ (m : Stacked). Sees {T = Unit {0}} told holds (λ s. names_at (made_of m) s m.current) m.attributes after.attributes (Ok tt)) c.count_push.ensures c.in_ok-push_attributes.ensures.names))
+          (subst (λ (m : Stacked). AddsSeenNames {T = Unit {0}} told holds (λ s. names_at (made_of m) s m.current) m.attributes after.attributes (Ok tt)) c.count_push.ensures c.in_ok-push_attributes.ensures.names))
           (ap names_of popped ∙ names-popped d after.attributes) lists;
     }
 
@@ -152,6 +152,6 @@ returns-clause-pushes g c =
       held = tt;
       held_lists = tt;
       sees =
-          subst (λ (h : Option HeldAttributes). Sees {T = Unit {0}} told holds (λ s. names_at (made_of old) s old.current) old.attributes h (Ok tt)) (sym held)
-          (subst (λ (m : Stacked). Sees {T = Unit {0}} told holds (λ s. names_at (made_of m) s m.current) m.attributes after.attributes (Ok tt)) c.count_push.ensures c.in_ok-push_attributes.ensures.names);
+          subst (λ (h : Option HeldAttributes). AddsSeenNames {T = Unit {0}} told holds (λ s. names_at (made_of old) s old.current) old.attributes h (Ok tt)) (sym held)
+          (subst (λ (m : Stacked). AddsSeenNames {T = Unit {0}} told holds (λ s. names_at (made_of m) s m.current) m.attributes after.attributes (Ok tt)) c.count_push.ensures c.in_ok-push_attributes.ensures.names);
     }

@@ -7,7 +7,7 @@ use Rattle.worktree_stack.specs.declared.error.AtPathError.TheVariants as errors
 use Rattle.worktree_stack.specs.declared.statistics.Statistics.{Statistics}
 use Rattle.worktree_stack.specs.Placed.{Reads}
 use Rattle.worktree_stack.specs.Reading.{OneReading, of_ignore, text_of, places_by, ignore_readings, ignore_places_of}
-use Rattle.worktree_stack.specs.Setup.{Setup, Made, setup_of, mapped_to}
+use Rattle.worktree_stack.specs.Setup.{Setup, StackSetup, setup_of, mapped_to}
 use Rattle.worktree_stack.specs.Stacked.{made_of}
 use Rattle.gitbase_core.specs.Path.{joined}
 use Rattle.worktree_fs.specs.Paths.{full_path}
@@ -19,7 +19,7 @@ pub returns-in_err-set_paths-clause-reads : goal.returns-in_err-set_paths-clause
 returns-in_err-set_paths-clause-reads g c =
     let W = g.W.Worktree in
     let F = g.F.Find in
-    let made : Made = made_of c.args.self.now in
+    let made : StackSetup = made_of c.args.self.now in
     let setup : Setup = c.in-Some.ignore.now.setup in
     let held_is : c.args.self.now.ignore ≡ Some c.in-Some.ignore.now = search rules in
     let setup_is : made.ignore ≡ Some setup = ap setup_of held_is in
@@ -36,7 +36,7 @@ pub returns-in_err-source-clause-reads : goal.returns-in_err-source-clause-reads
 returns-in_err-source-clause-reads g c =
     let W = g.W.Worktree in
     let F = g.F.Find in
-    let made : Made = made_of c.args.self.now in
+    let made : StackSetup = made_of c.args.self.now in
     let setup : Setup = c.in-Some.ignore.now.setup in
     let held_is : c.args.self.now.ignore ≡ Some c.in-Some.ignore.now = search rules in
     let setup_is : made.ignore ≡ Some setup = ap setup_of held_is in
@@ -52,10 +52,10 @@ returns-in_err-source-clause-reads g c =
     let whole_is : whole ≡ full_path made.root (joined d setup.file_name) = search rules in
     let path_is : path ≡ joined d setup.file_name = search rules in
     let mapped_is : c.id_of.result ≡ mapped_to made.mappings path = search rules in
-    let places_are : places_by c.of_ignore-order.result whole path ≡ ignore_places_of made setup d =
-    c.of_ignore-order.ensures whole path ∙ ignore-placed made d whole path c.id_of.result setup c.source.result c.source.ensures whole_is path_is mapped_is in
+    let places_are : places_by c.ignore_read_order-order.result whole path ≡ ignore_places_of made setup d =
+    c.ignore_read_order-order.ensures whole path ∙ ignore-placed made d whole path c.id_of.result setup c.source.result c.source.ensures whole_is path_is mapped_is in
     let all : Reads W F c.args.worktree.now c.read_text.new.worktree c.args.objects.now c.read_text.new.objects readings s0 s1 c.read_text.result =
-    reads-placed W F c.args.worktree.now c.read_text.new.worktree c.args.objects.now c.read_text.new.objects of_ignore (places_by c.of_ignore-order.result whole path) (ignore_places_of made setup d) readings s0 s s1
+    reads-placed W F c.args.worktree.now c.read_text.new.worktree c.args.objects.now c.read_text.new.objects of_ignore (places_by c.ignore_read_order-order.result whole path) (ignore_places_of made setup d) readings s0 s s1
     (λ source. text_of source c.read_text.new.buffer) c.read_text.result (only-ignore s s1 refl) same places_are readings_are
     c.read_text.ensures.text c.read_text.ensures.refused c.read_text.ensures.counted c.read_text.ensures.tried c.read_text.ensures.untouched c.read_text.ensures.store_untouched c.read_text.ensures.leaves c.read_text.ensures.leaves_store c.read_text.ensures.reads in
     let e : AtPathError = c.in_err-source.field-0.0 in
@@ -66,7 +66,7 @@ pub returns-in_err-list_of-clause-reads : goal.returns-in_err-list_of-clause-rea
 returns-in_err-list_of-clause-reads g c =
     let W = g.W.Worktree in
     let F = g.F.Find in
-    let made : Made = made_of c.args.self.now in
+    let made : StackSetup = made_of c.args.self.now in
     let setup : Setup = c.in-Some.ignore.now.setup in
     let held_is : c.args.self.now.ignore ≡ Some c.in-Some.ignore.now = search rules in
     let setup_is : made.ignore ≡ Some setup = ap setup_of held_is in
@@ -82,10 +82,10 @@ returns-in_err-list_of-clause-reads g c =
     let whole_is : whole ≡ full_path made.root (joined d setup.file_name) = search rules in
     let path_is : path ≡ joined d setup.file_name = search rules in
     let mapped_is : c.id_of.result ≡ mapped_to made.mappings path = search rules in
-    let places_are : places_by c.of_ignore-order.result whole path ≡ ignore_places_of made setup d =
-    c.of_ignore-order.ensures whole path ∙ ignore-placed made d whole path c.id_of.result setup c.source.result c.source.ensures whole_is path_is mapped_is in
+    let places_are : places_by c.ignore_read_order-order.result whole path ≡ ignore_places_of made setup d =
+    c.ignore_read_order-order.ensures whole path ∙ ignore-placed made d whole path c.id_of.result setup c.source.result c.source.ensures whole_is path_is mapped_is in
     let all : Reads W F c.args.worktree.now c.read_text.new.worktree c.args.objects.now c.read_text.new.objects readings s0 s1 c.read_text.result =
-    reads-placed W F c.args.worktree.now c.read_text.new.worktree c.args.objects.now c.read_text.new.objects of_ignore (places_by c.of_ignore-order.result whole path) (ignore_places_of made setup d) readings s0 s s1
+    reads-placed W F c.args.worktree.now c.read_text.new.worktree c.args.objects.now c.read_text.new.objects of_ignore (places_by c.ignore_read_order-order.result whole path) (ignore_places_of made setup d) readings s0 s s1
     (λ source. text_of source c.read_text.new.buffer) c.read_text.result (only-ignore s s1 refl) same places_are readings_are
     c.read_text.ensures.text c.read_text.ensures.refused c.read_text.ensures.counted c.read_text.ensures.tried c.read_text.ensures.untouched c.read_text.ensures.store_untouched c.read_text.ensures.leaves c.read_text.ensures.leaves_store c.read_text.ensures.reads in
     let memory : IsErrAnd c.from_residual-in_err-list_of.result (λ x. x ≡ errors.OutOfMemory) = search rules in

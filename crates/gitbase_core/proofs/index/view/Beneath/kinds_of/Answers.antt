@@ -55,7 +55,7 @@ returns-then-is_top c =
     (other (path_after skip) name entries c.self.invariant.0 e first (λ same. cc ((bytes_eq-Decides _ _).1 (c.path_after-path.ensures ∙ same), c.eq.ensures, c.if-eq.false))))
 
 pub directory_kinds-requires : goal.directory_kinds-requires
-directory_kinds-requires c = λ unseen. none-within _ _ _ _ c.run-start.ensures.order (sym c.self.invariant.1 ∙ unseen)
+directory_kinds-requires c = λ unseen. none-within _ _ _ _ c.find_prefix_range-start.ensures.order (sym c.self.invariant.1 ∙ unseen)
 
 pub returns : goal.returns
 returns c =
@@ -65,6 +65,6 @@ returns c =
     let e = c.in-Some.first.now in
     let first : IsLowerBound (path_after skip) name entries (Some e) = rw c.in-Some.is at c.lower_bound.ensures in
     rw (← c.self.view_is)
-    (c.directory_kinds.ensures ∙ ap directory_kinds (sym (filter-run _ entries _ _ c.run-start.ensures))
+    (c.directory_kinds.ensures ∙ ap directory_kinds (sym (filter-run _ entries _ _ c.find_prefix_range-start.ensures))
     ∙ under-beneath entries skip name (sym c.is_top.ensures ∙ c.if-is_top.false)
     (other (path_after skip) name entries c.self.invariant.0 e first (λ same. cc ((bytes_eq-Decides _ _).1 (c.path_after-path.ensures ∙ same), c.eq.ensures, c.if-eq.false))))

@@ -5,32 +5,32 @@ use Rattle.gitbase_core.proofs.PathSearch.{got}
 use Rattle.glob_rules.proofs.Tabled.{are_found, others-rise, last_of_both, last_is_none, last_is}
 use Rattle.glob_rules.proofs.ignore.table.Table.last_match.Goals as goal
 
-pub up_to_sorted-found-requires-clause-cores : goal.up_to_sorted-found-requires-clause-cores
-up_to_sorted-found-requires-clause-cores c = λ k there.
+pub last_match_in_sorted-found-requires-clause-cores : goal.last_match_in_sorted-found-requires-clause-cores
+last_match_in_sorted-found-requires-clause-cores c = λ k there.
     are_found c.args.entries.now c.args.self.now.sorted.items c.args.self.now.rest.items c.requires k (subst (λ (l : List ℕ). Contains l k) c.deref.ensures.value there)
 
-pub up_to_rest-found-requires-clause-rises : goal.up_to_rest-found-requires-clause-rises
-up_to_rest-found-requires-clause-rises c =
+pub last_match_in_rest-found-requires-clause-rises : goal.last_match_in_rest-found-requires-clause-rises
+last_match_in_rest-found-requires-clause-rises c =
     subst (λ (l : List ℕ). IsStrictlyIncreasing l) (sym c.deref-2.ensures.value)
     (others-rise c.args.entries.now c.args.self.now.sorted.items c.args.self.now.rest.items c.requires)
 
 pub returns-then-found-eq0 : goal.returns-then-found-eq0
 returns-then-found-eq0 c =
-    let more = c.up_to_rest-found.ensures.more in
-    last_is_none c.args.name.now (option_copied c.args.relative) c.args.is_dir c.args.entries.now c.up_to_rest-found.result
+    let more = c.last_match_in_rest-found.ensures.more in
+    last_is_none c.args.name.now (option_copied c.args.relative) c.args.is_dir c.args.entries.now c.last_match_in_rest-found.result
     (last_of_both c.args.name.now (option_copied c.args.relative) c.args.is_dir c.args.entries.now c.args.self.now.sorted.items c.args.self.now.rest.items
-    c.up_to_rest-found.result c.requires
-    (λ k there pass. omega (arith, c.up_to_sorted-found.ensures.all k (subst (λ (l : List ℕ). Contains l k) (sym c.deref.ensures.value) there) pass, more))
-    (λ k there pass. c.up_to_rest-found.ensures.all k (subst (λ (l : List ℕ). Contains l k) (sym c.deref-2.ensures.value) there) pass))
+    c.last_match_in_rest-found.result c.requires
+    (λ k there pass. omega (arith, c.last_match_in_sorted-found.ensures.all k (subst (λ (l : List ℕ). Contains l k) (sym c.deref.ensures.value) there) pass, more))
+    (λ k there pass. c.last_match_in_rest-found.ensures.all k (subst (λ (l : List ℕ). Contains l k) (sym c.deref-2.ensures.value) there) pass))
     (omega (arith, c.if-found-eq0.true))
 
 pub returns : goal.returns
 returns c =
-    let more = c.up_to_rest-found.ensures.more in
-    sym (got c.args.entries.now (c.up_to_rest-found.result - 1) c.get.result c.get.ensures.lookup.3)
-    ∙ last_is c.args.name.now (option_copied c.args.relative) c.args.is_dir c.args.entries.now c.up_to_rest-found.result
+    let more = c.last_match_in_rest-found.ensures.more in
+    sym (got c.args.entries.now (c.last_match_in_rest-found.result - 1) c.get.result c.get.ensures.lookup.3)
+    ∙ last_is c.args.name.now (option_copied c.args.relative) c.args.is_dir c.args.entries.now c.last_match_in_rest-found.result
     (last_of_both c.args.name.now (option_copied c.args.relative) c.args.is_dir c.args.entries.now c.args.self.now.sorted.items c.args.self.now.rest.items
-    c.up_to_rest-found.result c.requires
-    (λ k there pass. omega (arith, c.up_to_sorted-found.ensures.all k (subst (λ (l : List ℕ). Contains l k) (sym c.deref.ensures.value) there) pass, more))
-    (λ k there pass. c.up_to_rest-found.ensures.all k (subst (λ (l : List ℕ). Contains l k) (sym c.deref-2.ensures.value) there) pass))
-    c.up_to_rest-found.ensures.ends (λ is. omega (arith, is, c.if-found-eq0.false))
+    c.last_match_in_rest-found.result c.requires
+    (λ k there pass. omega (arith, c.last_match_in_sorted-found.ensures.all k (subst (λ (l : List ℕ). Contains l k) (sym c.deref.ensures.value) there) pass, more))
+    (λ k there pass. c.last_match_in_rest-found.ensures.all k (subst (λ (l : List ℕ). Contains l k) (sym c.deref-2.ensures.value) there) pass))
+    c.last_match_in_rest-found.ensures.ends (λ is. omega (arith, is, c.if-found-eq0.false))

@@ -1,6 +1,0 @@
-use Rattle.std.proofs.Common.{◌∙◌}
-use Rattle.dir_classify.proofs.WorktreeSet.{found-by}
-use Rattle.dir_classify.proofs.options.holds.Goals as goal
-
-pub returns : goal.returns
-returns c = c.contains.ensures ∙ found-by c.args.path.now c.args.dirs.now.keys
