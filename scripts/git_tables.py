@@ -118,7 +118,10 @@ def table(words, path, heading, make):
         return
     with open(path) as file:
         old = file.read()
-    if git_version() not in old.split("\n", 1)[0]:
+    first = old.split("\n", 1)[0]
+    if "git version " not in first:
+        sys.exit("%s: its first line tells no version of git, so nothing would be compared" % name)
+    if git_version() not in first:
         print("%s: not compared, since it was made by another version than %s" % (name, git_version()))
         return
     if made(heading, make) != old:
