@@ -4,9 +4,9 @@ use Rattle.std.specs.List.{before_first, slice_split}
 use Rattle.gitbase_core.specs.Steps.{and_then}
 use Rattle.gitbase_core.specs.declared.entry.IndexEntry.{IndexEntry}
 use Rattle.worktree_fs.specs.Tree.{Names}
-use Rattle.check_ignore.specs.Checked.{checked, nothing, with_answer}
-use Rattle.check_ignore.specs.Lines.{or_nul}
-use Rattle.check_ignore.specs.Unquoted.{unquoted}
+use Rattle.check_ignore.specs.Checked.{check_ignore_answer, empty_answer, answer_with_other_appended}
+use Rattle.check_ignore.specs.Lines.{byte_or_nul_if_z}
+use Rattle.check_ignore.specs.Unquoted.{unquote_c_style}
 use Rattle.check_ignore.specs.declared.answer.Answered.{Answered}
 use Rattle.check_ignore.specs.declared.options.Checking.{Checking}
 use Rattle.check_ignore.specs.declared.options.OuterRules.{OuterRules}
@@ -16,62 +16,62 @@ use Rattle.check_ignore.specs.declared.stop.Stop.TheVariants as stops
 -- ---- its lines
 
 -- a line ends in a line feed; with `-z` in a NUL
-abbrev pub line_end : Checking → ℕ
-line_end c = or_nul c 10
+abbrev pub line_feed_or_nul_if_z : Checking → ℕ
+line_feed_or_nul_if_z c = byte_or_nul_if_z c 10
 
 -- an input without the byte that ends its last line, if it is there
-abbrev pub without_end : ℕ → List ℕ → List ℕ
-without_end end bytes = if slice_index bytes (length bytes - 1) == end then take (length bytes - 1) bytes else bytes
+abbrev pub without_last_terminator : ℕ → List ℕ → List ℕ
+without_last_terminator end bytes = if slice_index bytes (length bytes - 1) == end then take (length bytes - 1) bytes else bytes
 
-abbrev pub split_at_end : ℕ → List ℕ → List (List ℕ)
-split_at_end end bytes = slice_split (λ b. b == end) bytes
+abbrev pub split_at_byte : ℕ → List ℕ → List (List ℕ)
+split_at_byte end bytes = slice_split (λ b. b == end) bytes
 
 -- the lines of an input; none where it is empty
-abbrev pub lines_of : ℕ → List ℕ → List (List ℕ)
-lines_of end [] = []
-lines_of end (b ∷ bytes) = split_at_end end (without_end end (b ∷ bytes))
+abbrev pub input_lines : ℕ → List ℕ → List (List ℕ)
+input_lines end [] = []
+input_lines end (b ∷ bytes) = split_at_byte end (without_last_terminator end (b ∷ bytes))
 
 -- ---- their paths
 
-abbrev pub ends_path : ℕ → Bool
-ends_path b = b == 0
+abbrev pub is_nul_byte : ℕ → Bool
+is_nul_byte b = b == 0
 
 -- a NUL ends a path
-abbrev pub until_nul : List ℕ → List ℕ
-until_nul bytes = before_first ends_path bytes
+abbrev pub bytes_before_nul : List ℕ → List ℕ
+bytes_before_nul bytes = before_first is_nul_byte bytes
 
-abbrev pub as_path : Option (List ℕ) → Result (List ℕ) Stop
-as_path None = Err stops.BadQuotes
-as_path (Some path) = Ok (until_nul path)
+abbrev pub path_or_bad_quotes_error : Option (List ℕ) → Result (List ℕ) Stop
+path_or_bad_quotes_error None = Err stops.BadQuotes
+path_or_bad_quotes_error (Some path) = Ok (bytes_before_nul path)
 
 -- a path that begins with a double quote stands in quotes
-abbrev pub path_in : List ℕ → Result (List ℕ) Stop
-path_in [] = Ok []
-path_in (b ∷ bytes) = if b == 34 then as_path (unquoted 0 bytes) else Ok (b ∷ bytes)
+abbrev pub parse_maybe_quoted_path : List ℕ → Result (List ℕ) Stop
+parse_maybe_quoted_path [] = Ok []
+parse_maybe_quoted_path (b ∷ bytes) = if b == 34 then path_or_bad_quotes_error (unquote_c_style 0 bytes) else Ok (b ∷ bytes)
 
 -- with `-z` a line is its path, as it stands
-abbrev pub path_of : Checking → List ℕ → Result (List ℕ) Stop
-path_of c line = if c.ends_in_nul then Ok line else path_in (until_nul line)
+abbrev pub parse_path_of_input_line : Checking → List ℕ → Result (List ℕ) Stop
+parse_path_of_input_line c line = if c.ends_in_nul then Ok line else parse_maybe_quoted_path (bytes_before_nul line)
 
 -- ---- what is answered
 
 -- of a line: that of its path alone
-abbrev pub line_answer : Names → List ℕ → List ℕ → List IndexEntry → OuterRules → Checking → List ℕ → Result Answered Stop
-line_answer t root prefix index outer c line =
-    and_then (λ (path : List ℕ). checked t root prefix index outer c (path ∷ [])) (path_of c line)
+abbrev pub answer_of_input_line : Names → List ℕ → List ℕ → List IndexEntry → OuterRules → Checking → List ℕ → Result Answered Stop
+answer_of_input_line t root prefix index outer c line =
+    and_then (λ (path : List ℕ). check_ignore_answer t root prefix index outer c (path ∷ [])) (parse_path_of_input_line c line)
 
 -- of some lines behind others, or the first refusal
-abbrev pub lines_after : Names → List ℕ → List ℕ → List IndexEntry → OuterRules → Checking → Answered → List (List ℕ) → Result Answered Stop
-lines_after t root prefix index outer c done [] = Ok done
-lines_after t root prefix index outer c done (line ∷ lines) =
-    and_then (λ now. lines_after t root prefix index outer c (with_answer done now) lines) (line_answer t root prefix index outer c line)
+abbrev pub append_answers_of_lines : Names → List ℕ → List ℕ → List IndexEntry → OuterRules → Checking → Answered → List (List ℕ) → Result Answered Stop
+append_answers_of_lines t root prefix index outer c done [] = Ok done
+append_answers_of_lines t root prefix index outer c done (line ∷ lines) =
+    and_then (λ now. append_answers_of_lines t root prefix index outer c (answer_with_other_appended done now) lines) (answer_of_input_line t root prefix index outer c line)
 
 -- of an input
-abbrev pub of_input : Names → List ℕ → List ℕ → List IndexEntry → OuterRules → Checking → List ℕ → Result Answered Stop
-of_input t root prefix index outer c input = lines_after t root prefix index outer c nothing (lines_of (line_end c) input)
+abbrev pub answer_of_whole_input : Names → List ℕ → List ℕ → List IndexEntry → OuterRules → Checking → List ℕ → Result Answered Stop
+answer_of_whole_input t root prefix index outer c input = append_answers_of_lines t root prefix index outer c empty_answer (input_lines (line_feed_or_nul_if_z c) input)
 
 -- What is answered in the directory `prefix` of the work tree at `root`: of the paths of the words, or, with `--stdin`, of those of the
 -- input.
-abbrev pub asked_or_read : Names → List ℕ → List ℕ → List IndexEntry → OuterRules → Checking → List (List ℕ) → List ℕ → Result Answered Stop
-asked_or_read t root prefix index outer c texts input =
-    if c.stdin then of_input t root prefix index outer c input else checked t root prefix index outer c texts
+abbrev pub answer_of_paths_or_stdin : Names → List ℕ → List ℕ → List IndexEntry → OuterRules → Checking → List (List ℕ) → List ℕ → Result Answered Stop
+answer_of_paths_or_stdin t root prefix index outer c texts input =
+    if c.stdin then answer_of_whole_input t root prefix index outer c input else check_ignore_answer t root prefix index outer c texts

@@ -6,16 +6,16 @@ use Rattle.check_ignore.specs.declared.stop.Stop.TheVariants as stops
 abbrev pub outside : List ℕ → List ℕ → List ℕ
 outside root text = (text ++ codes ": '" ++ text) ++ codes "' is outside repository at '" ++ root ++ codes "'"
 
-abbrev pub inside : List ℕ → List ℕ → List ℕ
-inside text place = (codes "Pathspec '" ++ text ++ codes "' is in submodule '") ++ place ++ codes "'"
+abbrev pub inside_submodule_text : List ℕ → List ℕ → List ℕ
+inside_submodule_text text place = (codes "Pathspec '" ++ text ++ codes "' is in submodule '") ++ place ++ codes "'"
 
 -- a path that is not answered here, and why
-abbrev pub unsupported : List ℕ → List ℕ → List ℕ
-unsupported why text = (codes "check-ignore is not supported with " ++ why ++ codes ": '") ++ text ++ codes "'"
+abbrev pub unsupported_text : List ℕ → List ℕ → List ℕ
+unsupported_text why text = (codes "check-ignore is not supported with " ++ why ++ codes ": '") ++ text ++ codes "'"
 
 -- the rule in this line of a file outside the work tree excludes all
-abbrev pub excluder_text : List ℕ → ℕ → List ℕ
-excluder_text file line = (codes "a rule outside the work tree that excludes all, line " ++ decimal line ++ codes " of '") ++ file ++ codes "'"
+abbrev pub excluding_rule_text : List ℕ → ℕ → List ℕ
+excluding_rule_text file line = (codes "a rule outside the work tree that excludes all, line " ++ decimal line ++ codes " of '") ++ file ++ codes "'"
 
 -- what git refuses too in git's words
 abbrev pub told : List ℕ → Stop → List ℕ
@@ -23,13 +23,13 @@ told root stops.BadQuotes = codes "line is badly quoted"
 told root stops.Empty = codes "empty string is not a valid pathspec. please use . instead if you meant to match all paths"
 told root (stops.Outside text) = outside root text
 told root (stops.Beyond text) = codes "pathspec '" ++ text ++ codes "' is beyond a symbolic link"
-told root (stops.Inside text place) = inside text place
-told root (stops.Magic text) = unsupported (codes "path spec magic") text
-told root (stops.Elsewhere text) = unsupported (codes "a path elsewhere") text
-told root (stops.Prefix text) = unsupported (codes "wildcards here") text
-told root (stops.Slash text) = unsupported (codes "a directory that is neither tracked nor ignored") text
-told root (stops.Everything text file line) = unsupported (excluder_text file line) text
-told root (stops.Unread text) = unsupported (codes "a rules file that is not read") text
+told root (stops.Inside text place) = inside_submodule_text text place
+told root (stops.Magic text) = unsupported_text (codes "path spec magic") text
+told root (stops.Elsewhere text) = unsupported_text (codes "a path elsewhere") text
+told root (stops.Prefix text) = unsupported_text (codes "wildcards here") text
+told root (stops.Slash text) = unsupported_text (codes "a directory that is neither tracked nor ignored") text
+told root (stops.Everything text file line) = unsupported_text (excluding_rule_text file line) text
+told root (stops.Unread text) = unsupported_text (codes "a rules file that is not read") text
 told root stops.SparseIndex = codes "check-ignore is not supported with a sparse index"
 told root stops.Fault = codes "the work tree could not be read"
 told root stops.OutOfMemory = codes "out of memory"

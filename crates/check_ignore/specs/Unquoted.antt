@@ -19,45 +19,45 @@ unescape_letter c =
     else None
 
 -- an octal digit, and one below 4
-abbrev pub is_octal : ℕ → Bool
-is_octal c = not (nat_lt c 48) && nat_lt c 56
+abbrev pub is_octal_digit : ℕ → Bool
+is_octal_digit c = not (nat_lt c 48) && nat_lt c 56
 
-abbrev pub is_high : ℕ → Bool
-is_high c = not (nat_lt c 48) && nat_lt c 52
+abbrev pub is_octal_digit_below_four : ℕ → Bool
+is_octal_digit_below_four c = not (nat_lt c 48) && nat_lt c 52
 
 -- the byte that three octal digits mean; the first is below 4
-abbrev pub octal : ℕ → ℕ → ℕ → Option ℕ
-octal high middle low =
-    if is_high high && (is_octal middle && is_octal low) then Some ((high - 48) * 64 + (middle - 48) * 8 + (low - 48)) else None
+abbrev pub byte_of_three_octal_digits : ℕ → ℕ → ℕ → Option ℕ
+byte_of_three_octal_digits high middle low =
+    if is_octal_digit_below_four high && (is_octal_digit middle && is_octal_digit low) then Some ((high - 48) * 64 + (middle - 48) * 8 + (low - 48)) else None
 
 -- a byte that so many stand for
-abbrev pub meant_by : ℕ → Option ℕ → Option Meant
-meant_by length byte = option_map (λ b. record { byte = b; length = length }) byte
+abbrev pub decoded_byte_of_length_if_some : ℕ → Option ℕ → Option Meant
+decoded_byte_of_length_if_some length byte = option_map (λ b. record { byte = b; length = length }) byte
 
-abbrev pub digits_at : ℕ → List ℕ → Option Meant
-digits_at high [] = None
-digits_at high (middle ∷ []) = None
-digits_at high (middle ∷ low ∷ rest) = meant_by 4 (octal high middle low)
+abbrev pub decode_octal_escape : ℕ → List ℕ → Option Meant
+decode_octal_escape high [] = None
+decode_octal_escape high (middle ∷ []) = None
+decode_octal_escape high (middle ∷ low ∷ rest) = decoded_byte_of_length_if_some 4 (byte_of_three_octal_digits high middle low)
 
-abbrev pub by_letter : ℕ → List ℕ → Option ℕ → Option Meant
-by_letter first rest None = digits_at first rest
-by_letter first rest (Some byte) = meant_by 2 (Some byte)
+abbrev pub decoded_letter_or_octal_escape : ℕ → List ℕ → Option ℕ → Option Meant
+decoded_letter_or_octal_escape first rest None = decode_octal_escape first rest
+decoded_letter_or_octal_escape first rest (Some byte) = decoded_byte_of_length_if_some 2 (Some byte)
 
 -- behind a backslash a letter, or three octal digits
-abbrev pub escape_at : List ℕ → Option Meant
-escape_at [] = None
-escape_at (first ∷ rest) = by_letter first rest (unescape_letter first)
+abbrev pub decode_escape : List ℕ → Option Meant
+decode_escape [] = None
+decode_escape (first ∷ rest) = decoded_letter_or_octal_escape first rest (unescape_letter first)
 
 -- what is meant first between quotes: behind a backslash another byte, and else the byte that stands there
-abbrev pub meant_at : List ℕ → Option Meant
-meant_at [] = None
-meant_at (b ∷ bytes) = if b == 92 then escape_at bytes else meant_by 1 (Some b)
+abbrev pub decode_first_byte : List ℕ → Option Meant
+decode_first_byte [] = None
+decode_first_byte (b ∷ bytes) = if b == 92 then decode_escape bytes else decoded_byte_of_length_if_some 1 (Some b)
 
 -- What is meant up to the closing quote, behind the bytes that are skipped. There is nothing where no quote closes it, or a backslash
 -- stands before what is no letter and no digits.
-abbrev pub unquoted : ℕ → List ℕ → Option (List ℕ)
-unquoted skip [] = None
-unquoted (suc n) (b ∷ bytes) = unquoted n bytes
-unquoted zero (b ∷ bytes) =
+abbrev pub unquote_c_style : ℕ → List ℕ → Option (List ℕ)
+unquote_c_style skip [] = None
+unquote_c_style (suc n) (b ∷ bytes) = unquote_c_style n bytes
+unquote_c_style zero (b ∷ bytes) =
     if b == 34 then Some []
-    else option_and_then (λ (m : Meant). option_map (λ (text : List ℕ). m.byte ∷ text) (unquoted (m.length - 1) bytes)) (meant_at (b ∷ bytes))
+    else option_and_then (λ (m : Meant). option_map (λ (text : List ℕ). m.byte ∷ text) (unquote_c_style (m.length - 1) bytes)) (decode_first_byte (b ∷ bytes))

@@ -1,13 +1,13 @@
 //! What is answered of paths.
 ghost use Rattle.std.specs.Prelude.{◌≡◌, Ok, OnOk};
 ghost use Rattle.check_ignore.specs.Checked as words;
-ghost use Rattle.check_ignore.specs.Finds.{Finds};
+ghost use Rattle.check_ignore.specs.Finds.{FindsInTree};
 
 use crate::asked::AskedPath;
-use crate::decision::{drop_negative_unless_verbose, rule_of};
+use crate::decision::{deciding_rule_unless_tracked, drop_negative_unless_verbose};
 use crate::found_rule::FoundRule;
 use crate::line::line;
-use crate::links::all_asked;
+use crate::links::parse_nonempty_asked_paths;
 use crate::options::{CheckContext, Checking, OuterRules};
 use crate::stop::Stop;
 use crate::tracked::{refuse_paths_in_submodules, refuse_sparse_index};
@@ -26,8 +26,8 @@ pub struct Answered {
 }
 
 /// Nothing is written, and no rule decides; takes no memory.
-pub fn nothing(alloc: Global) -> Answered
-    ensures { result ≡ words.nothing }
+pub fn empty_answer(alloc: Global) -> Answered
+    ensures { result ≡ words.empty_answer }
 {
     Answered {
         text: Bytes::new(alloc),
@@ -36,8 +36,8 @@ pub fn nothing(alloc: Global) -> Answered
 }
 
 /// Adds what is answered of one path.
-pub fn add_answer(alloc: Global, done: &mut Answered, now: &Answered) -> Result<(), OutOfMemory>
-    ensures { OnOk result (done.new ≡ words.with_answer done.old now.now) }
+pub fn append_answer(alloc: Global, done: &mut Answered, now: &Answered) -> Result<(), OutOfMemory>
+    ensures { OnOk result (done.new ≡ words.answer_with_other_appended done.old now.now) }
 {
     done.text.extend(alloc, now.text.as_bytes())?;
     done.is_any |= now.is_any;
@@ -45,7 +45,7 @@ pub fn add_answer(alloc: Global, done: &mut Answered, now: &Answered) -> Result<
 }
 
 /// What is answered of a path by the rule that decides about it.
-fn answer_by_rule<W: Worktree>(
+fn answer_of_deciding_rule<W: Worktree>(
     alloc: Global,
     worktree: &mut W,
     root: &[u8],
@@ -54,9 +54,9 @@ fn answer_by_rule<W: Worktree>(
     asked: &AskedPath,
     rule: &Option<FoundRule>,
 ) -> Result<Answered, Stop>
-    ensures { Finds W.Worktree worktree.old worktree.new (λ t. Ok (words.answer_by_rule t root.now
-        outer.now
-        checking.now asked.now rule.now)) result }
+    ensures { FindsInTree W.Worktree worktree.old worktree.new
+        (λ t. Ok (words.answer_of_deciding_rule t root.now outer.now checking.now asked.now
+        rule.now)) result }
 {
     let path = asked.text.as_bytes();
     let text = line(alloc, worktree, root, outer, checking, path, rule)?;
@@ -67,8 +67,8 @@ fn answer_by_rule<W: Worktree>(
 }
 
 /// What is answered of a path.
-#[tactic(auto, unfolding(crate::specs::Checked::answer_of))]
-fn answer_of<W: Worktree>(
+#[tactic(auto, unfolding(crate::specs::Checked::answer_of_asked_path))]
+fn answer_of_asked_path<W: Worktree>(
     alloc: Global,
     worktree: &mut W,
     root: &[u8],
@@ -77,16 +77,16 @@ fn answer_of<W: Worktree>(
     checking: &Checking,
     asked: &AskedPath,
 ) -> Result<Answered, Stop>
-    ensures { Finds W.Worktree worktree.old worktree.new (λ t. words.answer_of t root.now index.now
-        outer.now checking.now asked.now) result }
+    ensures { FindsInTree W.Worktree worktree.old worktree.new (λ t. words.answer_of_asked_path t
+        root.now index.now outer.now checking.now asked.now) result }
 {
-    let rule = rule_of(alloc, worktree, root, index, outer, checking, asked)?;
+    let rule = deciding_rule_unless_tracked(alloc, worktree, root, index, outer, checking, asked)?;
     let rule = drop_negative_unless_verbose(checking, rule);
-    answer_by_rule(alloc, worktree, root, outer, checking, asked, &rule)
+    answer_of_deciding_rule(alloc, worktree, root, outer, checking, asked, &rule)
 }
 
 /// What is answered of some paths.
-fn answers<W: Worktree>(
+fn combined_answer_of_asked_paths<W: Worktree>(
     alloc: Global,
     worktree: &mut W,
     root: &[u8],
@@ -95,19 +95,20 @@ fn answers<W: Worktree>(
     checking: &Checking,
     asked: &[AskedPath],
 ) -> Result<Answered, Stop>
-    ensures { Finds W.Worktree worktree.old worktree.new (λ t. words.answers_after t root.now
-        index.now outer.now checking.now words.nothing asked.now) result }
+    ensures { FindsInTree W.Worktree worktree.old worktree.new (λ t. words.append_answers_of_paths t
+        root.now index.now outer.now checking.now words.empty_answer asked.now) result }
 {
-    let mut done = nothing(alloc);
+    let mut done = empty_answer(alloc);
     for one in asked {
-        let now = answer_of(alloc, worktree, root, index, outer, checking, one)?;
-        add_answer(alloc, &mut done, &now)?;
+        let now = answer_of_asked_path(alloc, worktree, root, index, outer, checking, one)?;
+        append_answer(alloc, &mut done, &now)?;
     }
     Ok(done)
 }
 
 /// What `git check-ignore` prints of `paths`, each as it was written in a directory of a work tree,
-/// and whether it ends with 0. The words have to be some that there are, which [`wrong_in`](crate::wrong_in) tests.
+/// and whether it ends with 0. The words have to be some that there are, which
+/// [`first_option_error`](crate::first_option_error) tests.
 ///
 /// Each path is looked up by itself: the rules files above it are read anew, and with `-v` the file
 /// of the rule that decides once more, as git writes the pattern as its line has it. The index is
@@ -119,10 +120,10 @@ fn answers<W: Worktree>(
 ///
 /// - `SparseIndex`: an entry of the index stands for all that is beneath a directory.
 /// - `Empty`: a path has no bytes.
-/// - Of the first path of which one holds: `Magic`: it begins with a colon; `Elsewhere`: it is
-///   absolute, and does not begin with that of the top; `Prefix`: it and `prefix` have bytes with a
-///   meaning of their own in a pattern; `Outside`: it leads out of the work tree; `Beyond`: a
-///   symbolic link stands above it.
+/// - Of the first path of which one holds: `SignatureAndPath`: it begins with a colon; `Elsewhere`:
+///   it is absolute, and does not begin with that of the top; `Prefix`: it and `prefix` have bytes
+///   with a meaning of their own in a pattern; `Outside`: it leads out of the work tree; `Beyond`:
+///   a symbolic link stands above it.
 /// - `Inside`: a path lies in a submodule, the first of the index in which one does.
 /// - Of the first path of which one holds, and of which the index has nothing: `Everything`: a rule
 ///   outside the work tree excludes all, as `*` behind a byte order mark does; `Unread`: the rules
@@ -132,22 +133,22 @@ fn answers<W: Worktree>(
 ///
 /// - `Fault`: the worktree failed, which it counted. No fault reads as "nothing is there".
 /// - `OutOfMemory`: memory was refused.
-#[tactic(auto, unfolding(crate::specs::Checked::checked))]
+#[tactic(auto, unfolding(crate::specs::Checked::check_ignore_answer))]
 pub fn check_ignore<W: Worktree>(
     alloc: Global,
     worktree: &mut W,
     context: &CheckContext<'_>,
     paths: &[Bytes],
 ) -> Result<Answered, Stop>
-    ensures { Finds W.Worktree worktree.old worktree.new (λ t. words.checked t context.now.root.now
-        context.now.prefix.now context.now.index.now context.now.outer.now
+    ensures { FindsInTree W.Worktree worktree.old worktree.new (λ t. words.check_ignore_answer t
+        context.now.root.now context.now.prefix.now context.now.index.now context.now.outer.now
         context.now.checking.now paths.now) result }
 {
     refuse_sparse_index(context.index.entries())?;
-    let asked = all_asked(alloc, worktree, context.root, context.prefix, paths)?;
+    let asked = parse_nonempty_asked_paths(alloc, worktree, context.root, context.prefix, paths)?;
     let each = asked.as_slice();
     refuse_paths_in_submodules(alloc, each, context.index.entries())?;
-    answers(
+    combined_answer_of_asked_paths(
         alloc,
         worktree,
         context.root,

@@ -1,12 +1,12 @@
 //! The paths that are asked about.
 ghost use Rattle.std.specs.Prelude.{◌≡◌, false, [], ◌∷◌, ◌++◌, IfOk, OnOk};
-ghost use Rattle.glob_rules.specs.PathSpecText.{spec_of};
+ghost use Rattle.glob_rules.specs.PathSpecText.{parse_path_spec};
 ghost use Rattle.check_ignore.specs.Asked as words;
-ghost use Rattle.check_ignore.specs.Finds.{Decides};
+ghost use Rattle.check_ignore.specs.Finds.{AnswersUnlessOutOfMemory};
 
-use crate::placed::{from_top, has_special};
+use crate::placed::{has_pattern_special_byte, parse_path_to_root_relative};
 use crate::stop::Stop;
-use gitbase_core::{Bytes, OutOfMemory, basename, needs_slash};
+use gitbase_core::{Bytes, OutOfMemory, basename, needs_slash_before_component};
 use glob_rules::pathspec::{Defaults, Error, Search, Spec};
 use std::alloc::Global;
 use std::marker::Model;
@@ -67,35 +67,39 @@ impl AskedPaths {
 }
 
 /// Whether a name is none, or means the directory or the one above.
-fn is_dots(name: &[u8]) -> bool
-    ensures { result ≡ words.is_dots name.now }
+fn is_empty_dot_or_dot_dot(name: &[u8]) -> bool
+    ensures { result ≡ words.is_empty_dot_or_dot_dot name.now }
 {
     name.is_empty() || name == b".".as_slice() || name == b"..".as_slice()
 }
 
 /// Whether a path asks for a directory.
-fn names_directory(text: &[u8], path: &[u8]) -> bool
-    ensures { result ≡ words.names_directory text.now path.now }
+fn is_top_or_ends_as_directory(text: &[u8], path: &[u8]) -> bool
+    ensures { result ≡ words.is_top_or_ends_as_directory text.now path.now }
 {
-    path.is_empty() || is_dots(basename(text))
+    path.is_empty() || is_empty_dot_or_dot_dot(basename(text))
 }
 
 /// A path, with a slash behind it where it asks for a directory.
-pub fn named(alloc: Global, path: &[u8], directory: bool) -> Result<Bytes, OutOfMemory>
-    ensures { IfOk result (λ named. named ≡ words.named path.now directory) }
+pub fn path_with_slash_if_directory(
+    alloc: Global,
+    path: &[u8],
+    directory: bool,
+) -> Result<Bytes, OutOfMemory>
+    ensures { IfOk result (λ named. named ≡ words.path_with_slash_if_directory path.now directory) }
 {
     let mut named = Bytes::from_slice(alloc, path)?;
-    if directory && needs_slash(path) {
+    if directory && needs_slash_before_component(path) {
         named.extend(alloc, b"/")?;
     }
     Ok(named)
 }
 
 /// What stands before a path that was written so, in a path spec.
-fn front(text: &[u8]) -> &'static [u8]
-    ensures { result.now ≡ words.front text.now }
+fn glob_or_literal_magic(text: &[u8]) -> &'static [u8]
+    ensures { result.now ≡ words.glob_or_literal_magic text.now }
 {
-    if has_special(text) {
+    if has_pattern_special_byte(text) {
         b"::"
     } else {
         b":(literal)"
@@ -103,17 +107,23 @@ fn front(text: &[u8]) -> &'static [u8]
 }
 
 /// The text of the path spec of a path.
-fn spec_text(alloc: Global, text: &[u8], path: &[u8], directory: bool) -> Result<Bytes, OutOfMemory>
-    ensures { IfOk result (λ spec. spec ≡ words.spec_text text.now path.now directory) }
+fn path_spec_text_of_path(
+    alloc: Global,
+    text: &[u8],
+    path: &[u8],
+    directory: bool,
+) -> Result<Bytes, OutOfMemory>
+    ensures { IfOk result (λ spec. spec ≡ words.path_spec_text_of_path text.now path.now
+        directory) }
 {
-    let named = named(alloc, path, directory)?;
-    let mut spec = Bytes::from_slice(alloc, front(text))?;
+    let named = path_with_slash_if_directory(alloc, path, directory)?;
+    let mut spec = Bytes::from_slice(alloc, glob_or_literal_magic(text))?;
     spec.extend(alloc, named.as_bytes())?;
     Ok(spec)
 }
 
 /// A path spec alone.
-fn alone(alloc: Global, spec: Spec) -> Result<Search, OutOfMemory>
+fn search_of_one_spec(alloc: Global, spec: Spec) -> Result<Search, OutOfMemory>
     ensures { IfOk result (λ search. search ≡ spec ∷ []) }
 {
     let mut specs = Vec::new(alloc);
@@ -122,11 +132,12 @@ fn alone(alloc: Global, spec: Spec) -> Result<Search, OutOfMemory>
 }
 
 /// The path spec of a whole text; `text` is what was written.
-fn search_by(alloc: Global, text: &[u8], whole: &[u8]) -> Result<Search, Stop>
-    ensures { Decides result (words.as_search text.now (spec_of false whole.now)) }
+fn parse_path_spec_or_magic_error(alloc: Global, text: &[u8], whole: &[u8]) -> Result<Search, Stop>
+    ensures { AnswersUnlessOutOfMemory result (words.search_or_magic_error text.now
+        (parse_path_spec false whole.now)) }
 {
     match Spec::parse(alloc, whole, Defaults { ignore_case: false }) {
-        Ok(spec) => Ok(alone(alloc, spec)?),
+        Ok(spec) => Ok(search_of_one_spec(alloc, spec)?),
         Err(Error::Parse { at: _ }) => Err(Stop::Magic {
             text: Bytes::from_slice(alloc, text)?,
         }),
@@ -138,21 +149,33 @@ fn search_by(alloc: Global, text: &[u8], whole: &[u8]) -> Result<Search, Stop>
 }
 
 /// The path spec by which the index is asked of a path.
-fn search_of(alloc: Global, text: &[u8], path: &[u8], directory: bool) -> Result<Search, Stop>
-    ensures { Decides result (words.search_of text.now path.now directory) }
+fn parse_path_as_path_spec(
+    alloc: Global,
+    text: &[u8],
+    path: &[u8],
+    directory: bool,
+) -> Result<Search, Stop>
+    ensures { AnswersUnlessOutOfMemory result (words.parse_path_as_path_spec text.now path.now
+        directory) }
 {
-    let whole = spec_text(alloc, text, path, directory)?;
-    search_by(alloc, text, whole.as_bytes())
+    let whole = path_spec_text_of_path(alloc, text, path, directory)?;
+    parse_path_spec_or_magic_error(alloc, text, whole.as_bytes())
 }
 
 /// A path that is asked about in the directory `prefix`.
-#[tactic(auto, unfolding(crate::specs::Asked::asked_of))]
-pub fn asked_of(alloc: Global, root: &[u8], prefix: &[u8], text: &[u8]) -> Result<AskedPath, Stop>
-    ensures { Decides result (words.asked_of root.now prefix.now text.now) }
+#[tactic(auto, unfolding(crate::specs::Asked::parse_asked_path))]
+pub fn parse_asked_path(
+    alloc: Global,
+    root: &[u8],
+    prefix: &[u8],
+    text: &[u8],
+) -> Result<AskedPath, Stop>
+    ensures { AnswersUnlessOutOfMemory result (words.parse_asked_path root.now prefix.now
+        text.now) }
 {
-    let path = from_top(alloc, root, prefix, text)?;
-    let directory = names_directory(text, path.as_bytes());
-    let spec = search_of(alloc, text, path.as_bytes(), directory)?;
+    let path = parse_path_to_root_relative(alloc, root, prefix, text)?;
+    let directory = is_top_or_ends_as_directory(text, path.as_bytes());
+    let spec = parse_path_as_path_spec(alloc, text, path.as_bytes(), directory)?;
     Ok(AskedPath {
         text: Bytes::from_slice(alloc, text)?,
         path,

@@ -1,36 +1,36 @@
 //! By which rule it is decided whether a path is excluded.
 ghost use Rattle.std.specs.Prelude.{◌≡◌, Ok};
 ghost use Rattle.check_ignore.specs.Deciding as words;
-ghost use Rattle.check_ignore.specs.Finds.{Decides, Finds};
-ghost use Rattle.check_ignore.specs.Outer.{made_of as made};
+ghost use Rattle.check_ignore.specs.Finds.{AnswersUnlessOutOfMemory, FindsInTree};
+ghost use Rattle.check_ignore.specs.Outer.{stack_setup_of_work_tree as made};
 
-use crate::as_written::as_written;
+use crate::as_written::rule_as_written_if_outer;
 use crate::asked::AskedPath;
 use crate::found_rule::FoundRule;
-use crate::links::is_directory_at;
-use crate::lookup::looked_up;
+use crate::links::is_directory_below_root;
+use crate::lookup::look_up_deciding_rule;
 use crate::options::{Checking, OuterRules};
-use crate::outer::{all_excluder, stack_of};
+use crate::outer::{ignore_stack_of_work_tree, place_of_outer_rule_excluding_top};
 use crate::stop::Stop;
-use crate::tracked::is_tracked;
+use crate::tracked::is_any_entry_matched_by_spec;
 use gitbase_core::{Bytes, State as Index};
 use std::alloc::Global;
 use worktree_fs::Worktree;
 
 /// Whether a path is that of a directory.
-fn is_dir_in<W: Worktree>(
+fn is_asked_as_or_is_directory<W: Worktree>(
     alloc: Global,
     worktree: &mut W,
     root: &[u8],
     asked: &AskedPath,
 ) -> Result<bool, Stop>
-    ensures { Finds W.Worktree worktree.old worktree.new
-        (λ t. Ok (words.is_dir_in t root.now asked.now)) result }
+    ensures { FindsInTree W.Worktree worktree.old worktree.new
+        (λ t. Ok (words.is_asked_as_or_is_directory t root.now asked.now)) result }
 {
     if asked.names_directory {
         return Ok(true);
     }
-    is_directory_at(alloc, worktree, root, asked.path.as_bytes())
+    is_directory_below_root(alloc, worktree, root, asked.path.as_bytes())
 }
 
 /// Whether there is a rule, and it excludes.
@@ -44,8 +44,8 @@ fn excludes(rule: &Option<FoundRule>) -> bool
 }
 
 /// Whether the rules of a directory would be asked for a path without a name.
-fn wants_more(asked: &AskedPath, rule: &Option<FoundRule>) -> bool
-    ensures { result ≡ words.wants_more asked.now rule.now }
+fn is_top_or_unexcluded_directory(asked: &AskedPath, rule: &Option<FoundRule>) -> bool
+    ensures { result ≡ words.is_top_or_unexcluded_directory asked.now rule.now }
 {
     if !asked.names_directory {
         return false;
@@ -54,14 +54,15 @@ fn wants_more(asked: &AskedPath, rule: &Option<FoundRule>) -> bool
 }
 
 /// The rule, unless they would.
-fn refuse_unexcluded_directory(
+fn refuse_top_or_unexcluded_directory(
     alloc: Global,
     asked: &AskedPath,
     rule: Option<FoundRule>,
 ) -> Result<Option<FoundRule>, Stop>
-    ensures { Decides result (words.refuse_unexcluded_directory asked.now rule) }
+    ensures { AnswersUnlessOutOfMemory result (words.refuse_top_or_unexcluded_directory asked.now
+        rule) }
 {
-    if wants_more(asked, &rule) {
+    if is_top_or_unexcluded_directory(asked, &rule) {
         return Err(Stop::Slash {
             text: Bytes::from_slice(alloc, asked.text.as_bytes())?,
         });
@@ -70,15 +71,16 @@ fn refuse_unexcluded_directory(
 }
 
 /// That no rule outside the work tree excludes all.
-fn refuse_rule_excluding_top(
+fn refuse_outer_rule_excluding_top(
     alloc: Global,
     outer: &OuterRules,
     checking: &Checking,
     asked: &AskedPath,
 ) -> Result<bool, Stop>
-    ensures { Decides result (words.refuse_rule_excluding_top outer.now checking.now asked.now) }
+    ensures { AnswersUnlessOutOfMemory result (words.refuse_outer_rule_excluding_top outer.now
+        checking.now asked.now) }
 {
-    match all_excluder(alloc, outer, checking.ignore_case)? {
+    match place_of_outer_rule_excluding_top(alloc, outer, checking.ignore_case)? {
         None => Ok(true),
         Some(place) => Err(Stop::Everything {
             text: Bytes::from_slice(alloc, asked.text.as_bytes())?,
@@ -89,7 +91,7 @@ fn refuse_rule_excluding_top(
 }
 
 /// The rule that decides about a path by rules that are read anew.
-fn looked_up_in<W: Worktree>(
+fn look_up_rule_in_new_stack<W: Worktree>(
     alloc: Global,
     worktree: &mut W,
     root: &[u8],
@@ -99,16 +101,16 @@ fn looked_up_in<W: Worktree>(
     asked: &AskedPath,
     is_dir: bool,
 ) -> Result<Option<FoundRule>, Stop>
-    ensures { Finds W.Worktree worktree.old worktree.new (λ t. words.looked_up t
+    ensures { FindsInTree W.Worktree worktree.old worktree.new (λ t. words.look_up_deciding_rule t
         (made root.now index.now outer.now ignore_case) asked.now is_dir) result }
 {
-    let mut stack = stack_of(alloc, root, index, outer, ignore_case)?;
-    looked_up(alloc, worktree, &mut stack, asked, is_dir)
+    let mut stack = ignore_stack_of_work_tree(alloc, root, index, outer, ignore_case)?;
+    look_up_deciding_rule(alloc, worktree, &mut stack, asked, is_dir)
 }
 
 /// The rule that decides about a path that the index does not have.
-#[tactic(auto, unfolding(crate::specs::Deciding::ruled))]
-fn ruled<W: Worktree>(
+#[tactic(auto, unfolding(crate::specs::Deciding::deciding_rule_of_untracked_path))]
+fn deciding_rule_of_untracked_path<W: Worktree>(
     alloc: Global,
     worktree: &mut W,
     root: &[u8],
@@ -117,19 +119,22 @@ fn ruled<W: Worktree>(
     checking: &Checking,
     asked: &AskedPath,
 ) -> Result<Option<FoundRule>, Stop>
-    ensures { Finds W.Worktree worktree.old worktree.new (λ t. words.ruled t root.now index.now
-        outer.now checking.now asked.now) result }
+    ensures { FindsInTree W.Worktree worktree.old worktree.new
+        (λ t. words.deciding_rule_of_untracked_path t root.now index.now outer.now checking.now
+        asked.now) result }
 {
-    refuse_rule_excluding_top(alloc, outer, checking, asked)?;
-    let is_dir = is_dir_in(alloc, worktree, root, asked)?;
+    refuse_outer_rule_excluding_top(alloc, outer, checking, asked)?;
+    let is_dir = is_asked_as_or_is_directory(alloc, worktree, root, asked)?;
     let folds = checking.ignore_case;
-    let rule = looked_up_in(alloc, worktree, root, index, outer, folds, asked, is_dir)?;
-    let rule = as_written(alloc, outer, rule)?;
-    refuse_unexcluded_directory(alloc, asked, rule)
+    let rule = look_up_rule_in_new_stack(
+        alloc, worktree, root, index, outer, folds, asked, is_dir,
+    )?;
+    let rule = rule_as_written_if_outer(alloc, outer, rule)?;
+    refuse_top_or_unexcluded_directory(alloc, asked, rule)
 }
 
 /// The rule that decides about a path.
-pub fn rule_of<W: Worktree>(
+pub fn deciding_rule_unless_tracked<W: Worktree>(
     alloc: Global,
     worktree: &mut W,
     root: &[u8],
@@ -138,13 +143,14 @@ pub fn rule_of<W: Worktree>(
     checking: &Checking,
     asked: &AskedPath,
 ) -> Result<Option<FoundRule>, Stop>
-    ensures { Finds W.Worktree worktree.old worktree.new (λ t. words.rule_of t root.now index.now
-        outer.now checking.now asked.now) result }
+    ensures { FindsInTree W.Worktree worktree.old worktree.new
+        (λ t. words.deciding_rule_unless_tracked t root.now index.now outer.now checking.now
+        asked.now) result }
 {
-    if is_tracked(index.entries(), &asked.spec) {
+    if is_any_entry_matched_by_spec(index.entries(), &asked.spec) {
         return Ok(None);
     }
-    ruled(alloc, worktree, root, index, outer, checking, asked)
+    deciding_rule_of_untracked_path(alloc, worktree, root, index, outer, checking, asked)
 }
 
 /// A rule that counts; without `-v` a negative one does not.
@@ -156,12 +162,12 @@ pub fn drop_negative_unless_verbose(
 {
     match rule {
         None => None,
-        Some(rule) => counted_one(checking, rule),
+        Some(rule) => rule_if_positive_or_verbose(checking, rule),
     }
 }
 
-fn counted_one(checking: &Checking, rule: FoundRule) -> Option<FoundRule>
-    ensures { result ≡ words.counted_one checking.now rule }
+fn rule_if_positive_or_verbose(checking: &Checking, rule: FoundRule) -> Option<FoundRule>
+    ensures { result ≡ words.rule_if_positive_or_verbose checking.now rule }
 {
     if rule.is_negative && !checking.verbose {
         return None;

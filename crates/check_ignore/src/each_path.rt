@@ -1,11 +1,11 @@
 //! What is answered of the paths of an input.
 ghost use Rattle.std.specs.Prelude.{◌≡◌, ◌∷◌, [], map};
-ghost use Rattle.check_ignore.specs.Checked.{nothing};
-ghost use Rattle.check_ignore.specs.Finds.{Finds};
+ghost use Rattle.check_ignore.specs.Checked.{empty_answer};
+ghost use Rattle.check_ignore.specs.Finds.{FindsInTree};
 ghost use Rattle.check_ignore.specs.Input as words;
 
-use crate::answer::{Answered, add_answer, check_ignore, nothing};
-use crate::input::{line_end, lines_of, path_of};
+use crate::answer::{Answered, append_answer, check_ignore, empty_answer};
+use crate::input::{input_lines, line_feed_or_nul_if_z, parse_path_of_input_line};
 use crate::options::CheckContext;
 use crate::stop::Stop;
 use gitbase_core::Bytes;
@@ -13,54 +13,54 @@ use std::alloc::Global;
 use worktree_fs::Worktree;
 
 /// What is answered of a line.
-fn line_answer<W: Worktree>(
+fn answer_of_input_line<W: Worktree>(
     alloc: Global,
     worktree: &mut W,
     context: &CheckContext<'_>,
     line: &[u8],
 ) -> Result<Answered, Stop>
-    ensures { Finds W.Worktree worktree.old worktree.new (λ t. words.line_answer t
+    ensures { FindsInTree W.Worktree worktree.old worktree.new (λ t. words.answer_of_input_line t
         context.now.root.now
         context.now.prefix.now context.now.index.now context.now.outer.now
         context.now.checking.now line.now) result }
 {
-    let path = path_of(alloc, context.checking, line)?;
+    let path = parse_path_of_input_line(alloc, context.checking, line)?;
     let paths = [path];
     check_ignore(alloc, worktree, context, &paths)
 }
 
 /// What is answered of some lines.
-fn all_answered<W: Worktree>(
+fn combined_answer_of_input_lines<W: Worktree>(
     alloc: Global,
     worktree: &mut W,
     context: &CheckContext<'_>,
     lines: &[&[u8]],
 ) -> Result<Answered, Stop>
-    ensures { Finds W.Worktree worktree.old worktree.new (λ t. words.lines_after t
+    ensures { FindsInTree W.Worktree worktree.old worktree.new (λ t. words.append_answers_of_lines t
         context.now.root.now context.now.prefix.now context.now.index.now context.now.outer.now
-        context.now.checking.now nothing (map (λ line. line.now) lines.now)) result }
+        context.now.checking.now empty_answer (map (λ line. line.now) lines.now)) result }
 {
-    let mut done = nothing(alloc);
+    let mut done = empty_answer(alloc);
     for line in lines {
-        let now = line_answer(alloc, worktree, context, line)?;
-        add_answer(alloc, &mut done, &now)?;
+        let now = answer_of_input_line(alloc, worktree, context, line)?;
+        append_answer(alloc, &mut done, &now)?;
     }
     Ok(done)
 }
 
 /// What is answered of the paths of an input.
-fn of_input<W: Worktree>(
+fn answer_of_whole_input<W: Worktree>(
     alloc: Global,
     worktree: &mut W,
     context: &CheckContext<'_>,
     input: &[u8],
 ) -> Result<Answered, Stop>
-    ensures { Finds W.Worktree worktree.old worktree.new (λ t. words.of_input t context.now.root.now
-        context.now.prefix.now context.now.index.now context.now.outer.now
+    ensures { FindsInTree W.Worktree worktree.old worktree.new (λ t. words.answer_of_whole_input t
+        context.now.root.now context.now.prefix.now context.now.index.now context.now.outer.now
         context.now.checking.now input.now) result }
 {
-    let lines = lines_of(alloc, input, line_end(context.checking))?;
-    all_answered(alloc, worktree, context, &lines)
+    let lines = input_lines(alloc, input, line_feed_or_nul_if_z(context.checking))?;
+    combined_answer_of_input_lines(alloc, worktree, context, &lines)
 }
 
 /// What `git check-ignore` prints, and whether it ends with 0: of `paths`, as [`check_ignore`] has
@@ -81,20 +81,19 @@ fn of_input<W: Worktree>(
 /// - Without: as [`check_ignore`] has them of all paths.
 ///
 /// See docs/DIFFERENCES.md#check-ignore-input.
-pub fn check_asked<W: Worktree>(
+pub fn check_paths_or_stdin<W: Worktree>(
     alloc: Global,
     worktree: &mut W,
     context: &CheckContext<'_>,
     paths: &[Bytes],
     input: &[u8],
 ) -> Result<Answered, Stop>
-    ensures { Finds W.Worktree worktree.old worktree.new (λ t. words.asked_or_read t
-        context.now.root.now
-        context.now.prefix.now context.now.index.now context.now.outer.now
+    ensures { FindsInTree W.Worktree worktree.old worktree.new (λ t. words.answer_of_paths_or_stdin
+        t context.now.root.now context.now.prefix.now context.now.index.now context.now.outer.now
         context.now.checking.now paths.now input.now) result }
 {
     if context.checking.stdin {
-        return of_input(alloc, worktree, context, input);
+        return answer_of_whole_input(alloc, worktree, context, input);
     }
     check_ignore(alloc, worktree, context, paths)
 }

@@ -1,26 +1,26 @@
 //! The paths of an input.
 ghost use Rattle.std.specs.Prelude.{◌≡◌, ◌≤◌, length, map, IfOk};
 ghost use Rattle.std.specs.List.{position_or_len};
-ghost use Rattle.check_ignore.specs.Finds.{Decides};
+ghost use Rattle.check_ignore.specs.Finds.{AnswersUnlessOutOfMemory};
 ghost use Rattle.check_ignore.specs.Input as words;
-ghost use Rattle.check_ignore.specs.Unquoted.{unquoted};
+ghost use Rattle.check_ignore.specs.Unquoted.{unquote_c_style};
 
 use crate::options::Checking;
-use crate::quotes::unquoted;
+use crate::quotes::unquote_c_style;
 use crate::stop::Stop;
 use gitbase_core::{Bytes, OutOfMemory};
 use std::alloc::Global;
 
 /// The byte in which lines end.
-pub fn line_end(checking: &Checking) -> u8
-    ensures { result ≡ words.line_end checking.now }
+pub fn line_feed_or_nul_if_z(checking: &Checking) -> u8
+    ensures { result ≡ words.line_feed_or_nul_if_z checking.now }
 {
     if checking.ends_in_nul { 0 } else { b'\n' }
 }
 
 /// An input without the byte that ends its last line.
-fn without_end(bytes: &[u8], end: u8) -> &[u8]
-    ensures { result.now ≡ words.without_end end bytes.now }
+fn without_last_terminator(bytes: &[u8], end: u8) -> &[u8]
+    ensures { result.now ≡ words.without_last_terminator end bytes.now }
 {
     if bytes.is_empty() {
         return bytes;
@@ -32,26 +32,26 @@ fn without_end(bytes: &[u8], end: u8) -> &[u8]
 }
 
 /// What stands between the bytes that end lines.
-fn split(alloc: Global, bytes: &[u8], end: u8) -> Result<Vec<&[u8]>, OutOfMemory>
+fn split_at_byte(alloc: Global, bytes: &[u8], end: u8) -> Result<Vec<&[u8]>, OutOfMemory>
     ensures { IfOk result (λ lines. map (λ line. line.now) lines.items
-        ≡ words.split_at_end end bytes.now) }
+        ≡ words.split_at_byte end bytes.now) }
 {
     Ok(bytes.split(|b| *b == end).collect(alloc)?)
 }
 
 /// The lines of an input, which end in this byte.
-pub fn lines_of(alloc: Global, bytes: &[u8], end: u8) -> Result<Vec<&[u8]>, OutOfMemory>
+pub fn input_lines(alloc: Global, bytes: &[u8], end: u8) -> Result<Vec<&[u8]>, OutOfMemory>
     ensures { IfOk result (λ lines. map (λ line. line.now) lines.items
-        ≡ words.lines_of end bytes.now) }
+        ≡ words.input_lines end bytes.now) }
 {
     match bytes {
         [] => Ok(Vec::new(alloc)),
-        [_, ..] => split(alloc, without_end(bytes, end), end),
+        [_, ..] => split_at_byte(alloc, without_last_terminator(bytes, end), end),
     }
 }
 
-fn ends_path(byte: u8) -> bool
-    ensures { result ≡ words.ends_path byte }
+fn is_nul(byte: u8) -> bool
+    ensures { result ≡ words.is_nul_byte byte }
 {
     byte == 0
 }
@@ -59,48 +59,54 @@ fn ends_path(byte: u8) -> bool
 /// How many bytes stand before the first NUL.
 fn length_until_nul(text: &[u8]) -> usize
     ensures within { result ≤ length text.now }
-    ensures value { result ≡ position_or_len words.ends_path text.now }
+    ensures value { result ≡ position_or_len words.is_nul_byte text.now }
 {
     let mut at = 0;
-    while at < text.len() && !ends_path(text[at]) {
+    while at < text.len() && !is_nul(text[at]) {
         at += 1;
     }
     at
 }
 
 /// What stands before the first NUL.
-fn until_nul(text: &[u8]) -> &[u8]
-    ensures { result.now ≡ words.until_nul text.now }
+fn bytes_before_nul(text: &[u8]) -> &[u8]
+    ensures { result.now ≡ words.bytes_before_nul text.now }
 {
     &text[..length_until_nul(text)]
 }
 
 /// The path that stands in quotes, by what follows the first one.
-fn quoted_path(alloc: Global, quoted: &[u8]) -> Result<Bytes, Stop>
-    ensures { Decides result (words.as_path (unquoted 0 quoted.now)) }
+fn parse_quoted_path(alloc: Global, quoted: &[u8]) -> Result<Bytes, Stop>
+    ensures { AnswersUnlessOutOfMemory result (words.path_or_bad_quotes_error
+        (unquote_c_style 0 quoted.now)) }
 {
-    match unquoted(alloc, quoted)? {
-        Some(path) => Ok(Bytes::from_slice(alloc, until_nul(path.as_bytes()))?),
+    match unquote_c_style(alloc, quoted)? {
+        Some(path) => Ok(Bytes::from_slice(alloc, bytes_before_nul(path.as_bytes()))?),
         None => Err(Stop::BadQuotes),
     }
 }
 
 /// The path of a line without NULs.
-fn path_in(alloc: Global, line: &[u8]) -> Result<Bytes, Stop>
-    ensures { Decides result (words.path_in line.now) }
+fn parse_maybe_quoted_path(alloc: Global, line: &[u8]) -> Result<Bytes, Stop>
+    ensures { AnswersUnlessOutOfMemory result (words.parse_maybe_quoted_path line.now) }
 {
     match line {
-        [b'"', quoted @ ..] => quoted_path(alloc, quoted),
+        [b'"', quoted @ ..] => parse_quoted_path(alloc, quoted),
         _ => Ok(Bytes::from_slice(alloc, line)?),
     }
 }
 
 /// The path of a line.
-pub fn path_of(alloc: Global, checking: &Checking, line: &[u8]) -> Result<Bytes, Stop>
-    ensures { Decides result (words.path_of checking.now line.now) }
+pub fn parse_path_of_input_line(
+    alloc: Global,
+    checking: &Checking,
+    line: &[u8],
+) -> Result<Bytes, Stop>
+    ensures { AnswersUnlessOutOfMemory result (words.parse_path_of_input_line checking.now
+        line.now) }
 {
     if checking.ends_in_nul {
         return Ok(Bytes::from_slice(alloc, line)?);
     }
-    path_in(alloc, until_nul(line))
+    parse_maybe_quoted_path(alloc, bytes_before_nul(line))
 }

@@ -22,8 +22,8 @@ mod written;
 mod wrong;
 
 pub use answer::{Answered, check_ignore};
-pub use each_path::check_asked;
+pub use each_path::check_paths_or_stdin;
 pub use options::{CheckContext, Checking, NamedRules, OuterRules};
 pub use refusal_text::told;
 pub use stop::Stop;
-pub use wrong::{WrongCheck, wrong_in};
+pub use wrong::{WrongCheck, first_option_error};

@@ -1,26 +1,26 @@
 //! Links on the way to paths that are asked about.
 ghost use Rattle.std.specs.Prelude.{◌≡◌, [], Ok, IfOk};
-ghost use Rattle.gitbase_core.specs.Path.{joined};
-ghost use Rattle.check_ignore.specs.Finds.{Decides, Finds};
+ghost use Rattle.gitbase_core.specs.Path.{path_joined_with_slash};
+ghost use Rattle.check_ignore.specs.Finds.{AnswersUnlessOutOfMemory, FindsInTree};
 ghost use Rattle.check_ignore.specs.Links as words;
 
-use crate::asked::{AskedPath, AskedPaths, asked_of, named};
+use crate::asked::{AskedPath, AskedPaths, parse_asked_path, path_with_slash_if_directory};
 use crate::stop::Stop;
 use gitbase_core::{Bytes, OutOfMemory, PathText};
 use std::alloc::Global;
 use worktree_fs::{NodeKind, Worktree};
 
 /// A path of the work tree as a whole.
-fn path_in(alloc: Global, root: &[u8], path: &[u8]) -> Result<PathText, OutOfMemory>
-    ensures { IfOk result (λ whole. whole ≡ joined root.now path.now) }
+fn path_joined_to_root(alloc: Global, root: &[u8], path: &[u8]) -> Result<PathText, OutOfMemory>
+    ensures { IfOk result (λ whole. whole ≡ path_joined_with_slash root.now path.now) }
 {
     let mut whole = PathText::from_bytes(alloc, root)?;
     whole.push_component(alloc, path)?;
     Ok(whole)
 }
 
-fn is_link(kind: Option<NodeKind>) -> bool
-    ensures { result ≡ words.is_link kind }
+fn is_symlink_kind(kind: Option<NodeKind>) -> bool
+    ensures { result ≡ words.is_symlink_kind kind }
 {
     match kind {
         None => false,
@@ -31,8 +31,8 @@ fn is_link(kind: Option<NodeKind>) -> bool
     }
 }
 
-fn is_directory(kind: Option<NodeKind>) -> bool
-    ensures { result ≡ words.is_directory kind }
+fn is_directory_kind(kind: Option<NodeKind>) -> bool
+    ensures { result ≡ words.is_directory_kind kind }
 {
     match kind {
         None => false,
@@ -44,38 +44,39 @@ fn is_directory(kind: Option<NodeKind>) -> bool
 }
 
 /// Whether a directory stands at a path of the work tree, by itself.
-pub fn is_directory_at<W: Worktree>(
+pub fn is_directory_below_root<W: Worktree>(
     alloc: Global,
     worktree: &mut W,
     root: &[u8],
     path: &[u8],
 ) -> Result<bool, Stop>
-    ensures { Finds W.Worktree worktree.old worktree.new
-        (λ t. Ok (words.is_directory (words.kind_at t root.now path.now))) result }
+    ensures { FindsInTree W.Worktree worktree.old worktree.new
+        (λ t. Ok (words.is_directory_kind (words.kind_below_root_unfollowed t root.now path.now)))
+        result }
 {
-    let whole = path_in(alloc, root, path)?;
+    let whole = path_joined_to_root(alloc, root, path)?;
     let kind = worktree.kind(alloc, whole.as_bytes())?;
-    Ok(is_directory(kind))
+    Ok(is_directory_kind(kind))
 }
 
 /// Whether a link does.
-fn link_at<W: Worktree>(
+fn is_symlink_below_root<W: Worktree>(
     alloc: Global,
     worktree: &mut W,
     root: &[u8],
     path: &[u8],
 ) -> Result<bool, Stop>
-    ensures { Finds W.Worktree worktree.old worktree.new
-        (λ t. words.link_at t root.now path.now) result }
+    ensures { FindsInTree W.Worktree worktree.old worktree.new
+        (λ t. words.is_symlink_below_root t root.now path.now) result }
 {
-    let whole = path_in(alloc, root, path)?;
+    let whole = path_joined_to_root(alloc, root, path)?;
     let kind = worktree.kind(alloc, whole.as_bytes())?;
-    Ok(is_link(kind))
+    Ok(is_symlink_kind(kind))
 }
 
 /// The directories above a path, the highest first.
-fn directories(alloc: Global, path: &[u8]) -> Result<Vec<Bytes>, OutOfMemory>
-    ensures { IfOk result (λ above. above.items ≡ words.directories path.now) }
+fn directories_above_path(alloc: Global, path: &[u8]) -> Result<Vec<Bytes>, OutOfMemory>
+    ensures { IfOk result (λ above. above.items ≡ words.directories_above_path path.now) }
 {
     let mut above = Vec::new(alloc);
     let mut at = 0;
@@ -89,17 +90,17 @@ fn directories(alloc: Global, path: &[u8]) -> Result<Vec<Bytes>, OutOfMemory>
 }
 
 /// Whether a link stands at one of some directories. What lies behind it is not looked at.
-fn links_at<W: Worktree>(
+fn is_any_directory_symlink<W: Worktree>(
     alloc: Global,
     worktree: &mut W,
     root: &[u8],
     directories: &[Bytes],
 ) -> Result<bool, Stop>
-    ensures { Finds W.Worktree worktree.old worktree.new
-        (λ t. words.links_in t root.now directories.now) result }
+    ensures { FindsInTree W.Worktree worktree.old worktree.new
+        (λ t. words.is_any_directory_symlink t root.now directories.now) result }
 {
     for directory in directories {
-        if link_at(alloc, worktree, root, directory.as_bytes())? {
+        if is_symlink_below_root(alloc, worktree, root, directory.as_bytes())? {
             return Ok(true);
         }
     }
@@ -107,17 +108,17 @@ fn links_at<W: Worktree>(
 }
 
 /// Whether a link stands above a path.
-fn is_beyond<W: Worktree>(
+fn is_behind_symlink<W: Worktree>(
     alloc: Global,
     worktree: &mut W,
     root: &[u8],
     path: &[u8],
 ) -> Result<bool, Stop>
-    ensures { Finds W.Worktree worktree.old worktree.new
-        (λ t. words.beyond t root.now path.now) result }
+    ensures { FindsInTree W.Worktree worktree.old worktree.new
+        (λ t. words.is_behind_symlink t root.now path.now) result }
 {
-    let above = directories(alloc, path)?;
-    links_at(alloc, worktree, root, &above)
+    let above = directories_above_path(alloc, path)?;
+    is_any_directory_symlink(alloc, worktree, root, &above)
 }
 
 /// A path that is asked about, unless a link stands above it.
@@ -127,34 +128,34 @@ fn refuse_path_behind_link<W: Worktree>(
     root: &[u8],
     asked: AskedPath,
 ) -> Result<AskedPath, Stop>
-    ensures { Finds W.Worktree worktree.old worktree.new
+    ensures { FindsInTree W.Worktree worktree.old worktree.new
         (λ t. words.refuse_path_behind_link t root.now asked) result }
 {
-    let named = named(alloc, asked.path.as_bytes(), asked.names_directory)?;
-    if is_beyond(alloc, worktree, root, named.as_bytes())? {
+    let named = path_with_slash_if_directory(alloc, asked.path.as_bytes(), asked.names_directory)?;
+    if is_behind_symlink(alloc, worktree, root, named.as_bytes())? {
         return Err(Stop::Beyond { text: asked.text });
     }
     Ok(asked)
 }
 
 /// A path that is asked about in the directory `prefix`, unless a link stands above it.
-fn asked_in<W: Worktree>(
+fn parse_asked_path_not_behind_link<W: Worktree>(
     alloc: Global,
     worktree: &mut W,
     root: &[u8],
     prefix: &[u8],
     text: &[u8],
 ) -> Result<AskedPath, Stop>
-    ensures { Finds W.Worktree worktree.old worktree.new
-        (λ t. words.asked_in t root.now prefix.now text.now) result }
+    ensures { FindsInTree W.Worktree worktree.old worktree.new
+        (λ t. words.parse_asked_path_not_behind_link t root.now prefix.now text.now) result }
 {
-    let asked = asked_of(alloc, root, prefix, text)?;
+    let asked = parse_asked_path(alloc, root, prefix, text)?;
     refuse_path_behind_link(alloc, worktree, root, asked)
 }
 
 /// That none of some paths is empty.
-fn none_empty(texts: &[Bytes]) -> Result<bool, Stop>
-    ensures { Decides result (words.none_empty texts.now) }
+fn require_no_empty_paths(texts: &[Bytes]) -> Result<bool, Stop>
+    ensures { AnswersUnlessOutOfMemory result (words.require_no_empty_paths texts.now) }
 {
     for text in texts {
         if text.as_bytes().is_empty() {
@@ -165,36 +166,42 @@ fn none_empty(texts: &[Bytes]) -> Result<bool, Stop>
 }
 
 /// Some paths that are asked about in the directory `prefix`.
-fn asked_after<W: Worktree>(
+fn parse_asked_paths<W: Worktree>(
     alloc: Global,
     worktree: &mut W,
     root: &[u8],
     prefix: &[u8],
     texts: &[Bytes],
 ) -> Result<AskedPaths, Stop>
-    ensures { Finds W.Worktree worktree.old worktree.new
-        (λ t. words.asked_after t root.now prefix.now [] texts.now) result }
+    ensures { FindsInTree W.Worktree worktree.old worktree.new
+        (λ t. words.append_parsed_asked_paths t root.now prefix.now [] texts.now) result }
 {
     let mut done = AskedPaths::new(alloc);
     for text in texts {
-        let asked = asked_in(alloc, worktree, root, prefix, text.as_bytes())?;
+        let asked = parse_asked_path_not_behind_link(
+            alloc,
+            worktree,
+            root,
+            prefix,
+            text.as_bytes(),
+        )?;
         done.push(asked)?;
     }
     Ok(done)
 }
 
 /// The same, if none is empty.
-#[tactic(auto, unfolding(crate::specs::Links::all_asked))]
-pub fn all_asked<W: Worktree>(
+#[tactic(auto, unfolding(crate::specs::Links::parse_nonempty_asked_paths))]
+pub fn parse_nonempty_asked_paths<W: Worktree>(
     alloc: Global,
     worktree: &mut W,
     root: &[u8],
     prefix: &[u8],
     texts: &[Bytes],
 ) -> Result<AskedPaths, Stop>
-    ensures { Finds W.Worktree worktree.old worktree.new
-        (λ t. words.all_asked t root.now prefix.now texts.now) result }
+    ensures { FindsInTree W.Worktree worktree.old worktree.new
+        (λ t. words.parse_nonempty_asked_paths t root.now prefix.now texts.now) result }
 {
-    none_empty(texts)?;
-    asked_after(alloc, worktree, root, prefix, texts)
+    require_no_empty_paths(texts)?;
+    parse_asked_paths(alloc, worktree, root, prefix, texts)
 }

@@ -1,9 +1,9 @@
 //! The stack of ignore rules.
 ghost use Rattle.std.specs.Prelude.{◌≡◌, ◌++◌, [], ◌∷◌, IfOk, OnOk, option_map};
-ghost use Rattle.glob_rules.specs.Ignore.{match_of};
-ghost use Rattle.worktree_stack.specs.Mappings.{case_of};
-ghost use Rattle.worktree_stack.specs.Reading.{Sources};
-ghost use Rattle.worktree_stack.specs.Stacked.{IsInStep, made_of};
+ghost use Rattle.glob_rules.specs.Ignore.{matched_rule_of_match};
+ghost use Rattle.worktree_stack.specs.Mappings.{case_by_ignore_case};
+ghost use Rattle.worktree_stack.specs.Reading.{TreeAndObjects};
+ghost use Rattle.worktree_stack.specs.Stacked.{IsInStepWithTree, setup_of_stack};
 ghost use Rattle.check_ignore.specs.Outer as words;
 
 use crate::found_rule::RulePlace;
@@ -37,12 +37,12 @@ fn list_of(alloc: Global, given: &NamedRules) -> Result<List, OutOfMemory>
 }
 
 /// Adds such rules above others, if there are some.
-fn add_list(
+fn push_list_if_given(
     alloc: Global,
     search: &mut Search,
     given: &Option<NamedRules>,
 ) -> Result<(), OutOfMemory>
-    ensures { OnOk result (search.new ≡ search.old ++ words.lists_of given.now) }
+    ensures { OnOk result (search.new ≡ search.old ++ words.lists_of_optional_rules given.now) }
 {
     match given {
         Some(given) => search.push_list(alloc, list_of(alloc, given)?),
@@ -51,18 +51,21 @@ fn add_list(
 }
 
 /// The rules below those of all directories.
-fn globals_of(alloc: Global, outer: &OuterRules) -> Result<Search, OutOfMemory>
-    ensures { IfOk result (λ search. search ≡ words.globals_of outer.now) }
+fn search_of_user_and_repository_rules(
+    alloc: Global,
+    outer: &OuterRules,
+) -> Result<Search, OutOfMemory>
+    ensures { IfOk result (λ search. search ≡ words.search_of_user_and_repository_rules outer.now) }
 {
     let mut search = Search::new(alloc);
-    add_list(alloc, &mut search, &outer.user)?;
-    add_list(alloc, &mut search, &outer.repository)?;
+    push_list_if_given(alloc, &mut search, &outer.user)?;
+    push_list_if_given(alloc, &mut search, &outer.repository)?;
     Ok(search)
 }
 
 /// Where the list of a match was read.
-pub fn source_of<'a>(found: &Match<'a>) -> &'a [u8]
-    ensures { result.now ≡ words.source_of (match_of found.now) }
+pub fn source_or_empty<'a>(found: &Match<'a>) -> &'a [u8]
+    ensures { result.now ≡ words.source_or_empty (matched_rule_of_match found.now) }
 {
     match found.source {
         Some(source) => source,
@@ -71,19 +74,23 @@ pub fn source_of<'a>(found: &Match<'a>) -> &'a [u8]
 }
 
 /// Where the rule of a match stands.
-fn place_of(alloc: Global, found: &Match<'_>) -> Result<RulePlace, OutOfMemory>
-    ensures { IfOk result (λ place. place ≡ words.place_of (match_of found.now)) }
+fn file_and_line_of_match(alloc: Global, found: &Match<'_>) -> Result<RulePlace, OutOfMemory>
+    ensures { IfOk result (λ place. place ≡ words.file_and_line_of_hit
+        (matched_rule_of_match found.now)) }
 {
     Ok(RulePlace {
-        file: Bytes::from_slice(alloc, source_of(found))?,
+        file: Bytes::from_slice(alloc, source_or_empty(found))?,
         line: found.sequence_number as usize,
     })
 }
 
 /// Where the rule stands, if there is one, and it excludes.
-fn excluding(alloc: Global, found: &Option<Match<'_>>) -> Result<Option<RulePlace>, OutOfMemory>
-    ensures { IfOk result
-        (λ place. place ≡ words.excluding (option_map match_of found.now)) }
+fn place_of_match_if_excluding(
+    alloc: Global,
+    found: &Option<Match<'_>>,
+) -> Result<Option<RulePlace>, OutOfMemory>
+    ensures { IfOk result (λ place. place ≡ words.place_of_match_if_excluding
+        (option_map matched_rule_of_match found.now)) }
 {
     let Some(found) = found else {
         return Ok(None);
@@ -91,12 +98,12 @@ fn excluding(alloc: Global, found: &Option<Match<'_>>) -> Result<Option<RulePlac
     if found.pattern.is_negative() {
         return Ok(None);
     }
-    Ok(Some(place_of(alloc, found)?))
+    Ok(Some(file_and_line_of_match(alloc, found)?))
 }
 
 /// How letters compare.
-fn case_of(ignore_case: bool) -> Case
-    ensures { result ≡ case_of ignore_case }
+fn case_by_ignore_case(ignore_case: bool) -> Case
+    ensures { result ≡ case_by_ignore_case ignore_case }
 {
     if ignore_case {
         Case::Fold
@@ -107,26 +114,28 @@ fn case_of(ignore_case: bool) -> Case
 
 /// Where the rule outside the work tree stands that excludes a path without a name. None where no
 /// rule does.
-pub fn all_excluder(
+pub fn place_of_outer_rule_excluding_top(
     alloc: Global,
     outer: &OuterRules,
     ignore_case: bool,
 ) -> Result<Option<RulePlace>, OutOfMemory>
-    ensures { IfOk result (λ place. place ≡ words.all_excluder outer.now ignore_case) }
+    ensures { IfOk result (λ place. place ≡ words.place_of_outer_rule_excluding_top outer.now
+        ignore_case) }
 {
-    let globals = globals_of(alloc, outer)?;
-    let case = case_of(ignore_case);
+    let globals = search_of_user_and_repository_rules(alloc, outer)?;
+    let case = case_by_ignore_case(ignore_case);
     let found = globals.pattern_matching_relative_path(b"", Some(true), case);
-    excluding(alloc, &found)
+    place_of_match_if_excluding(alloc, &found)
 }
 
 /// The rules, before any directory is looked at.
-fn ignore_of(alloc: Global, outer: &OuterRules) -> Result<Ignore, OutOfMemory>
-    ensures made { IfOk result (λ ignore. ignore.setup ≡ words.rules_of outer.now) }
+fn ignore_of_outer_rules(alloc: Global, outer: &OuterRules) -> Result<Ignore, OutOfMemory>
+    ensures made { IfOk result (λ ignore. ignore.setup ≡ words.ignore_setup_of_outer_rules
+        outer.now) }
     ensures lists { IfOk result (λ ignore. ignore.lists ≡ []) }
     ensures matches { IfOk result (λ ignore. ignore.matches ≡ []) }
 {
-    let globals = globals_of(alloc, outer)?;
+    let globals = search_of_user_and_repository_rules(alloc, outer)?;
     let source = Source::WorktreeThenIdMappingIfNotSkipped;
     let none = Search::new(alloc);
     let ignore = Ignore::new(alloc, none, globals, None, source, PARSE)?;
@@ -135,18 +144,18 @@ fn ignore_of(alloc: Global, outer: &OuterRules) -> Result<Ignore, OutOfMemory>
 
 /// The rules below the top of a work tree, with no directory pushed: they are in step with any tree
 /// and store.
-pub fn stack_of(
+pub fn ignore_stack_of_work_tree(
     alloc: Global,
     root: &[u8],
     index: &Index,
     outer: &OuterRules,
     ignore_case: bool,
 ) -> Result<Stack, OutOfMemory>
-    ensures made { IfOk result (λ stack. made_of stack
-        ≡ words.made_of root.now index.now outer.now ignore_case) }
-    ensures in_step { (s : Sources) → IfOk result (IsInStep s) }
+    ensures made { IfOk result (λ stack. setup_of_stack stack
+        ≡ words.stack_setup_of_work_tree root.now index.now outer.now ignore_case) }
+    ensures in_step { (s : TreeAndObjects) → IfOk result (IsInStepWithTree s) }
 {
-    let ignore = ignore_of(alloc, outer)?;
+    let ignore = ignore_of_outer_rules(alloc, outer)?;
     let root = PathText::from_bytes(alloc, root)?;
     let state = State::IgnoreStack(ignore);
     Stack::from_state_and_ignore_case(alloc, root, ignore_case, state, index)

@@ -32,32 +32,32 @@ fn unescape_letter(byte: u8) -> Option<u8>
 }
 
 /// Whether a byte is an octal digit.
-fn is_octal(byte: u8) -> bool
-    ensures { result ≡ words.is_octal byte }
+fn is_octal_digit(byte: u8) -> bool
+    ensures { result ≡ words.is_octal_digit byte }
 {
     byte >= b'0' && byte < b'8'
 }
 
 /// Whether a byte is an octal digit below 4.
-fn is_high(byte: u8) -> bool
-    ensures { result ≡ words.is_high byte }
+fn is_octal_digit_below_four(byte: u8) -> bool
+    ensures { result ≡ words.is_octal_digit_below_four byte }
 {
     byte >= b'0' && byte < b'4'
 }
 
 /// The byte that three octal digits mean, if these are three, the first of them below 4.
-fn octal(high: u8, middle: u8, low: u8) -> Option<u8>
-    ensures { result ≡ words.octal high middle low }
+fn byte_of_three_octal_digits(high: u8, middle: u8, low: u8) -> Option<u8>
+    ensures { result ≡ words.byte_of_three_octal_digits high middle low }
 {
-    if is_high(high) && is_octal(middle) && is_octal(low) {
+    if is_octal_digit_below_four(high) && is_octal_digit(middle) && is_octal_digit(low) {
         return Some((high - b'0') * 64 + (middle - b'0') * 8 + (low - b'0'));
     }
     None
 }
 
 /// A byte that so many stand for, if there is one.
-fn meant_by(length: usize, byte: Option<u8>) -> Option<Meant>
-    ensures { result ≡ words.meant_by length byte }
+fn decoded_byte_of_length_if_some(length: usize, byte: Option<u8>) -> Option<Meant>
+    ensures { result ≡ words.decoded_byte_of_length_if_some length byte }
 {
     match byte {
         Some(byte) => Some(Meant { byte, length }),
@@ -66,47 +66,50 @@ fn meant_by(length: usize, byte: Option<u8>) -> Option<Meant>
 }
 
 /// What octal digits behind a backslash mean.
-fn digits_at(high: u8, rest: &[u8]) -> Option<Meant>
-    ensures value { result ≡ words.digits_at high rest.now }
+fn decode_octal_escape(high: u8, rest: &[u8]) -> Option<Meant>
+    ensures value { result ≡ words.decode_octal_escape high rest.now }
     ensures within { IfSome result (λ m. m.length ≤ length rest.now + 2) }
     ensures some { IfSome result (λ m. 1 ≤ m.length) }
 {
     match rest {
-        [middle, low, ..] => meant_by(4, octal(high, *middle, *low)),
+        [middle, low, ..] => decoded_byte_of_length_if_some(
+            4,
+            byte_of_three_octal_digits(high, *middle, *low),
+        ),
         _ => None,
     }
 }
 
 /// What is meant behind a backslash.
-fn escape_at(bytes: &[u8]) -> Option<Meant>
-    ensures value { result ≡ words.escape_at bytes.now }
+fn decode_escape(bytes: &[u8]) -> Option<Meant>
+    ensures value { result ≡ words.decode_escape bytes.now }
     ensures within { IfSome result (λ m. m.length ≤ length bytes.now + 1) }
     ensures some { IfSome result (λ m. 1 ≤ m.length) }
 {
     match bytes {
         [first, rest @ ..] => match unescape_letter(*first) {
-            Some(byte) => meant_by(2, Some(byte)),
-            None => digits_at(*first, rest),
+            Some(byte) => decoded_byte_of_length_if_some(2, Some(byte)),
+            None => decode_octal_escape(*first, rest),
         },
         [] => None,
     }
 }
 
 /// What is meant first between quotes, if it is anything.
-fn meant_at(bytes: &[u8]) -> Option<Meant>
-    ensures value { result ≡ words.meant_at bytes.now }
+fn decode_first_byte(bytes: &[u8]) -> Option<Meant>
+    ensures value { result ≡ words.decode_first_byte bytes.now }
     ensures within { IfSome result (λ m. m.length ≤ length bytes.now) }
     ensures some { IfSome result (λ m. 1 ≤ m.length) }
 {
     match bytes {
-        [b'\\', rest @ ..] => escape_at(rest),
-        [byte, ..] => meant_by(1, Some(*byte)),
+        [b'\\', rest @ ..] => decode_escape(rest),
+        [byte, ..] => decoded_byte_of_length_if_some(1, Some(*byte)),
         [] => None,
     }
 }
 
 /// The bytes behind so many.
-fn past(bytes: &[u8], count: usize) -> &[u8]
+fn bytes_after_count(bytes: &[u8], count: usize) -> &[u8]
     requires { count ≤ length bytes.now }
     ensures { result.now ≡ drop count bytes.now }
 {
@@ -120,8 +123,8 @@ fn past(bytes: &[u8], count: usize) -> &[u8]
 /// # Errors
 ///
 /// Memory was refused.
-pub fn unquoted(alloc: Global, bytes: &[u8]) -> Result<Option<Bytes>, OutOfMemory>
-    ensures { IfOk result (λ text. text ≡ words.unquoted 0 bytes.now) }
+pub fn unquote_c_style(alloc: Global, bytes: &[u8]) -> Result<Option<Bytes>, OutOfMemory>
+    ensures { IfOk result (λ text. text ≡ words.unquote_c_style 0 bytes.now) }
 {
     let mut text = Vec::new(alloc);
     let mut rest = bytes;
@@ -129,11 +132,11 @@ pub fn unquoted(alloc: Global, bytes: &[u8]) -> Result<Option<Bytes>, OutOfMemor
         if *first == b'"' {
             return Ok(Some(Bytes::from_vec(text)));
         }
-        let Some(meant) = meant_at(rest) else {
+        let Some(meant) = decode_first_byte(rest) else {
             return Ok(None);
         };
         text.push(meant.byte)?;
-        rest = past(rest, meant.length);
+        rest = bytes_after_count(rest, meant.length);
     }
     Ok(None)
 }

@@ -7,7 +7,12 @@ use gitbase_core::{Bytes, OutOfMemory};
 use std::alloc::Global;
 
 /// A text between two others.
-fn between(alloc: Global, front: &[u8], text: &[u8], back: &[u8]) -> Result<Bytes, OutOfMemory>
+fn concatenate_three(
+    alloc: Global,
+    front: &[u8],
+    text: &[u8],
+    back: &[u8],
+) -> Result<Bytes, OutOfMemory>
     ensures { IfOk result (λ told. told ≡ front.now ++ text.now ++ back.now) }
 {
     let mut told = Bytes::from_slice(alloc, front)?;
@@ -20,7 +25,7 @@ fn between(alloc: Global, front: &[u8], text: &[u8], back: &[u8]) -> Result<Byte
 fn outside(alloc: Global, root: &[u8], text: &[u8]) -> Result<Bytes, OutOfMemory>
     ensures { IfOk result (λ told. told ≡ words.outside root.now text.now) }
 {
-    let mut told = between(alloc, text, b": '", text)?;
+    let mut told = concatenate_three(alloc, text, b": '", text)?;
     told.extend(alloc, b"' is outside repository at '")?;
     told.extend(alloc, root)?;
     told.extend(alloc, b"'")?;
@@ -28,31 +33,31 @@ fn outside(alloc: Global, root: &[u8], text: &[u8]) -> Result<Bytes, OutOfMemory
 }
 
 /// What is told of a path in the submodule at `place`.
-fn inside(alloc: Global, text: &[u8], place: &[u8]) -> Result<Bytes, OutOfMemory>
-    ensures { IfOk result (λ told. told ≡ words.inside text.now place.now) }
+fn inside_submodule_text(alloc: Global, text: &[u8], place: &[u8]) -> Result<Bytes, OutOfMemory>
+    ensures { IfOk result (λ told. told ≡ words.inside_submodule_text text.now place.now) }
 {
-    let mut told = between(alloc, b"Pathspec '", text, b"' is in submodule '")?;
+    let mut told = concatenate_three(alloc, b"Pathspec '", text, b"' is in submodule '")?;
     told.extend(alloc, place)?;
     told.extend(alloc, b"'")?;
     Ok(told)
 }
 
 /// What is told of a path that is not answered here, and why.
-fn unsupported(alloc: Global, why: &[u8], text: &[u8]) -> Result<Bytes, OutOfMemory>
-    ensures { IfOk result (λ told. told ≡ words.unsupported why.now text.now) }
+fn unsupported_text(alloc: Global, why: &[u8], text: &[u8]) -> Result<Bytes, OutOfMemory>
+    ensures { IfOk result (λ told. told ≡ words.unsupported_text why.now text.now) }
 {
-    let mut told = between(alloc, b"check-ignore is not supported with ", why, b": '")?;
+    let mut told = concatenate_three(alloc, b"check-ignore is not supported with ", why, b": '")?;
     told.extend(alloc, text)?;
     told.extend(alloc, b"'")?;
     Ok(told)
 }
 
 /// What is told of the rule in this line of a file outside the work tree, which excludes all.
-fn excluder_text(alloc: Global, file: &[u8], line: usize) -> Result<Bytes, OutOfMemory>
-    ensures { IfOk result (λ told. told ≡ words.excluder_text file.now line) }
+fn excluding_rule_text(alloc: Global, file: &[u8], line: usize) -> Result<Bytes, OutOfMemory>
+    ensures { IfOk result (λ told. told ≡ words.excluding_rule_text file.now line) }
 {
     let digits = format!(in alloc; "{line}")?;
-    let mut told = between(
+    let mut told = concatenate_three(
         alloc,
         b"a rule outside the work tree that excludes all, line ",
         digits.as_bytes(),
@@ -71,10 +76,10 @@ fn everything_excluded_text(
     line: usize,
 ) -> Result<Bytes, OutOfMemory>
     ensures { IfOk result
-        (λ told. told ≡ words.unsupported (words.excluder_text file.now line) text.now) }
+        (λ told. told ≡ words.unsupported_text (words.excluding_rule_text file.now line) text.now) }
 {
-    let why = excluder_text(alloc, file, line)?;
-    unsupported(alloc, why.as_bytes(), text)
+    let why = excluding_rule_text(alloc, file, line)?;
+    unsupported_text(alloc, why.as_bytes(), text)
 }
 
 /// What is told of a refusal in the work tree at `root`, behind `fatal: `; of what git refuses too
@@ -94,17 +99,21 @@ pub fn told(alloc: Global, root: &[u8], stop: &Stop) -> Result<Bytes, OutOfMemor
             please use . instead if you meant to match all paths",
         ),
         Stop::Outside { text } => outside(alloc, root, text.as_bytes()),
-        Stop::Beyond { text } => between(
+        Stop::Beyond { text } => concatenate_three(
             alloc,
             b"pathspec '",
             text.as_bytes(),
             b"' is beyond a symbolic link",
         ),
-        Stop::Inside { text, place } => inside(alloc, text.as_bytes(), place.as_bytes()),
-        Stop::Magic { text } => unsupported(alloc, b"path spec magic", text.as_bytes()),
-        Stop::Elsewhere { text } => unsupported(alloc, b"a path elsewhere", text.as_bytes()),
-        Stop::Prefix { text } => unsupported(alloc, b"wildcards here", text.as_bytes()),
-        Stop::Slash { text } => unsupported(
+        Stop::Inside { text, place } => inside_submodule_text(
+            alloc,
+            text.as_bytes(),
+            place.as_bytes(),
+        ),
+        Stop::Magic { text } => unsupported_text(alloc, b"path spec magic", text.as_bytes()),
+        Stop::Elsewhere { text } => unsupported_text(alloc, b"a path elsewhere", text.as_bytes()),
+        Stop::Prefix { text } => unsupported_text(alloc, b"wildcards here", text.as_bytes()),
+        Stop::Slash { text } => unsupported_text(
             alloc,
             b"a directory that is neither tracked nor ignored",
             text.as_bytes(),
@@ -112,7 +121,7 @@ pub fn told(alloc: Global, root: &[u8], stop: &Stop) -> Result<Bytes, OutOfMemor
         Stop::Everything { text, file, line } => {
             everything_excluded_text(alloc, text.as_bytes(), file.as_bytes(), *line)
         }
-        Stop::Unread { text } => unsupported(
+        Stop::Unread { text } => unsupported_text(
             alloc,
             b"a rules file that is not read",
             text.as_bytes(),

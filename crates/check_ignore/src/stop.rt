@@ -87,9 +87,9 @@ impl From<OutOfMemory> for Stop {
 
 impl From<ReadError> for Stop {
     ghost use Rattle.std.specs.Prelude.{◌≡◌};
-    ghost use Rattle.check_ignore.specs.Finds.{of_read};
+    ghost use Rattle.check_ignore.specs.Finds.{stop_of_read_error};
 
-    ghost from_gives = { λ refused e. e ≡ of_read refused };
+    ghost from_gives = { λ refused e. e ≡ stop_of_read_error refused };
 
     fn from(refused: ReadError) -> Stop {
         match refused {

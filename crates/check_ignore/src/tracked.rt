@@ -1,26 +1,26 @@
 //! What the index has of paths that are asked about.
 ghost use Rattle.std.specs.Prelude.{◌≡◌, find, option_copied};
 ghost use Rattle.std.specs.List.{list_any};
-ghost use Rattle.check_ignore.specs.Finds.{Decides};
+ghost use Rattle.check_ignore.specs.Finds.{AnswersUnlessOutOfMemory};
 ghost use Rattle.check_ignore.specs.Tracked as words;
 
 use crate::asked::AskedPath;
 use crate::stop::Stop;
-use gitbase_core::{Bytes, IndexEntry, lies_beneath};
+use gitbase_core::{Bytes, IndexEntry, is_beneath_directory};
 use glob_rules::pathspec::{Matcher, Search};
 use std::alloc::Global;
 
-fn is_module(entry: &IndexEntry) -> bool
-    ensures { result ≡ words.is_module entry.now }
+fn is_submodule_entry(entry: &IndexEntry) -> bool
+    ensures { result ≡ words.is_entry_of_submodule entry.now }
 {
     entry.mode.is_submodule()
 }
 
 /// Whether a path spec takes an entry.
-fn takes_entry(spec: &Search, entry: &IndexEntry) -> bool
-    ensures { result ≡ words.takes_entry spec.now entry.now }
+fn is_entry_matched_by_spec(spec: &Search, entry: &IndexEntry) -> bool
+    ensures { result ≡ words.is_entry_matched_by_spec spec.now entry.now }
 {
-    let is_dir = is_module(entry);
+    let is_dir = is_submodule_entry(entry);
     match spec.pattern_matching_relative_path(entry.path.as_bytes(), Some(is_dir)) {
         Some(found) => !found.is_excluded(),
         None => false,
@@ -28,47 +28,49 @@ fn takes_entry(spec: &Search, entry: &IndexEntry) -> bool
 }
 
 /// Whether the index has a path, or what lies beneath it.
-pub fn is_tracked(index: &[IndexEntry], spec: &Search) -> bool
-    ensures { result ≡ words.is_tracked index.now spec.now }
+pub fn is_any_entry_matched_by_spec(index: &[IndexEntry], spec: &Search) -> bool
+    ensures { result ≡ words.is_any_entry_matched_by_spec index.now spec.now }
 {
-    index.iter().any(|entry| takes_entry(spec, entry))
+    index
+        .iter()
+        .any(|entry| is_entry_matched_by_spec(spec, entry))
 }
 
-fn is_whole_directory(entry: &IndexEntry) -> bool
-    ensures { result ≡ words.is_whole_directory entry.now }
+fn is_sparse_directory_entry(entry: &IndexEntry) -> bool
+    ensures { result ≡ words.is_entry_of_sparse_directory entry.now }
 {
     entry.mode.is_sparse()
 }
 
-fn some_sparse(index: &[IndexEntry]) -> bool
-    ensures { result ≡ list_any words.is_whole_directory index.now }
+fn has_sparse_directory_entry(index: &[IndexEntry]) -> bool
+    ensures { result ≡ list_any words.is_entry_of_sparse_directory index.now }
 {
-    index.iter().any(is_whole_directory)
+    index.iter().any(is_sparse_directory_entry)
 }
 
 /// That no entry stands for all that is beneath a directory.
 pub fn refuse_sparse_index(index: &[IndexEntry]) -> Result<bool, Stop>
-    ensures { Decides result (words.refuse_sparse_index index.now) }
+    ensures { AnswersUnlessOutOfMemory result (words.refuse_sparse_index index.now) }
 {
-    if some_sparse(index) {
+    if has_sparse_directory_entry(index) {
         return Err(Stop::SparseIndex);
     }
     Ok(true)
 }
 
 /// Whether a path lies in the submodule of an entry.
-fn lies_in(entry: &IndexEntry, asked: &AskedPath) -> bool
-    ensures { result ≡ words.lies_in entry.now asked.now }
+fn lies_beneath_entry(entry: &IndexEntry, asked: &AskedPath) -> bool
+    ensures { result ≡ words.lies_beneath_entry entry.now asked.now }
 {
-    lies_beneath(entry.path.as_bytes(), asked.path.as_bytes())
+    is_beneath_directory(entry.path.as_bytes(), asked.path.as_bytes())
 }
 
 /// The first path that does.
-fn first_in<'a>(entry: &IndexEntry, asked: &'a [AskedPath]) -> Option<&'a AskedPath>
-    ensures { option_copied result ≡ find (words.lies_in entry.now) asked.now }
+fn first_path_beneath_entry<'a>(entry: &IndexEntry, asked: &'a [AskedPath]) -> Option<&'a AskedPath>
+    ensures { option_copied result ≡ find (words.lies_beneath_entry entry.now) asked.now }
 {
     for one in asked {
-        if lies_in(entry, one) {
+        if lies_beneath_entry(entry, one) {
             return Some(one);
         }
     }
@@ -76,13 +78,18 @@ fn first_in<'a>(entry: &IndexEntry, asked: &'a [AskedPath]) -> Option<&'a AskedP
 }
 
 /// That none does, if the entry is that of a submodule.
-fn outside_of(alloc: Global, asked: &[AskedPath], entry: &IndexEntry) -> Result<bool, Stop>
-    ensures { Decides result (words.outside_of asked.now entry.now) }
+fn refuse_paths_in_entry_if_submodule(
+    alloc: Global,
+    asked: &[AskedPath],
+    entry: &IndexEntry,
+) -> Result<bool, Stop>
+    ensures { AnswersUnlessOutOfMemory result (words.refuse_paths_in_entry_if_submodule asked.now
+        entry.now) }
 {
-    if !is_module(entry) {
+    if !is_submodule_entry(entry) {
         return Ok(true);
     }
-    match first_in(entry, asked) {
+    match first_path_beneath_entry(entry, asked) {
         Some(one) => Err(Stop::Inside {
             text: Bytes::from_slice(alloc, one.text.as_bytes())?,
             place: Bytes::from_slice(alloc, entry.path.as_bytes())?,
@@ -97,10 +104,11 @@ pub fn refuse_paths_in_submodules(
     asked: &[AskedPath],
     index: &[IndexEntry],
 ) -> Result<bool, Stop>
-    ensures { Decides result (words.refuse_paths_in_submodules asked.now index.now) }
+    ensures { AnswersUnlessOutOfMemory result (words.refuse_paths_in_submodules asked.now
+        index.now) }
 {
     for entry in index {
-        outside_of(alloc, asked, entry)?;
+        refuse_paths_in_entry_if_submodule(alloc, asked, entry)?;
     }
     Ok(true)
 }

@@ -24,7 +24,7 @@ pub enum WrongCheck {
 impl WrongCheck {
     /// What git tells of it, behind `fatal: `.
     pub fn text(&self) -> &'static [u8]
-        ensures { result.now ≡ words.wrong_text self.now }
+        ensures { result.now ≡ words.message_of_wrong_check self.now }
     {
         match self {
             WrongCheck::PathsWithStdin => b"cannot specify pathnames with --stdin",
@@ -38,8 +38,8 @@ impl WrongCheck {
 }
 
 /// What is wrong with where so many paths come from.
-fn wrong_paths(checking: &Checking, count: usize) -> Option<WrongCheck>
-    ensures { result ≡ words.wrong_paths checking.now count }
+fn stdin_or_path_count_error(checking: &Checking, count: usize) -> Option<WrongCheck>
+    ensures { result ≡ words.stdin_or_path_count_error checking.now count }
 {
     if checking.stdin {
         return if count > 0 {
@@ -58,8 +58,8 @@ fn wrong_paths(checking: &Checking, count: usize) -> Option<WrongCheck>
 }
 
 /// What is wrong with what is to be written of so many paths.
-fn wrong_writing(checking: &Checking, count: usize) -> Option<WrongCheck>
-    ensures { result ≡ words.wrong_writing checking.now count }
+fn output_option_error(checking: &Checking, count: usize) -> Option<WrongCheck>
+    ensures { result ≡ words.output_option_error checking.now count }
 {
     if checking.quiet & (count > 1) {
         return Some(WrongCheck::QuietOfMany);
@@ -74,11 +74,11 @@ fn wrong_writing(checking: &Checking, count: usize) -> Option<WrongCheck>
 }
 
 /// Why nothing is asked of so many paths, the first reason; none where it is.
-pub fn wrong_in(checking: &Checking, count: usize) -> Option<WrongCheck>
-    ensures { result ≡ words.wrong_in checking.now count }
+pub fn first_option_error(checking: &Checking, count: usize) -> Option<WrongCheck>
+    ensures { result ≡ words.first_option_error checking.now count }
 {
-    match wrong_paths(checking, count) {
+    match stdin_or_path_count_error(checking, count) {
         Some(wrong) => Some(wrong),
-        None => wrong_writing(checking, count),
+        None => output_option_error(checking, count),
     }
 }

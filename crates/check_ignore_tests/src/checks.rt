@@ -2,10 +2,14 @@
 use crate::answers::{REFUSED, ROWS, TREES};
 use crate::given::{checking_of, index_of, leaves_index, outer_of, paths_of};
 use bstr::ByteSlice;
-use check_ignore::{Answered, CheckContext, OuterRules, Stop, check_asked, told, wrong_in};
+use check_ignore::{
+    Answered, CheckContext, OuterRules, Stop, check_paths_or_stdin, first_option_error, told,
+};
 use gitbase_core::{Bytes, State};
 use std::alloc::Global;
-use test_cases::{lines_of, number, split_at_byte, tree_of};
+use test_cases::{
+    parse_saturating_decimal, replace_marks_by_line_feeds, split_at_byte, tree_from_steps,
+};
 use worktree_fs::MemoryWorktree;
 
 /// The status, what is written, and what stands behind `fatal: `, as a row has them.
@@ -42,7 +46,7 @@ fn text_of(
     input: &[u8],
 ) -> Option<Vec<u8>> {
     let checking = checking_of(options);
-    if let Some(wrong) = wrong_in(&checking, paths.len()) {
+    if let Some(wrong) = first_option_error(&checking, paths.len()) {
         return answer_text(alloc, b"128", b"", wrong.text());
     }
     let context = CheckContext {
@@ -52,7 +56,7 @@ fn text_of(
         outer,
         checking: &checking,
     };
-    match check_asked(alloc, tree, &context, paths, input) {
+    match check_paths_or_stdin(alloc, tree, &context, paths, input) {
         Ok(answered) => answered_text(alloc, &answered),
         Err(stop) => stopped_text(alloc, &stop),
     }
@@ -60,7 +64,7 @@ fn text_of(
 
 /// The tree of a number.
 fn tree_at(digits: &[u8]) -> Option<&'static [u8]> {
-    TREES.lines().nth(number(digits))
+    TREES.lines().nth(parse_saturating_decimal(digits))
 }
 
 /// What is answered in a tree.
@@ -77,7 +81,7 @@ fn text_in(
     let words: &[u8] = if leaves_index(options) { b"" } else { words };
     let index = index_of(alloc, words)?;
     let outer = outer_of(alloc, outer)?;
-    let mut tree = tree_of(alloc, steps, b'$')?;
+    let mut tree = tree_from_steps(alloc, steps, b'$')?;
     text_of(
         alloc, &mut tree, prefix, &index, &outer, options, paths, input,
     )
@@ -90,10 +94,10 @@ fn both(alloc: Global, row: &[u8]) -> Option<(Vec<u8>, Vec<u8>)> {
     let (options, rest) = split_at_byte(rest, b'^');
     let (count, rest) = split_at_byte(rest, b'^');
     let (words, want) = split_at_byte(rest, b'^');
-    let paths = paths_of(alloc, number(count), words)?;
-    let input = lines_of(alloc, words, b'$')?;
+    let paths = paths_of(alloc, parse_saturating_decimal(count), words)?;
+    let input = replace_marks_by_line_feeds(alloc, words, b'$')?;
     let text = text_in(alloc, tree_at(tree)?, prefix, options, &paths, &input)?;
-    Some((text, lines_of(alloc, want, b'$')?))
+    Some((text, replace_marks_by_line_feeds(alloc, want, b'$')?))
 }
 
 /// Whether a row is met.

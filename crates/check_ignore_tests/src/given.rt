@@ -3,7 +3,7 @@ use check_ignore::{Checking, NamedRules, OuterRules};
 use gitbase_core::{Bytes, Flags, IndexEntry, Mode, ObjectId, PathText, State};
 use hex;
 use std::alloc::Global;
-use test_cases::{lines_of, split_at_byte};
+use test_cases::{replace_marks_by_line_feeds, split_at_byte};
 
 /// What is asked where there is no word.
 fn usual() -> Checking {
@@ -92,7 +92,7 @@ fn rules_of(alloc: Global, word: &[u8]) -> Option<NamedRules> {
     let (name, text) = split_at_byte(word, b'=');
     Some(NamedRules {
         name: Bytes::from_slice(alloc, name).ok()?,
-        bytes: Bytes::from_vec(lines_of(alloc, text, b'$')?),
+        bytes: Bytes::from_vec(replace_marks_by_line_feeds(alloc, text, b'$')?),
     })
 }
 

@@ -8,21 +8,21 @@ use Rattle.std.proofs.lemmas.Bool.Decides.{Decides-eqb, eqb_tells}
 use Rattle.std.proofs.lemmas.List.{drop_at, drop_more, length-take-le, take_at, take-append-drop}
 use Rattle.std.proofs.lemmas.Slice.Eq.{starts_is}
 use Rattle.std.specs.Cmp.Lexicographic.{same_text}
-use Rattle.gitbase_core.specs.Path.{is_slash, is_top, lies_beneath, rest_beneath}
-use Rattle.clean_plan.specs.Above.{fronts, some_above, some_front}
+use Rattle.gitbase_core.specs.Path.{is_slash, is_empty_or_root_path, is_beneath_directory, rest_without_separating_slash}
+use Rattle.clean_plan.specs.Above.{prefixes_shorter_than_length, any_ancestor_passes, any_ancestor_below_length_passes}
 
 -- a path goes on behind a directory, which is the top, or behind which a slash stands
 pub record GoesOn (d path : List ℕ) : Type 0 where
   pub byte : ℕ
   pub rest : List ℕ
   pub is : path ≡ d ++ byte ∷ rest
-  pub parted : (is_top d || is_slash byte) ≡ true
+  pub parted : (is_empty_or_root_path d || is_slash byte) ≡ true
 
 some_then : (b : Bool) (found : Option (List ℕ)) → is_some (cond b found None) ≡ true → (b ≡ true) × (is_some found ≡ true)
 some_then true found h = (refl, h)
 some_then false found h = absurd (cc h)
 
-step-is : (top : Bool) (b : ℕ) (rest : List ℕ) → is_some (rest_beneath top (b ∷ rest)) ≡ (top || is_slash b)
+step-is : (top : Bool) (b : ℕ) (rest : List ℕ) → is_some (rest_without_separating_slash top (b ∷ rest)) ≡ (top || is_slash b)
 step-is true b rest = refl
 step-is false b rest = go (is_slash b)
   where
@@ -30,25 +30,25 @@ step-is false b rest = go (is_slash b)
     go true = refl
     go false = refl
 
-pub beneath-is : (d : List ℕ) (b : ℕ) (rest : List ℕ) → lies_beneath d (d ++ b ∷ rest) ≡ (is_top d || is_slash b)
+pub beneath-is : (d : List ℕ) (b : ℕ) (rest : List ℕ) → is_beneath_directory d (d ++ b ∷ rest) ≡ (is_empty_or_root_path d || is_slash b)
 beneath-is d b rest =
     let path : List ℕ = d ++ b ∷ rest in
     let begins = (starts_is Decides-eqb path d (starts_with nat_eq path d) refl).1 (b ∷ rest) refl in
-    ap is_some (cond-true (starts_with nat_eq path d) (rest_beneath (is_top d) (drop (length d) path)) None begins)
-    ∙ ap (λ (r : List ℕ). is_some (rest_beneath (is_top d) r)) (drop_at d (b ∷ rest) (length d) refl)
-    ∙ step-is (is_top d) b rest
+    ap is_some (cond-true (starts_with nat_eq path d) (rest_without_separating_slash (is_empty_or_root_path d) (drop (length d) path)) None begins)
+    ∙ ap (λ (r : List ℕ). is_some (rest_without_separating_slash (is_empty_or_root_path d) r)) (drop_at d (b ∷ rest) (length d) refl)
+    ∙ step-is (is_empty_or_root_path d) b rest
 
-pub goes-on : (d path : List ℕ) → lies_beneath d path ≡ true → GoesOn d path
+pub goes-on : (d path : List ℕ) → is_beneath_directory d path ≡ true → GoesOn d path
 goes-on d path h =
-    let both = some_then (starts_with nat_eq path d) (rest_beneath (is_top d) (drop (length d) path)) h in
+    let both = some_then (starts_with nat_eq path d) (rest_without_separating_slash (is_empty_or_root_path d) (drop (length d) path)) h in
     go (drop (length d) path) ((starts_is Decides-eqb path d (starts_with nat_eq path d) refl).0 both.0) both.1
   where
-    go : (rest : List ℕ) → path ≡ d ++ rest → is_some (rest_beneath (is_top d) rest) ≡ true → GoesOn d path
+    go : (rest : List ℕ) → path ≡ d ++ rest → is_some (rest_without_separating_slash (is_empty_or_root_path d) rest) ≡ true → GoesOn d path
     go [] e k = absurd (cc k)
-    go (b ∷ rest) e k = record { byte = b; rest = rest; is = e; parted = sym (step-is (is_top d) b rest) ∙ k }
+    go (b ∷ rest) e k = record { byte = b; rest = rest; is = e; parted = sym (step-is (is_empty_or_root_path d) b rest) ∙ k }
 
-pub beneath-on : (d path : List ℕ) → GoesOn d path → lies_beneath d path ≡ true
-beneath-on d path h = ap (lies_beneath d) h.is ∙ beneath-is d h.byte h.rest ∙ h.parted
+pub beneath-on : (d path : List ℕ) → GoesOn d path → is_beneath_directory d path ≡ true
+beneath-on d path h = ap (is_beneath_directory d) h.is ∙ beneath-is d h.byte h.rest ∙ h.parted
 
 -- ---- in bytes
 
@@ -88,16 +88,16 @@ same-front (x ∷ a) (y ∷ b) r s e same =
 
 -- ---- directories above one another
 
-pub above-shorter : (d path : List ℕ) → lies_beneath d path ≡ true → length d < length path
+pub above-shorter : (d path : List ℕ) → is_beneath_directory d path ≡ true → length d < length path
 above-shorter d path h =
     let on : GoesOn d path = goes-on d path h in
     omega (arith, ap length on.is, length-append d (on.byte ∷ on.rest))
 
-pub above-front : (d path : List ℕ) → lies_beneath d path ≡ true → take (length d) path ≡ d
+pub above-front : (d path : List ℕ) → is_beneath_directory d path ≡ true → take (length d) path ≡ d
 above-front d path h = let on : GoesOn d path = goes-on d path h in ap (take (length d)) on.is ∙ take_at d (on.byte ∷ on.rest) (length d) refl
 
 -- what lies beneath what lies beneath
-pub above-then : (a b c : List ℕ) → lies_beneath a b ≡ true → lies_beneath b c ≡ true → lies_beneath a c ≡ true
+pub above-then : (a b c : List ℕ) → is_beneath_directory a b ≡ true → is_beneath_directory b c ≡ true → is_beneath_directory a c ≡ true
 above-then a b c h k =
     let one : GoesOn a b = goes-on a b h in
     let two : GoesOn b c = goes-on b c k in
@@ -109,7 +109,7 @@ above-then a b c h k =
     })
 
 -- of two directories above one path the shorter one is above the longer one
-pub above-longer : (a b c : List ℕ) → lies_beneath a c ≡ true → lies_beneath b c ≡ true → length a < length b → lies_beneath a b ≡ true
+pub above-longer : (a b c : List ℕ) → is_beneath_directory a c ≡ true → is_beneath_directory b c ≡ true → length a < length b → is_beneath_directory a b ≡ true
 above-longer a b c h k short =
     let one : GoesOn a c = goes-on a c h in
     let two : GoesOn b c = goes-on b c k in
@@ -118,23 +118,23 @@ above-longer a b c h k short =
       byte = front.byte;
       rest = front.between;
       is = front.is;
-      parted = ap (λ (n : ℕ). is_top a || is_slash n) (sym (first one.byte front.byte one.rest (front.between ++ two.byte ∷ two.rest) front.rest_is)) ∙ one.parted;
+      parted = ap (λ (n : ℕ). is_empty_or_root_path a || is_slash n) (sym (first one.byte front.byte one.rest (front.between ++ two.byte ∷ two.rest) front.rest_is)) ∙ one.parted;
     })
   where
     first : (x y : ℕ) (r s : List ℕ) → (x ∷ r) ≡ (y ∷ s) → x ≡ y
     first x y r s e = ap head_of e
 
 -- and two as long are one
-pub above-same : (a b c : List ℕ) → lies_beneath a c ≡ true → lies_beneath b c ≡ true → length a ≡ length b → a ≡ b
+pub above-same : (a b c : List ℕ) → is_beneath_directory a c ≡ true → is_beneath_directory b c ≡ true → length a ≡ length b → a ≡ b
 above-same a b c h k same =
     let one : GoesOn a c = goes-on a c h in
     let two : GoesOn b c = goes-on b c k in
     same-front a b (one.byte ∷ one.rest) (two.byte ∷ two.rest) (sym one.is ∙ two.is) same
 
 -- whether a front of a path is above it
-pub front-is : (path : List ℕ) (at : ℕ) → at < length path → lies_beneath (take at path) path ≡ (is_top (take at path) || is_slash (get_or path at 0))
+pub front-is : (path : List ℕ) (at : ℕ) → at < length path → is_beneath_directory (take at path) path ≡ (is_empty_or_root_path (take at path) || is_slash (get_or path at 0))
 front-is path at short =
-    ap (lies_beneath (take at path)) (sym (take-append-drop at path) ∙ ap (λ (r : List ℕ). take at path ++ r) (drop_more path at 0 short))
+    ap (is_beneath_directory (take at path)) (sym (take-append-drop at path) ∙ ap (λ (r : List ℕ). take at path ++ r) (drop_more path at 0 short))
     ∙ beneath-is (take at path) (get_or path at 0) (drop (at + 1) path)
 
 -- ---- some directory
@@ -157,50 +157,50 @@ and_none false b h e = absurd (cc e)
 
 pub record FoundAbove (test : List ℕ → Bool) (n : ℕ) (path : List ℕ) : Type 0 where
   pub directory : List ℕ
-  pub is_above : lies_beneath directory path ≡ true
+  pub is_above : is_beneath_directory directory path ≡ true
   pub passes : test directory ≡ true
 
-pub found-front : (test : List ℕ → Bool) (n : ℕ) (path : List ℕ) → some_front test n path ≡ true → FoundAbove test n path
-unfolding fronts
+pub found-front : (test : List ℕ → Bool) (n : ℕ) (path : List ℕ) → any_ancestor_below_length_passes test n path ≡ true → FoundAbove test n path
+unfolding prefixes_shorter_than_length
 found-front test zero path h = absurd (cc h)
-found-front test (suc n) path h = go (or_cases (lies_beneath (take n path) path && test (take n path)) (some_front test n path) h) (found-front test n path)
+found-front test (suc n) path h = go (or_cases (is_beneath_directory (take n path) path && test (take n path)) (any_ancestor_below_length_passes test n path) h) (found-front test n path)
   where
-    go : ((lies_beneath (take n path) path && test (take n path)) ≡ true) ⊎ (some_front test n path ≡ true)
-        → (some_front test n path ≡ true → FoundAbove test n path) → FoundAbove test (suc n) path
-    go (inl e) later = let both = and_both (lies_beneath (take n path) path) (test (take n path)) e in record { directory = take n path; is_above = both.0; passes = both.1 }
+    go : ((is_beneath_directory (take n path) path && test (take n path)) ≡ true) ⊎ (any_ancestor_below_length_passes test n path ≡ true)
+        → (any_ancestor_below_length_passes test n path ≡ true → FoundAbove test n path) → FoundAbove test (suc n) path
+    go (inl e) later = let both = and_both (is_beneath_directory (take n path) path) (test (take n path)) e in record { directory = take n path; is_above = both.0; passes = both.1 }
     go (inr e) later = let more : FoundAbove test n path = later e in record { directory = more.directory; is_above = more.is_above; passes = more.passes }
 
-pub no-front : (test : List ℕ → Bool) (n : ℕ) (path d : List ℕ) → some_front test n path ≡ false → lies_beneath d path ≡ true → length d < n → test d ≡ false
-unfolding fronts
+pub no-front : (test : List ℕ → Bool) (n : ℕ) (path d : List ℕ) → any_ancestor_below_length_passes test n path ≡ false → is_beneath_directory d path ≡ true → length d < n → test d ≡ false
+unfolding prefixes_shorter_than_length
 no-front test zero path d h beneath short = absurd (omega (arith, short))
 no-front test (suc n) path d h beneath short =
-    let both = or_none (lies_beneath (take n path) path && test (take n path)) (some_front test n path) h in
+    let both = or_none (is_beneath_directory (take n path) path && test (take n path)) (any_ancestor_below_length_passes test n path) h in
     go (eqb_tells (length d) n) both.0 (λ shorter. no-front test n path d both.1 beneath shorter)
   where
     go : ((eqb (length d) n ≡ true) × (length d ≡ n)) ⊎ ((eqb (length d) n ≡ false) × (length d ≢ n))
-        → (lies_beneath (take n path) path && test (take n path)) ≡ false → (length d < n → test d ≡ false) → test d ≡ false
+        → (is_beneath_directory (take n path) path && test (take n path)) ≡ false → (length d < n → test d ≡ false) → test d ≡ false
     go (inl e) here more =
         let same : take n path ≡ d = ap (λ (k : ℕ). take k path) (sym e.1) ∙ above-front d path beneath in
-        and_none (lies_beneath d path) (test d) (subst (λ (x : List ℕ). (lies_beneath x path && test x) ≡ false) same here) beneath
+        and_none (is_beneath_directory d path) (test d) (subst (λ (x : List ℕ). (is_beneath_directory x path && test x) ≡ false) same here) beneath
     go (inr e) here more = more (omega (arith, short, e.1))
 
-pub none-above : (test : List ℕ → Bool) (path d : List ℕ) → some_above test path ≡ false → lies_beneath d path ≡ true → test d ≡ false
+pub none-above : (test : List ℕ → Bool) (path d : List ℕ) → any_ancestor_passes test path ≡ false → is_beneath_directory d path ≡ true → test d ≡ false
 none-above test path d h beneath = no-front test (length path) path d h beneath (above-shorter d path beneath)
 
 -- the other way round
-pub none-front : (test : List ℕ → Bool) (n : ℕ) (path : List ℕ) → ((d : List ℕ) → lies_beneath d path ≡ true → test d ≡ false) → some_front test n path ≡ false
-unfolding fronts
+pub none-front : (test : List ℕ → Bool) (n : ℕ) (path : List ℕ) → ((d : List ℕ) → is_beneath_directory d path ≡ true → test d ≡ false) → any_ancestor_below_length_passes test n path ≡ false
+unfolding prefixes_shorter_than_length
 none-front test zero path h = refl
-none-front test (suc n) path h = go (lies_beneath (take n path) path) refl (none-front test n path h)
+none-front test (suc n) path h = go (is_beneath_directory (take n path) path) refl (none-front test n path h)
   where
-    go : (b : Bool) → lies_beneath (take n path) path ≡ b → some_front test n path ≡ false → ((b && test (take n path)) || some_front test n path) ≡ false
-    go true e more = ap (λ (x : Bool). x || some_front test n path) (h (take n path) e) ∙ more
+    go : (b : Bool) → is_beneath_directory (take n path) path ≡ b → any_ancestor_below_length_passes test n path ≡ false → ((b && test (take n path)) || any_ancestor_below_length_passes test n path) ≡ false
+    go true e more = ap (λ (x : Bool). x || any_ancestor_below_length_passes test n path) (h (take n path) e) ∙ more
     go false e more = more
 
-pub some-above : (test : List ℕ → Bool) (path d : List ℕ) → lies_beneath d path ≡ true → test d ≡ true → some_above test path ≡ true
-some-above test path d beneath passes = go (some_above test path) refl
+pub some-above : (test : List ℕ → Bool) (path d : List ℕ) → is_beneath_directory d path ≡ true → test d ≡ true → any_ancestor_passes test path ≡ true
+some-above test path d beneath passes = go (any_ancestor_passes test path) refl
   where
-    go : (b : Bool) → some_above test path ≡ b → some_above test path ≡ true
+    go : (b : Bool) → any_ancestor_passes test path ≡ b → any_ancestor_passes test path ≡ true
     go true e = e
     go false e = absurd (true≢false (sym passes ∙ none-above test path d e beneath))
 
@@ -222,21 +222,21 @@ not-less a b e = go (cases_lt a b)
 
 -- a directory above a path that is no longer than a front is that front or is shorter
 pub front-step : (path other : List ℕ) (n : ℕ) → n < length path
-    → ((lies_beneath (take n path) path && bytes_eq other (take n path)) || (lies_beneath other path && nat_lt (length other) n)) ≡ (lies_beneath other path && nat_lt (length other) (n + 1))
+    → ((is_beneath_directory (take n path) path && bytes_eq other (take n path)) || (is_beneath_directory other path && nat_lt (length other) n)) ≡ (is_beneath_directory other path && nat_lt (length other) (n + 1))
 front-step path other n short =
     let front : List ℕ = take n path in
     let long : length front ≡ n = length-take-le n path (omega (arith, short)) in
-    step-cases (lies_beneath front path && bytes_eq other front) (lies_beneath other path) (nat_lt (length other) n) (nat_lt (length other) (n + 1))
+    step-cases (is_beneath_directory front path && bytes_eq other front) (is_beneath_directory other path) (nat_lt (length other) n) (nat_lt (length other) (n + 1))
     (λ e.
-    let both = and_both (lies_beneath front path) (bytes_eq other front) e in
+    let both = and_both (is_beneath_directory front path) (bytes_eq other front) e in
     let same : other ≡ front = same_text other front (sym both.1) in
-    (ap (λ (d : List ℕ). lies_beneath d path) same ∙ both.0, lt-ltb (length other) (n + 1) (omega (arith, ap length same, long))))
+    (ap (λ (d : List ℕ). is_beneath_directory d path) same ∙ both.0, lt-ltb (length other) (n + 1) (omega (arith, ap length same, long))))
     (λ e. let less = ltb-true (length other) n e in lt-ltb (length other) (n + 1) (omega (arith, less)))
     (λ beneath up down.
     let less = ltb-true (length other) (n + 1) up in
     let same : length other ≡ n = omega (arith, less, not-less (length other) n down) in
     let is : other ≡ front = sym (above-front other path beneath) ∙ ap (λ (k : ℕ). take k path) same in
-    both-true (lies_beneath front path) (bytes_eq other front) (ap (λ (d : List ℕ). lies_beneath d path) (sym is) ∙ beneath) (ap (bytes_eq other) (sym is) ∙ nat_list_eq_equiv.refl other))
+    both-true (is_beneath_directory front path) (bytes_eq other front) (ap (λ (d : List ℕ). is_beneath_directory d path) (sym is) ∙ beneath) (ap (bytes_eq other) (sym is) ∙ nat_list_eq_equiv.refl other))
   where
     both-true : (a b : Bool) → a ≡ true → b ≡ true → (a && b) ≡ true
     both-true a b e f = rw (e, f) refl

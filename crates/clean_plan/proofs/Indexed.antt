@@ -3,11 +3,11 @@ use Rattle.std.proofs.Common.{◌≡◌, ℕ, suc, ◌+◌, List, [], ◌∷◌,
 use Rattle.std.proofs.lemmas.Bool.{lt-ltb, ltb-true, true≢false}
 use Rattle.std.specs.Prelude.{is_some, nat_lt, option_map}
 use Rattle.std.specs.List.{position_or_len}
-use Rattle.gitbase_core.specs.Index.{begins_with, prefixed_range}
-use Rattle.gitbase_core.specs.Kinds.{entries_beneath}
-use Rattle.gitbase_core.specs.Path.{is_empty, is_top}
+use Rattle.gitbase_core.specs.Index.{entry_path_begins_with, entry_range_with_path_prefix}
+use Rattle.gitbase_core.specs.Kinds.{entries_beneath_path}
+use Rattle.gitbase_core.specs.Path.{is_empty, is_empty_or_root_path}
 use Rattle.gitbase_core.specs.declared.entry.IndexEntry.{IndexEntry}
-use Rattle.clean_plan.specs.Kept.{are_some}
+use Rattle.clean_plan.specs.Kept.{is_nonempty_entry_list}
 
 one-less : (a b : ℕ) → nat_lt (1 + a) (suc b) ≡ nat_lt a b
 one-less a b = go (nat_lt (1 + a) (suc b)) (nat_lt a b) refl refl
@@ -18,12 +18,12 @@ one-less a b = go (nat_lt (1 + a) (suc b)) (nat_lt a b) refl refl
     go true false e f = let less = ltb-true (1 + a) (suc b) e in absurd (true≢false (sym (lt-ltb a b (omega (arith, less))) ∙ f))
     go false true e f = let less = ltb-true a b f in absurd (true≢false (sym (lt-ltb (1 + a) (suc b) (omega (arith, less))) ∙ e))
 
-some-position : (p : IndexEntry → Bool) (entries : List IndexEntry) → nat_lt (position_or_len p entries) (length entries) ≡ are_some (filter p entries)
+some-position : (p : IndexEntry → Bool) (entries : List IndexEntry) → nat_lt (position_or_len p entries) (length entries) ≡ is_nonempty_entry_list (filter p entries)
 some-position p [] = refl
 some-position p (e ∷ entries) = go (p e) refl (some-position p entries)
   where
-    go : (b : Bool) → p e ≡ b → nat_lt (position_or_len p entries) (length entries) ≡ are_some (filter p entries)
-        → nat_lt (cond (not b) (1 + position_or_len p entries) 0) (suc (length entries)) ≡ are_some (cond b (e ∷ filter p entries) (filter p entries))
+    go : (b : Bool) → p e ≡ b → nat_lt (position_or_len p entries) (length entries) ≡ is_nonempty_entry_list (filter p entries)
+        → nat_lt (cond (not b) (1 + position_or_len p entries) 0) (suc (length entries)) ≡ is_nonempty_entry_list (cond b (e ∷ filter p entries) (filter p entries))
     go true is more = lt-ltb 0 (suc (length entries)) (omega arith)
     go false is more = one-less (position_or_len p entries) (length entries) ∙ more
 
@@ -31,18 +31,18 @@ some-if : (b : Bool) (n : ℕ) (f : ℕ → ℕ × ℕ) → is_some (option_map 
 some-if true n f = refl
 some-if false n f = refl
 
-pub some-range : (prefix : List ℕ) (entries : List IndexEntry) → is_some (prefixed_range prefix entries) ≡ are_some (filter (begins_with prefix) entries)
+pub some-range : (prefix : List ℕ) (entries : List IndexEntry) → is_some (entry_range_with_path_prefix prefix entries) ≡ is_nonempty_entry_list (filter (entry_path_begins_with prefix) entries)
 some-range prefix entries =
-    some-if (nat_lt (position_or_len (begins_with prefix) entries) (length entries)) (position_or_len (begins_with prefix) entries) _
-    ∙ some-position (begins_with prefix) entries
+    some-if (nat_lt (position_or_len (entry_path_begins_with prefix) entries) (length entries)) (position_or_len (entry_path_begins_with prefix) entries) _
+    ∙ some-position (entry_path_begins_with prefix) entries
 
-below-empty : (path : List ℕ) → is_top path ≡ false → is_empty path ≡ false
+below-empty : (path : List ℕ) → is_empty_or_root_path path ≡ false → is_empty path ≡ false
 below-empty [] e = absurd (cc e)
 below-empty (b ∷ path) e = refl
 
 -- of a path that is not the top
-pub some-beneath : (path : List ℕ) (entries : List IndexEntry) → is_top path ≡ false
-    → is_some (prefixed_range (path ++ 47 ∷ []) entries) ≡ are_some (entries_beneath path entries)
+pub some-beneath : (path : List ℕ) (entries : List IndexEntry) → is_empty_or_root_path path ≡ false
+    → is_some (entry_range_with_path_prefix (path ++ 47 ∷ []) entries) ≡ is_nonempty_entry_list (entries_beneath_path path entries)
 some-beneath path entries low =
     some-range (path ++ 47 ∷ []) entries
-    ∙ ap (λ (b : Bool). are_some (cond b [] (filter (begins_with (path ++ 47 ∷ [])) entries))) (sym (below-empty path low))
+    ∙ ap (λ (b : Bool). is_nonempty_entry_list (cond b [] (filter (entry_path_begins_with (path ++ 47 ∷ [])) entries))) (sym (below-empty path low))

@@ -9,7 +9,7 @@ use Rattle.dir_classify.specs.declared.options.ForDeletionMode.TheVariants.{Igno
 use Rattle.worktree_report.specs.declared.setup.SetupOptions.{SetupOptions}
 use Rattle.clean_plan.specs.declared.what.Finding.{Finding}
 use Rattle.clean_plan.specs.declared.what.Finding.TheVariants.{NonBare, All}
-use Rattle.clean_plan.specs.Prepared.{deletion_of, finds_bare, fits_bare_option, is_finding, is_for_deletion, is_matching, is_matching_if, emits_pruned_tracked_and_empty, is_prepared, omits_submodules_and_origins, is_unfolded, prepared}
+use Rattle.clean_plan.specs.Prepared.{for_deletion_mode_of_finding, finds_bare_repositories, bare_option_fits_finding, is_for_deletion_mode_of_finding, has_deletion_options_of_finding, is_matching_emission_mode, is_some_matching_emission_mode, emits_pruned_tracked_and_empty, is_prepared, omits_submodules_and_origins, emits_each_path_uncollapsed, options_prepared_for_plan}
 use Rattle.clean_plan.proofs.Directories.{and_both}
 
 -- ---- what a test of an option says
@@ -22,16 +22,16 @@ is-none : (mode : Option CollapsedEntriesEmissionMode) → is_none mode ≡ true
 is-none None h = refl
 is-none (Some mode) h = absurd (cc h)
 
-is-matching : (mode : EmissionMode) → is_matching mode ≡ true → mode ≡ Matching
+is-matching : (mode : EmissionMode) → is_matching_emission_mode mode ≡ true → mode ≡ Matching
 is-matching Matching h = refl
 is-matching CollapseDirectory h = absurd (cc h)
 
-is-matching-if : (mode : Option EmissionMode) → is_matching_if mode ≡ true → mode ≡ Some Matching
+is-matching-if : (mode : Option EmissionMode) → is_some_matching_emission_mode mode ≡ true → mode ≡ Some Matching
 is-matching-if None h = absurd (cc h)
 is-matching-if (Some Matching) h = refl
 is-matching-if (Some CollapseDirectory) h = absurd (cc h)
 
-is-deletion : (finding : Finding) (mode : Option ForDeletionMode) → is_finding finding mode ≡ true → mode ≡ Some (deletion_of finding)
+is-deletion : (finding : Finding) (mode : Option ForDeletionMode) → is_for_deletion_mode_of_finding finding mode ≡ true → mode ≡ Some (for_deletion_mode_of_finding finding)
 is-deletion finding None h = absurd (cc h)
 is-deletion finding (Some IgnoredDirectoriesCanHideNestedRepositories) h = absurd (cc h)
 is-deletion NonBare (Some FindNonBareRepositoriesInIgnoredDirectories) h = refl
@@ -39,7 +39,7 @@ is-deletion NonBare (Some FindRepositoriesInIgnoredDirectories) h = absurd (cc h
 is-deletion All (Some FindNonBareRepositoriesInIgnoredDirectories) h = absurd (cc h)
 is-deletion All (Some FindRepositoriesInIgnoredDirectories) h = refl
 
-is-bare : (finding : Finding) (bare : Bool) → fits_bare_option finding bare ≡ true → bare ≡ finds_bare finding
+is-bare : (finding : Finding) (bare : Bool) → bare_option_fits_finding finding bare ≡ true → bare ≡ finds_bare_repositories finding
 is-bare NonBare true h = absurd (cc h)
 is-bare NonBare false h = refl
 is-bare All bare h = h
@@ -67,28 +67,28 @@ with-same : (o : SetupOptions) (deletion : Option ForDeletionMode) (bare recurse
 with-same o deletion bare recurse submodules origins untracked ignored collapsed pruned tracked empty a b c d e f g h i j k =
     rw (sym a, sym b, sym c, sym d, sym e, sym f, sym g, sym h, sym i, sym j, sym k) refl
 
-prepared-same : (finding : Finding) (o : SetupOptions) → is_prepared finding o ≡ true → prepared finding o ≡ o
+prepared-same : (finding : Finding) (o : SetupOptions) → is_prepared finding o ≡ true → options_prepared_for_plan finding o ≡ o
 prepared-same finding o is =
-    let parts = and_both (is_unfolded o) (emits_pruned_tracked_and_empty o && (is_for_deletion finding o && omits_submodules_and_origins o)) is in
-    let more = and_both (emits_pruned_tracked_and_empty o) (is_for_deletion finding o && omits_submodules_and_origins o) parts.1 in
-    let last = and_both (is_for_deletion finding o) (omits_submodules_and_origins o) more.1 in
-    let unfolded = and_both (is_matching o.emit_untracked) (is_matching_if o.emit_ignored && is_none o.emit_collapsed) parts.0 in
-    let folds = and_both (is_matching_if o.emit_ignored) (is_none o.emit_collapsed) unfolded.1 in
+    let parts = and_both (emits_each_path_uncollapsed o) (emits_pruned_tracked_and_empty o && (has_deletion_options_of_finding finding o && omits_submodules_and_origins o)) is in
+    let more = and_both (emits_pruned_tracked_and_empty o) (has_deletion_options_of_finding finding o && omits_submodules_and_origins o) parts.1 in
+    let last = and_both (has_deletion_options_of_finding finding o) (omits_submodules_and_origins o) more.1 in
+    let unfolded = and_both (is_matching_emission_mode o.emit_untracked) (is_some_matching_emission_mode o.emit_ignored && is_none o.emit_collapsed) parts.0 in
+    let folds = and_both (is_some_matching_emission_mode o.emit_ignored) (is_none o.emit_collapsed) unfolded.1 in
     let opened = and_both o.emit_pruned (o.emit_tracked && o.emit_empty_directories) more.0 in
     let shown = and_both o.emit_tracked o.emit_empty_directories opened.1 in
-    let deletion = and_both (is_finding finding o.for_deletion) (fits_bare_option finding o.classify_untracked_bare_repositories && not o.recurse_repositories) last.0 in
-    let found = and_both (fits_bare_option finding o.classify_untracked_bare_repositories) (not o.recurse_repositories) deletion.1 in
+    let deletion = and_both (is_for_deletion_mode_of_finding finding o.for_deletion) (bare_option_fits_finding finding o.classify_untracked_bare_repositories && not o.recurse_repositories) last.0 in
+    let found = and_both (bare_option_fits_finding finding o.classify_untracked_bare_repositories) (not o.recurse_repositories) deletion.1 in
     let short = and_both (not o.submodules) (not o.origins) last.1 in
-    with-same o (Some (deletion_of finding)) (finds_bare finding) false false false Matching (Some Matching) None true true true
+    with-same o (Some (for_deletion_mode_of_finding finding)) (finds_bare_repositories finding) false false false Matching (Some Matching) None true true true
     (is-deletion finding o.for_deletion deletion.0) (is-bare finding o.classify_untracked_bare_repositories found.0) (is-not o.recurse_repositories found.1)
     (is-not o.submodules short.0) (is-not o.origins short.1) (is-matching o.emit_untracked unfolded.0) (is-matching-if o.emit_ignored folds.0)
     (is-none o.emit_collapsed folds.1) opened.0 shown.0 shown.1
 
-is-prepared : (finding : Finding) (o : SetupOptions) → is_prepared finding (prepared finding o) ≡ true
+is-prepared : (finding : Finding) (o : SetupOptions) → is_prepared finding (options_prepared_for_plan finding o) ≡ true
 is-prepared NonBare o = refl
 is-prepared All o = refl
 
-pub is_same : (finding : Finding) (o : SetupOptions) (answer : Bool) → answer ≡ is_prepared finding o → (answer ≡ true) ↔ (prepared finding o ≡ o)
+pub is_same : (finding : Finding) (o : SetupOptions) (answer : Bool) → answer ≡ is_prepared finding o → (answer ≡ true) ↔ (options_prepared_for_plan finding o ≡ o)
 is_same finding o answer is = (
   λ h. prepared-same finding o (sym is ∙ h),
   λ h. is ∙ subst (λ (x : SetupOptions). is_prepared finding x ≡ true) h (is-prepared finding o),

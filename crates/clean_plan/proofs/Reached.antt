@@ -6,38 +6,38 @@ use Rattle.std.proofs.lemmas.Bool.{cases_lt, lt-ltb, ltb-true, true≢false}
 use Rattle.std.proofs.lemmas.Bool.Decides.{eqb_tells}
 use Rattle.std.proofs.lemmas.Cmp.{nat_list_eq_equiv}
 use Rattle.std.proofs.lemmas.List.{length-take-le, take_more}
-use Rattle.gitbase_core.specs.Path.{is_empty, is_path_prefix, is_slash, is_top, lies_beneath}
-use Rattle.clean_plan.specs.Above.{IsTarget, fronts, reach, some_above, some_front}
+use Rattle.gitbase_core.specs.Path.{is_empty, is_prefix_by_whole_components, is_slash, is_empty_or_root_path, is_beneath_directory}
+use Rattle.clean_plan.specs.Above.{IsFirstPassingAncestorOrSelf, prefixes_shorter_than_length, length_past_longest_passing_ancestor, any_ancestor_passes, any_ancestor_below_length_passes}
 use Rattle.clean_plan.proofs.Directories.{above-longer, above-same, above-shorter, above-then, and_both, front-is, no-front, none-front, some-above}
 
 more : (n : ℕ) → suc n ≡ n + 1
 more n = omega arith
 
-pub first-front : (test : List ℕ → Bool) (path : List ℕ) → some_front test 0 path ≡ false
-unfolding fronts
+pub first-front : (test : List ℕ → Bool) (path : List ℕ) → any_ancestor_below_length_passes test 0 path ≡ false
+unfolding prefixes_shorter_than_length
 first-front test path = refl
 
-pub next-front : (test : List ℕ → Bool) (n : ℕ) (path : List ℕ) → (lies_beneath (take n path) path && test (take n path)) ≡ false → some_front test n path ≡ false → some_front test (n + 1) path ≡ false
-unfolding fronts
+pub next-front : (test : List ℕ → Bool) (n : ℕ) (path : List ℕ) → (is_beneath_directory (take n path) path && test (take n path)) ≡ false → any_ancestor_below_length_passes test n path ≡ false → any_ancestor_below_length_passes test (n + 1) path ≡ false
+unfolding prefixes_shorter_than_length
 next-front test n path here before =
-    subst (λ (k : ℕ). some_front test k path ≡ false) (more n) (neither (lies_beneath (take n path) path && test (take n path)) (some_front test n path) here before)
+    subst (λ (k : ℕ). any_ancestor_below_length_passes test k path ≡ false) (more n) (neither (is_beneath_directory (take n path) path && test (take n path)) (any_ancestor_below_length_passes test n path) here before)
   where
     neither : (a b : Bool) → a ≡ false → b ≡ false → (a || b) ≡ false
     neither true b e f = absurd (cc e)
     neither false b e f = f
 
 -- a directory above a path that passes
-pub passing-front : (test : List ℕ → Bool) (n : ℕ) (path : List ℕ) → (lies_beneath (take n path) path && test (take n path)) ≡ true → true ≡ some_above test path
+pub passing-front : (test : List ℕ → Bool) (n : ℕ) (path : List ℕ) → (is_beneath_directory (take n path) path && test (take n path)) ≡ true → true ≡ any_ancestor_passes test path
 passing-front test n path here =
-    let both = and_both (lies_beneath (take n path) path) (test (take n path)) here in
+    let both = and_both (is_beneath_directory (take n path) path) (test (take n path)) here in
     sym (some-above test path (take n path) both.0 both.1)
 
 -- the first directory above a path that passes
-pub target-here : (test : List ℕ → Bool) (n : ℕ) (path : List ℕ) → n < length path → (lies_beneath (take n path) path && test (take n path)) ≡ true → some_front test n path ≡ false → IsTarget test path (take n path)
+pub target-here : (test : List ℕ → Bool) (n : ℕ) (path : List ℕ) → n < length path → (is_beneath_directory (take n path) path && test (take n path)) ≡ true → any_ancestor_below_length_passes test n path ≡ false → IsFirstPassingAncestorOrSelf test path (take n path)
 target-here test n path short here before =
     let front : List ℕ = take n path in
     let long : length front ≡ n = length-take-le n path (omega (arith, short)) in
-    let both = parts (lies_beneath front path) (test front) here in
+    let both = parts (is_beneath_directory front path) (test front) here in
     record {
       which = inr both;
       none_above = none-front test (length front) front (λ d above.
@@ -48,13 +48,13 @@ target-here test n path short here before =
     parts true b h = (refl, h)
     parts false b h = absurd (cc h)
 
-pub target-none : (test : List ℕ → Bool) (path : List ℕ) → some_above test path ≡ false → IsTarget test path path
+pub target-none : (test : List ℕ → Bool) (path : List ℕ) → any_ancestor_passes test path ≡ false → IsFirstPassingAncestorOrSelf test path path
 target-none test path none = record { which = inl refl; none_above = none }
 
 -- behind a directory above a path that is not the top stands a slash
-pub front-slash : (path : List ℕ) (n : ℕ) → n < length path → lies_beneath (take n path) path ≡ true → is_top (take n path) ≡ false → take (n + 1) path ≡ take n path ++ 47 ∷ []
+pub front-slash : (path : List ℕ) (n : ℕ) → n < length path → is_beneath_directory (take n path) path ≡ true → is_empty_or_root_path (take n path) ≡ false → take (n + 1) path ≡ take n path ++ 47 ∷ []
 front-slash path n short above low =
-    take_more path n 0 short ∙ ap (λ (b : ℕ). take n path ++ b ∷ []) (eqb-true (get_or path n 0) 47 (go (is_top (take n path)) (is_slash (get_or path n 0)) low (sym (front-is path n short) ∙ above)))
+    take_more path n 0 short ∙ ap (λ (b : ℕ). take n path ++ b ∷ []) (eqb-true (get_or path n 0) 47 (go (is_empty_or_root_path (take n path)) (is_slash (get_or path n 0)) low (sym (front-is path n short) ∙ above)))
   where
     go : (a b : Bool) → a ≡ false → (a || b) ≡ true → b ≡ true
     go true b e h = absurd (cc e)
@@ -62,50 +62,50 @@ front-slash path n short above low =
 
 -- ---- how far the directories reach that pass
 
-pub reach-first : (test : List ℕ → Bool) (path : List ℕ) → reach test 0 path ≡ 0
-unfolding reach
+pub reach-first : (test : List ℕ → Bool) (path : List ℕ) → length_past_longest_passing_ancestor test 0 path ≡ 0
+unfolding length_past_longest_passing_ancestor
 reach-first test path = refl
 
 pub reach-next : (test : List ℕ → Bool) (n : ℕ) (path : List ℕ)
-    → (if lies_beneath (take n path) path && test (take n path) then n + 1 else reach test n path) ≡ reach test (n + 1) path
-unfolding reach
-reach-next test n path = subst (λ (k : ℕ). (if lies_beneath (take n path) path && test (take n path) then k else reach test n path) ≡ reach test k path) (more n) refl
+    → (if is_beneath_directory (take n path) path && test (take n path) then n + 1 else length_past_longest_passing_ancestor test n path) ≡ length_past_longest_passing_ancestor test (n + 1) path
+unfolding length_past_longest_passing_ancestor
+reach-next test n path = subst (λ (k : ℕ). (if is_beneath_directory (take n path) path && test (take n path) then k else length_past_longest_passing_ancestor test n path) ≡ length_past_longest_passing_ancestor test k path) (more n) refl
 
-pub reach-within : (test : List ℕ → Bool) (n : ℕ) (path : List ℕ) → reach test n path ≤ n
-unfolding reach
+pub reach-within : (test : List ℕ → Bool) (n : ℕ) (path : List ℕ) → length_past_longest_passing_ancestor test n path ≤ n
+unfolding length_past_longest_passing_ancestor
 reach-within test zero path = omega arith
-reach-within test (suc n) path = go (lies_beneath (take n path) path && test (take n path)) (reach-within test n path)
+reach-within test (suc n) path = go (is_beneath_directory (take n path) path && test (take n path)) (reach-within test n path)
   where
-    go : (b : Bool) → reach test n path ≤ n → cond b (suc n) (reach test n path) ≤ suc n
+    go : (b : Bool) → length_past_longest_passing_ancestor test n path ≤ n → cond b (suc n) (length_past_longest_passing_ancestor test n path) ≤ suc n
     go true h = omega arith
     go false h = omega (arith, h)
 
 -- a prefix has no more bytes
-prefix-short : (d path : List ℕ) → is_path_prefix d path ≡ true → length d ≤ length path
+prefix-short : (d path : List ℕ) → is_prefix_by_whole_components d path ≡ true → length d ≤ length path
 prefix-short [] path h = omega arith
 prefix-short (b ∷ d) path h = go (bytes_eq (b ∷ d) path) refl h
   where
-    go : (same : Bool) → bytes_eq (b ∷ d) path ≡ same → (same || lies_beneath (b ∷ d) path) ≡ true → length (b ∷ d) ≤ length path
+    go : (same : Bool) → bytes_eq (b ∷ d) path ≡ same → (same || is_beneath_directory (b ∷ d) path) ≡ true → length (b ∷ d) ≤ length path
     go true e h = let is = same_text (b ∷ d) path (sym e) in omega (arith, ap length is)
     go false e h = let less = above-shorter (b ∷ d) path h in omega (arith, less)
 
-pub prefix-self : (path : List ℕ) → is_path_prefix path path ≡ true
+pub prefix-self : (path : List ℕ) → is_prefix_by_whole_components path path ≡ true
 prefix-self [] = refl
 prefix-self (b ∷ path) = rw (nat_list_eq_equiv.refl (b ∷ path)) refl
 
-pub prefix-beneath : (d path : List ℕ) → lies_beneath d path ≡ true → is_path_prefix d path ≡ true
+pub prefix-beneath : (d path : List ℕ) → is_beneath_directory d path ≡ true → is_prefix_by_whole_components d path ≡ true
 prefix-beneath d path h = go (is_empty d || bytes_eq d path) h
   where
-    go : (b : Bool) → lies_beneath d path ≡ true → (b || lies_beneath d path) ≡ true
+    go : (b : Bool) → is_beneath_directory d path ≡ true → (b || is_beneath_directory d path) ≡ true
     go true e = refl
     go false e = e
 
 -- of two directories above one path the one with no more bytes is a prefix of the other
-prefix-longer : (d x path : List ℕ) → lies_beneath d path ≡ true → lies_beneath x path ≡ true → length d ≤ length x → is_path_prefix d x ≡ true
+prefix-longer : (d x path : List ℕ) → is_beneath_directory d path ≡ true → is_beneath_directory x path ≡ true → length d ≤ length x → is_prefix_by_whole_components d x ≡ true
 prefix-longer d x path h k long = go (eqb_tells (length d) (length x))
   where
-    go : ((eqb (length d) (length x) ≡ true) × (length d ≡ length x)) ⊎ ((eqb (length d) (length x) ≡ false) × (length d ≢ length x)) → is_path_prefix d x ≡ true
-    go (inl e) = ap (is_path_prefix d) (sym (above-same d x path h k e.1)) ∙ prefix-self d
+    go : ((eqb (length d) (length x) ≡ true) × (length d ≡ length x)) ⊎ ((eqb (length d) (length x) ≡ false) × (length d ≢ length x)) → is_prefix_by_whole_components d x ≡ true
+    go (inl e) = ap (is_prefix_by_whole_components d) (sym (above-same d x path h k e.1)) ∙ prefix-self d
     go (inr e) = prefix-beneath d x (above-longer d x path h k (omega (arith, long, e.1)))
 
 less-false : (a b : ℕ) → b ≤ a → nat_lt a b ≡ false
@@ -116,34 +116,34 @@ less-false a b h = go (nat_lt a b) refl
     go false e = e
 
 -- A directory above a path has fewer bytes than that exactly where it is a prefix of one that passes.
-pub reach-is : (test : List ℕ → Bool) (n : ℕ) (path d : List ℕ) → n ≤ length path → lies_beneath d path ≡ true
-    → nat_lt (length d) (reach test n path) ≡ some_front (λ x. is_path_prefix d x && test x) n path
-unfolding reach fronts
+pub reach-is : (test : List ℕ → Bool) (n : ℕ) (path d : List ℕ) → n ≤ length path → is_beneath_directory d path ≡ true
+    → nat_lt (length d) (length_past_longest_passing_ancestor test n path) ≡ any_ancestor_below_length_passes (λ x. is_prefix_by_whole_components d x && test x) n path
+unfolding length_past_longest_passing_ancestor prefixes_shorter_than_length
 reach-is test zero path d short above = less-false (length d) 0 (omega arith)
-reach-is test (suc n) path d short above = go (lies_beneath front path) (test front) refl refl (reach-is test n path d (omega (arith, short)) above)
+reach-is test (suc n) path d short above = go (is_beneath_directory front path) (test front) refl refl (reach-is test n path d (omega (arith, short)) above)
   where
     front : List ℕ
     front = take n path
 
     rest : Bool
-    rest = some_front (λ x. is_path_prefix d x && test x) n path
+    rest = any_ancestor_below_length_passes (λ x. is_prefix_by_whole_components d x && test x) n path
 
     long : length (take n path) ≡ n
     long = length-take-le n path (omega (arith, short))
 
-    far : (p : Bool) → is_path_prefix d (take n path) ≡ p → lies_beneath (take n path) path ≡ true → nat_lt (length d) (reach test n path) ≡ some_front (λ x. is_path_prefix d x && test x) n path
-        → nat_lt (length d) (suc n) ≡ ((p && true) || some_front (λ x. is_path_prefix d x && test x) n path)
+    far : (p : Bool) → is_prefix_by_whole_components d (take n path) ≡ p → is_beneath_directory (take n path) path ≡ true → nat_lt (length d) (length_past_longest_passing_ancestor test n path) ≡ any_ancestor_below_length_passes (λ x. is_prefix_by_whole_components d x && test x) n path
+        → nat_lt (length d) (suc n) ≡ ((p && true) || any_ancestor_below_length_passes (λ x. is_prefix_by_whole_components d x && test x) n path)
     far true e h more = let short_d = prefix-short d (take n path) e in lt-ltb (length d) (suc n) (omega (arith, short_d, long))
     far false e h more = by (cases_lt n (length d))
       where
-        by : (n < length d) ⊎ (length d ≤ n) → nat_lt (length d) (suc n) ≡ some_front (λ x. is_path_prefix d x && test x) n path
-        by (inl less) = less-false (length d) (suc n) (omega (arith, less)) ∙ sym (less-false (length d) (reach test n path) (let in_n = reach-within test n path in omega (arith, less, in_n))) ∙ more
+        by : (n < length d) ⊎ (length d ≤ n) → nat_lt (length d) (suc n) ≡ any_ancestor_below_length_passes (λ x. is_prefix_by_whole_components d x && test x) n path
+        by (inl less) = less-false (length d) (suc n) (omega (arith, less)) ∙ sym (less-false (length d) (length_past_longest_passing_ancestor test n path) (let in_n = reach-within test n path in omega (arith, less, in_n))) ∙ more
         by (inr least) = absurd (true≢false (sym (prefix-longer d (take n path) path above h (omega (arith, least, long))) ∙ e))
 
-    go : (l t : Bool) → lies_beneath (take n path) path ≡ l → test (take n path) ≡ t → nat_lt (length d) (reach test n path) ≡ some_front (λ x. is_path_prefix d x && test x) n path
-        → nat_lt (length d) (cond (l && t) (suc n) (reach test n path)) ≡ ((l && (is_path_prefix d (take n path) && t)) || some_front (λ x. is_path_prefix d x && test x) n path)
-    go true true e f more = far (is_path_prefix d (take n path)) refl e more
-    go true false e f more = more ∙ no-and (is_path_prefix d (take n path)) (some_front (λ x. is_path_prefix d x && test x) n path)
+    go : (l t : Bool) → is_beneath_directory (take n path) path ≡ l → test (take n path) ≡ t → nat_lt (length d) (length_past_longest_passing_ancestor test n path) ≡ any_ancestor_below_length_passes (λ x. is_prefix_by_whole_components d x && test x) n path
+        → nat_lt (length d) (cond (l && t) (suc n) (length_past_longest_passing_ancestor test n path)) ≡ ((l && (is_prefix_by_whole_components d (take n path) && t)) || any_ancestor_below_length_passes (λ x. is_prefix_by_whole_components d x && test x) n path)
+    go true true e f more = far (is_prefix_by_whole_components d (take n path)) refl e more
+    go true false e f more = more ∙ no-and (is_prefix_by_whole_components d (take n path)) (any_ancestor_below_length_passes (λ x. is_prefix_by_whole_components d x && test x) n path)
       where
         no-and : (p r : Bool) → r ≡ ((p && false) || r)
         no-and true r = refl
@@ -152,16 +152,16 @@ reach-is test (suc n) path d short above = go (lies_beneath front path) (test fr
 
 -- where none passes that has some number of bytes or more
 pub reach-begun : (test : List ℕ → Bool) (path : List ℕ) (begin n : ℕ) → n ≤ length path
-    → ((d : List ℕ) → lies_beneath d path ≡ true → begin ≤ length d → length d < n → test d ≡ false) → reach test n path ≤ begin
-unfolding reach
+    → ((d : List ℕ) → is_beneath_directory d path ≡ true → begin ≤ length d → length d < n → test d ≡ false) → length_past_longest_passing_ancestor test n path ≤ begin
+unfolding length_past_longest_passing_ancestor
 reach-begun test path begin zero short none = omega arith
 reach-begun test path begin (suc n) short none =
-    go (lies_beneath (take n path) path) (test (take n path)) refl refl (reach-begun test path begin n (omega (arith, short)) (λ d above long less. none d above long (omega (arith, less))))
+    go (is_beneath_directory (take n path) path) (test (take n path)) refl refl (reach-begun test path begin n (omega (arith, short)) (λ d above long less. none d above long (omega (arith, less))))
   where
     long : length (take n path) ≡ n
     long = length-take-le n path (omega (arith, short))
 
-    go : (l t : Bool) → lies_beneath (take n path) path ≡ l → test (take n path) ≡ t → reach test n path ≤ begin → cond (l && t) (suc n) (reach test n path) ≤ begin
+    go : (l t : Bool) → is_beneath_directory (take n path) path ≡ l → test (take n path) ≡ t → length_past_longest_passing_ancestor test n path ≤ begin → cond (l && t) (suc n) (length_past_longest_passing_ancestor test n path) ≤ begin
     go true true e f h = by (cases_lt n begin)
       where
         by : (n < begin) ⊎ (begin ≤ n) → suc n ≤ begin
@@ -176,12 +176,12 @@ reach-longer true begin n reached h = omega (arith, h)
 reach-longer false begin n reached h = refl
 
 -- a directory above a path that passes has fewer bytes
-pub reach-passes : (test : List ℕ → Bool) (path d : List ℕ) → lies_beneath d path ≡ true → reach test (length path) path ≤ length d → test d ≡ false
+pub reach-passes : (test : List ℕ → Bool) (path d : List ℕ) → is_beneath_directory d path ≡ true → length_past_longest_passing_ancestor test (length path) path ≤ length d → test d ≡ false
 reach-passes test path d above long = go (test d) refl
   where
     go : (b : Bool) → test d ≡ b → test d ≡ false
     go false e = e
     go true e =
-        let found : some_front (λ x. is_path_prefix d x && test x) (length path) path ≡ true =
-        some-above (λ x. is_path_prefix d x && test x) path d above (ap (λ (b : Bool). b && test d) (prefix-self d) ∙ e) in
-        absurd (true≢false (sym (reach-is test (length path) path d (omega arith) above ∙ found) ∙ less-false (length d) (reach test (length path) path) long))
+        let found : any_ancestor_below_length_passes (λ x. is_prefix_by_whole_components d x && test x) (length path) path ≡ true =
+        some-above (λ x. is_prefix_by_whole_components d x && test x) path d above (ap (λ (b : Bool). b && test d) (prefix-self d) ∙ e) in
+        absurd (true≢false (sym (reach-is test (length path) path d (omega arith) above ∙ found) ∙ less-false (length d) (length_past_longest_passing_ancestor test (length path) path) long))

@@ -8,7 +8,7 @@ use Rattle.clean_plan.specs.declared.what.TakenOut.{TakenOut}
 use Rattle.clean_plan.specs.declared.what.What.{What}
 
 -- what is asked of a plan
-pub record Asked : Type 0 where
+pub record CleanPlanInputs : Type 0 where
   -- which paths may go
   pub what : What
   -- what becomes of nodes that are no files, links or directories
@@ -26,8 +26,8 @@ pub record Asked : Type 0 where
   pub current : Option (List ℕ)
 
 -- what is asked for, by what it is made from
-abbrev pub asked_by : Cleaning → Asked
-asked_by cleaning =
+abbrev pub plan_inputs_of_cleaning : Cleaning → CleanPlanInputs
+plan_inputs_of_cleaning cleaning =
     record {
       what = cleaning.what;
       others = cleaning.others;

@@ -9,22 +9,22 @@ use Rattle.clean_plan.specs.declared.what.Finding.{Finding}
 use Rattle.clean_plan.specs.declared.what.Finding.TheVariants.{NonBare, All}
 
 -- how the walk looks for repositories in ignored directories
-abbrev pub deletion_of : Finding → ForDeletionMode
-deletion_of NonBare = FindNonBareRepositoriesInIgnoredDirectories
-deletion_of All = FindRepositoriesInIgnoredDirectories
+abbrev pub for_deletion_mode_of_finding : Finding → ForDeletionMode
+for_deletion_mode_of_finding NonBare = FindNonBareRepositoriesInIgnoredDirectories
+for_deletion_mode_of_finding All = FindRepositoriesInIgnoredDirectories
 
 -- bare repositories are looked for too
-abbrev pub finds_bare : Finding → Bool
-finds_bare NonBare = false
-finds_bare All = true
+abbrev pub finds_bare_repositories : Finding → Bool
+finds_bare_repositories NonBare = false
+finds_bare_repositories All = true
 
 -- Options with those set that a plan needs: for deletion, with repositories found as asked, nothing folded and nothing hidden,
 -- no submodules and no origins. All others stay.
-abbrev pub prepared : Finding → SetupOptions → SetupOptions
-prepared finding options =
+abbrev pub options_prepared_for_plan : Finding → SetupOptions → SetupOptions
+options_prepared_for_plan finding options =
     record options {
-      for_deletion = Some (deletion_of finding);
-      classify_untracked_bare_repositories = finds_bare finding;
+      for_deletion = Some (for_deletion_mode_of_finding finding);
+      classify_untracked_bare_repositories = finds_bare_repositories finding;
       recurse_repositories = false;
       submodules = false;
       origins = false;
@@ -37,40 +37,40 @@ prepared finding options =
     }
 
 -- repositories are found so in ignored directories
-abbrev pub is_finding : Finding → Option ForDeletionMode → Bool
-is_finding finding None = false
-is_finding finding (Some IgnoredDirectoriesCanHideNestedRepositories) = false
-is_finding finding (Some FindNonBareRepositoriesInIgnoredDirectories) = not (finds_bare finding)
-is_finding finding (Some FindRepositoriesInIgnoredDirectories) = finds_bare finding
+abbrev pub is_for_deletion_mode_of_finding : Finding → Option ForDeletionMode → Bool
+is_for_deletion_mode_of_finding finding None = false
+is_for_deletion_mode_of_finding finding (Some IgnoredDirectoriesCanHideNestedRepositories) = false
+is_for_deletion_mode_of_finding finding (Some FindNonBareRepositoriesInIgnoredDirectories) = not (finds_bare_repositories finding)
+is_for_deletion_mode_of_finding finding (Some FindRepositoriesInIgnoredDirectories) = finds_bare_repositories finding
 
 -- bare repositories are looked for just where they are to be found
-abbrev pub fits_bare_option : Finding → Bool → Bool
-fits_bare_option NonBare bare = not bare
-fits_bare_option All bare = bare
+abbrev pub bare_option_fits_finding : Finding → Bool → Bool
+bare_option_fits_finding NonBare bare = not bare
+bare_option_fits_finding All bare = bare
 
 -- paths are reported one by one
-abbrev pub is_matching : EmissionMode → Bool
-is_matching Matching = true
-is_matching CollapseDirectory = false
+abbrev pub is_matching_emission_mode : EmissionMode → Bool
+is_matching_emission_mode Matching = true
+is_matching_emission_mode CollapseDirectory = false
 
 -- the same, where paths are reported at all
-abbrev pub is_matching_if : Option EmissionMode → Bool
-is_matching_if None = false
-is_matching_if (Some mode) = is_matching mode
+abbrev pub is_some_matching_emission_mode : Option EmissionMode → Bool
+is_some_matching_emission_mode None = false
+is_some_matching_emission_mode (Some mode) = is_matching_emission_mode mode
 
 -- untracked and ignored paths are reported each by itself
-abbrev pub is_unfolded : SetupOptions → Bool
-is_unfolded options = is_matching options.emit_untracked && (is_matching_if options.emit_ignored && is_none options.emit_collapsed)
+abbrev pub emits_each_path_uncollapsed : SetupOptions → Bool
+emits_each_path_uncollapsed options = is_matching_emission_mode options.emit_untracked && (is_some_matching_emission_mode options.emit_ignored && is_none options.emit_collapsed)
 
 -- nothing is hidden
 abbrev pub emits_pruned_tracked_and_empty : SetupOptions → Bool
 emits_pruned_tracked_and_empty options = options.emit_pruned && (options.emit_tracked && options.emit_empty_directories)
 
 -- paths are to be deleted, with repositories found as asked and not looked into
-abbrev pub is_for_deletion : Finding → SetupOptions → Bool
-is_for_deletion finding options =
-    is_finding finding options.for_deletion
-    && (fits_bare_option finding options.classify_untracked_bare_repositories && not options.recurse_repositories)
+abbrev pub has_deletion_options_of_finding : Finding → SetupOptions → Bool
+has_deletion_options_of_finding finding options =
+    is_for_deletion_mode_of_finding finding options.for_deletion
+    && (bare_option_fits_finding finding options.classify_untracked_bare_repositories && not options.recurse_repositories)
 
 -- nothing is told of submodules and of the rules that decided
 abbrev pub omits_submodules_and_origins : SetupOptions → Bool
@@ -78,4 +78,4 @@ omits_submodules_and_origins options = not options.submodules && not options.ori
 
 -- Options are prepared for a plan.
 abbrev pub is_prepared : Finding → SetupOptions → Bool
-is_prepared finding options = is_unfolded options && (emits_pruned_tracked_and_empty options && (is_for_deletion finding options && omits_submodules_and_origins options))
+is_prepared finding options = emits_each_path_uncollapsed options && (emits_pruned_tracked_and_empty options && (has_deletion_options_of_finding finding options && omits_submodules_and_origins options))

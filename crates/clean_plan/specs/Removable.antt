@@ -5,49 +5,49 @@ use Rattle.dir_classify.specs.declared.entry.Entry.{Entry}
 use Rattle.dir_classify.specs.declared.entry.Kind.{Kind}
 use Rattle.dir_classify.specs.declared.entry.Status.{Status}
 use Rattle.dir_classify.specs.declared.entry.Status.TheVariants.{Pruned, Tracked, Ignored, Untracked}
-use Rattle.dir_classify.specs.Kinds.{is_directory, is_repository}
-use Rattle.dir_walk.specs.Emissions.{is_unmatched}
+use Rattle.dir_classify.specs.Kinds.{is_plain_directory_kind, is_repository_kind}
+use Rattle.dir_walk.specs.Emissions.{is_unmatched_or_excluded}
 use Rattle.clean_plan.specs.declared.what.What.{What}
 use Rattle.clean_plan.specs.declared.what.What.TheVariants as what
-use Rattle.clean_plan.specs.Asked.{Asked}
-use Rattle.clean_plan.specs.Closed.{stays_in_excluded_directory}
-use Rattle.clean_plan.specs.Kept.{is_kept, takes_out}
+use Rattle.clean_plan.specs.Asked.{CleanPlanInputs}
+use Rattle.clean_plan.specs.Closed.{stays_in_spec_excluded_directory}
+use Rattle.clean_plan.specs.Kept.{is_path_protected_from_clean, specs_exclude_directory}
 
 -- untracked paths may go
-abbrev pub takes_untracked : What → Bool
-takes_untracked what.Untracked = true
-takes_untracked what.UntrackedAndIgnored = true
-takes_untracked what.IgnoredOnly = false
+abbrev pub may_remove_untracked : What → Bool
+may_remove_untracked what.Untracked = true
+may_remove_untracked what.UntrackedAndIgnored = true
+may_remove_untracked what.IgnoredOnly = false
 
 -- ignored paths may go
-abbrev pub takes_ignored : What → Bool
-takes_ignored what.Untracked = false
-takes_ignored what.UntrackedAndIgnored = true
-takes_ignored what.IgnoredOnly = true
+abbrev pub may_remove_ignored : What → Bool
+may_remove_ignored what.Untracked = false
+may_remove_ignored what.UntrackedAndIgnored = true
+may_remove_ignored what.IgnoredOnly = true
 
 -- what is asked for may have this status: untracked, or ignored and expendable
-abbrev pub is_status_requested : What → Status → Bool
-is_status_requested what Untracked = takes_untracked what
-is_status_requested what (Ignored Expendable) = takes_ignored what
-is_status_requested what (Ignored Precious) = false
-is_status_requested what Tracked = false
-is_status_requested what Pruned = false
+abbrev pub is_status_requested_for_removal : What → Status → Bool
+is_status_requested_for_removal what Untracked = may_remove_untracked what
+is_status_requested_for_removal what (Ignored Expendable) = may_remove_ignored what
+is_status_requested_for_removal what (Ignored Precious) = false
+is_status_requested_for_removal what Tracked = false
+is_status_requested_for_removal what Pruned = false
 
 -- something is on disk, and no repository
-abbrev pub is_plain : Option Kind → Bool
-is_plain None = false
-is_plain (Some kind) = not (is_repository (Some kind))
+abbrev pub exists_and_is_no_repository : Option Kind → Bool
+exists_and_is_no_repository None = false
+exists_and_is_no_repository (Some kind) = not (is_repository_kind (Some kind))
 
 -- what is said of an entry lets it go: its status is asked for, something is there and no repository, the path specs match it
 -- and, where it is a directory, do not take that out
-abbrev pub may_go : Asked → Entry → Bool
-may_go asked e =
-    is_status_requested asked.what e.status
-    && (is_plain e.disk_kind
-    && (not (is_unmatched e.pathspec_match)
-    && not (is_directory e.disk_kind && takes_out asked.specs e.rela_path)))
+abbrev pub passes_status_kind_and_specs : CleanPlanInputs → Entry → Bool
+passes_status_kind_and_specs asked e =
+    is_status_requested_for_removal asked.what e.status
+    && (exists_and_is_no_repository e.disk_kind
+    && (not (is_unmatched_or_excluded e.pathspec_match)
+    && not (is_plain_directory_kind e.disk_kind && specs_exclude_directory asked.specs e.rela_path)))
 
 -- An entry may go by itself: what is said of it lets it go, it does not stay with a directory that the path specs take out, and its path
 -- is not kept.
-abbrev pub is_removable : Asked → Entry → Bool
-is_removable asked e = may_go asked e && (not (stays_in_excluded_directory asked.taken_out asked.specs e) && not (is_kept asked e.rela_path))
+abbrev pub is_entry_removable_by_itself : CleanPlanInputs → Entry → Bool
+is_entry_removable_by_itself asked e = passes_status_kind_and_specs asked e && (not (stays_in_spec_excluded_directory asked.taken_out asked.specs e) && not (is_path_protected_from_clean asked e.rela_path))

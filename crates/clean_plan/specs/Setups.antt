@@ -1,17 +1,17 @@
 -- What a plan is made from, by a setup and the report that it asks for.
 use Rattle.std.specs.Prelude.{ℕ, List, Option, drop, length}
-use Rattle.gitbase_core.specs.Path.{directory_prefix}
+use Rattle.gitbase_core.specs.Path.{path_with_trailing_slash}
 use Rattle.worktree_report.specs.declared.setup.Setup.{Setup}
 use Rattle.clean_plan.specs.declared.what.Wanted.{Wanted}
-use Rattle.clean_plan.specs.Asked.{Asked}
+use Rattle.clean_plan.specs.Asked.{CleanPlanInputs}
 
 -- A traversal root as it reads from the root of the work tree: what its whole path has behind that and a slash.
-abbrev pub start_of : List ℕ → List ℕ → List ℕ
-start_of root whole = drop (length (directory_prefix root)) whole
+abbrev pub traversal_root_relative_to_work_tree : List ℕ → List ℕ → List ℕ
+traversal_root_relative_to_work_tree root whole = drop (length (path_with_trailing_slash root)) whole
 
 -- what is asked for, by a setup, a traversal root, and where the current directory is in the work tree
-abbrev pub asked_in : Wanted → Setup → List ℕ → Option (List ℕ) → Asked
-asked_in wanted setup start current =
+abbrev pub plan_inputs_of_setup : Wanted → Setup → List ℕ → Option (List ℕ) → CleanPlanInputs
+plan_inputs_of_setup wanted setup start current =
     record {
       what = wanted.what;
       others = wanted.others;

@@ -1,24 +1,26 @@
 //! The plan of a cleaning, by a setup.
 ghost use Rattle.std.specs.Prelude.{◌≡◌, true, IfOk};
-ghost use Rattle.clean_plan.specs.Plans.{IsPlan, entries_of};
-ghost use Rattle.clean_plan.specs.Planned.{AsksAfter, MakesPlan};
+ghost use Rattle.clean_plan.specs.Plans.{IsOrderedRemovalPlan, entries_of_report_entries};
+ghost use Rattle.clean_plan.specs.Planned.{PlansByMadeReport, MakesReportAndPlan};
 ghost use Rattle.clean_plan.specs.Prepared.{is_prepared};
-ghost use Rattle.clean_plan.specs.Setups.{asked_in, start_of};
-ghost use Rattle.clean_plan.specs.Wanted.{as_reported};
+ghost use Rattle.clean_plan.specs.Setups.{plan_inputs_of_setup, traversal_root_relative_to_work_tree};
+ghost use Rattle.clean_plan.specs.Wanted.{allowing_special_and_spec_excluded};
 
-use crate::current::{current_below, current_dir_of, start_of};
+use crate::current::{
+    current_dir_below_root, current_dir_or_work_tree_root, traversal_root_relative_to_work_tree,
+};
 use crate::error::CleanError;
 use crate::inputs::Cleaning;
 use crate::outcome::Plan;
-use crate::planned::planned;
+use crate::planned::planned_removal_paths;
 use crate::what::{Finding, Wanted, What};
 use gitbase_core::{Find, OutOfMemory, PathText};
 use std::alloc::Global;
 use worktree_fs::{Interrupt, Worktree};
-use worktree_report::{Report, Setup, lookup_of, worktree_report};
+use worktree_report::{Report, Setup, index_lookup_if_ignore_case, worktree_report};
 
 /// The plan by a report and by where the current directory is in the work tree, if it is there.
-fn plan_by(
+fn plan_by_report_and_current_dir(
     alloc: Global,
     root: &[u8],
     setup: &Setup,
@@ -26,11 +28,11 @@ fn plan_by(
     report: &Report,
     current: &Option<PathText>,
 ) -> Result<Plan, OutOfMemory>
-    ensures { IfOk result (λ plan. IsPlan
-        (asked_in wanted setup.now (start_of root.now report.now.root) current.now)
-        (entries_of report.now.entries) plan.paths.items) }
+    ensures { IfOk result (λ plan. IsOrderedRemovalPlan (plan_inputs_of_setup wanted setup.now
+        (traversal_root_relative_to_work_tree root.now report.now.root) current.now)
+        (entries_of_report_entries report.now.entries) plan.paths.items) }
 {
-    let lookup = lookup_of(alloc, setup)?;
+    let lookup = index_lookup_if_ignore_case(alloc, setup)?;
     let cleaning = Cleaning {
         what: wanted.what,
         others: wanted.others,
@@ -38,16 +40,16 @@ fn plan_by(
         index: &setup.index,
         lookup: &lookup,
         specs: &setup.specs,
-        start: start_of(root, report.root.as_bytes()),
+        start: traversal_root_relative_to_work_tree(root, report.root.as_bytes()),
         current,
     };
-    let paths = planned(alloc, &cleaning, report.entries.as_slice())?;
+    let paths = planned_removal_paths(alloc, &cleaning, report.entries.as_slice())?;
     Ok(Plan { paths })
 }
 
 /// What may be removed, by a report that was made of the work tree: as [`plan_by_report`], with a
 /// word on what git does not look at.
-fn plan_for<W: Worktree>(
+fn plan_wanted_by_report<W: Worktree>(
     alloc: Global,
     worktree: &mut W,
     worktree_root: &[u8],
@@ -55,12 +57,12 @@ fn plan_for<W: Worktree>(
     wanted: Wanted,
     report: &Report,
 ) -> Result<Plan, CleanError>
-    ensures { AsksAfter W.Worktree worktree.old worktree.new worktree_root.now setup.now wanted
-        report.now result }
+    ensures { PlansByMadeReport W.Worktree worktree.old worktree.new worktree_root.now setup.now
+        wanted report.now result }
 {
-    let current_dir = current_dir_of(worktree_root, setup);
-    let current = current_below(alloc, worktree, worktree_root, current_dir)?;
-    Ok(plan_by(alloc, worktree_root, setup, wanted, report, &current)?)
+    let current_dir = current_dir_or_work_tree_root(worktree_root, setup);
+    let current = current_dir_below_root(alloc, worktree, worktree_root, current_dir)?;
+    Ok(plan_by_report_and_current_dir(alloc, worktree_root, setup, wanted, report, &current)?)
 }
 
 /// What may be removed from the work tree at `worktree_root`, by a report that was made of it: what
@@ -87,15 +89,15 @@ pub fn plan_by_report<W: Worktree>(
     what: What,
     report: &Report,
 ) -> Result<Plan, CleanError>
-    ensures { AsksAfter W.Worktree worktree.old worktree.new worktree_root.now setup.now
-        (as_reported what) report.now result }
+    ensures { PlansByMadeReport W.Worktree worktree.old worktree.new worktree_root.now setup.now
+        (allowing_special_and_spec_excluded what) report.now result }
 {
-    let wanted = Wanted::as_reported(what);
-    plan_for(alloc, worktree, worktree_root, setup, wanted, report)
+    let wanted = Wanted::allowing_special_and_spec_excluded(what);
+    plan_wanted_by_report(alloc, worktree, worktree_root, setup, wanted, report)
 }
 
 /// What may be removed from a work tree: as [`plan`], with a word on what git does not look at.
-pub(crate) fn plan_wanted<W: Worktree, F: Find, I: Interrupt>(
+pub(crate) fn make_report_and_plan_removal<W: Worktree, F: Find, I: Interrupt>(
     alloc: Global,
     worktree: &mut W,
     objects: &mut F,
@@ -106,11 +108,11 @@ pub(crate) fn plan_wanted<W: Worktree, F: Find, I: Interrupt>(
     finding: Finding,
 ) -> Result<Plan, CleanError>
     requires prepared { is_prepared finding setup.now.options ≡ true }
-    ensures { MakesPlan W.Worktree F.Find I.Interrupt worktree.old worktree.new objects.old
+    ensures { MakesReportAndPlan W.Worktree F.Find I.Interrupt worktree.old worktree.new objects.old
         objects.new interrupt.old interrupt.new worktree_root.now setup.now wanted result }
 {
     let report = worktree_report(alloc, worktree, objects, interrupt, worktree_root, setup)?;
-    plan_for(alloc, worktree, worktree_root, setup, wanted, &report)
+    plan_wanted_by_report(alloc, worktree, worktree_root, setup, wanted, &report)
 }
 
 /// What may be removed from the work tree at `worktree_root`, as `git clean` removes it: whole
@@ -157,18 +159,18 @@ pub fn plan<W: Worktree, F: Find, I: Interrupt>(
     finding: Finding,
 ) -> Result<Plan, CleanError>
     requires prepared { is_prepared finding setup.now.options ≡ true }
-    ensures { MakesPlan W.Worktree F.Find I.Interrupt worktree.old worktree.new objects.old
-        objects.new interrupt.old interrupt.new worktree_root.now setup.now (as_reported what)
-        result }
+    ensures { MakesReportAndPlan W.Worktree F.Find I.Interrupt worktree.old worktree.new objects.old
+        objects.new interrupt.old interrupt.new worktree_root.now setup.now
+        (allowing_special_and_spec_excluded what) result }
 {
-    plan_wanted(
+    make_report_and_plan_removal(
         alloc,
         worktree,
         objects,
         interrupt,
         worktree_root,
         setup,
-        Wanted::as_reported(what),
+        Wanted::allowing_special_and_spec_excluded(what),
         finding,
     )
 }

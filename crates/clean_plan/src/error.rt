@@ -30,9 +30,9 @@ impl From<OutOfMemory> for CleanError {
 
 impl From<ReportError> for CleanError {
     ghost use Rattle.std.specs.Prelude.{◌≡◌};
-    ghost use Rattle.clean_plan.specs.Refusals.{of_report};
+    ghost use Rattle.clean_plan.specs.Refusals.{clean_error_of_report_error};
 
-    ghost from_gives = { λ refused error. error ≡ of_report refused };
+    ghost from_gives = { λ refused error. error ≡ clean_error_of_report_error refused };
 
     fn from(refused: ReportError) -> CleanError {
         match refused {

@@ -25,5 +25,5 @@ pub use by_setup::{plan, plan_by_report};
 pub use error::CleanError;
 pub use outcome::Plan;
 pub use prepared::{is_prepared, prepare};
-pub use program::{run_clean, text_of_plan};
+pub use program::{plan_clean_as_text, run_clean};
 pub use what::{Finding, OtherNodes, TakenOut, Wanted, What};

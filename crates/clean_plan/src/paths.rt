@@ -1,6 +1,6 @@
 //! Paths in their order.
 ghost use Rattle.std.specs.Prelude.{◌≡◌, ℕ, List, [], Bool, ◌||◌, IfOk, OnOk, bytes_eq};
-ghost use Rattle.clean_plan.specs.Paths.{Ascends, is_among, without};
+ghost use Rattle.clean_plan.specs.Paths.{AscendsStrictly, is_text_in_list, paths_without_others};
 
 use gitbase_core::{OutOfMemory, PathText};
 use std::alloc::Global;
@@ -18,11 +18,11 @@ pub struct Paths<'a> {
 
 impl<'a> Model for Paths<'a> {
     ghost use Rattle.std.specs.Prelude.{ℕ, List};
-    ghost use Rattle.clean_plan.specs.Paths.{texts_of};
+    ghost use Rattle.clean_plan.specs.Paths.{borrowed_byte_strings};
 
     ghost Value = { List (List ℕ) };
 
-    ghost view = { λ paths. texts_of paths.sorted.keys };
+    ghost view = { λ paths. borrowed_byte_strings paths.sorted.keys };
 }
 
 impl<'a> Paths<'a> {
@@ -36,33 +36,34 @@ impl<'a> Paths<'a> {
     }
 
     /// Whether a path is among them.
-    pub(crate) fn has(&self, path: &[u8]) -> bool
-        ensures { result ≡ is_among path.now self.now }
+    pub(crate) fn contains_path(&self, path: &[u8]) -> bool
+        ensures { result ≡ is_text_in_list path.now self.now }
     {
         self.sorted.contains(path)
     }
 
     /// Puts a path among them, unless it is there.
     pub(crate) fn add(&mut self, path: &'a [u8]) -> Result<(), OutOfMemory>
-        ensures { (other : List ℕ) → OnOk result (is_among other self.new
-            ≡ (bytes_eq other path.now || is_among other self.old)) }
+        ensures { (other : List ℕ) → OnOk result (is_text_in_list other self.new
+            ≡ (bytes_eq other path.now || is_text_in_list other self.old)) }
     {
         self.sorted.insert(path)?;
         Ok(())
     }
 
     /// The paths but for those that stay, as texts of their own.
-    pub(crate) fn texts(
+    pub(crate) fn into_path_texts_except(
         self,
         alloc: Global,
         staying: &Paths<'_>,
     ) -> Result<Vec<PathText>, OutOfMemory>
-        ensures same { IfOk result (λ texts. texts.items ≡ without staying.now self.entry) }
-        ensures ascends { IfOk result (λ texts. Ascends texts.items) }
+        ensures same { IfOk result (λ texts. texts.items ≡ paths_without_others staying.now
+            self.entry) }
+        ensures ascends { IfOk result (λ texts. AscendsStrictly texts.items) }
     {
         let mut texts = Vec::with_capacity(alloc, self.sorted.len())?;
         for path in self.sorted {
-            if !staying.has(path) {
+            if !staying.contains_path(path) {
                 texts.push(PathText::from_bytes(alloc, path)?)?;
             }
         }

@@ -7,8 +7,8 @@ use dir_classify::{EmissionMode, ForDeletionMode};
 use worktree_report::SetupOptions;
 
 /// How deletion goes about ignored directories.
-fn deletion_of(finding: Finding) -> ForDeletionMode
-    ensures { result ≡ prepared.deletion_of finding }
+fn for_deletion_mode_of_finding(finding: Finding) -> ForDeletionMode
+    ensures { result ≡ prepared.for_deletion_mode_of_finding finding }
 {
     match finding {
         Finding::NonBare => ForDeletionMode::FindNonBareRepositoriesInIgnoredDirectories,
@@ -22,10 +22,10 @@ fn deletion_of(finding: Finding) -> ForDeletionMode
 ///
 /// See docs/DECISIONS.md#prepared-options.
 pub fn prepare(options: &mut SetupOptions, finding: Finding)
-    ensures set { options.new ≡ prepared.prepared finding options.old }
+    ensures set { options.new ≡ prepared.options_prepared_for_plan finding options.old }
     ensures prepared { prepared.is_prepared finding options.new ≡ true }
 {
-    options.for_deletion = Some(deletion_of(finding));
+    options.for_deletion = Some(for_deletion_mode_of_finding(finding));
     options.classify_untracked_bare_repositories = matches!(finding, Finding::All);
     options.recurse_repositories = false;
     options.submodules = false;
@@ -39,8 +39,8 @@ pub fn prepare(options: &mut SetupOptions, finding: Finding)
 }
 
 /// Whether repositories are found so in ignored directories.
-fn is_finding(finding: Finding, mode: Option<ForDeletionMode>) -> bool
-    ensures { result ≡ prepared.is_finding finding mode }
+fn is_for_deletion_mode_of_finding(finding: Finding, mode: Option<ForDeletionMode>) -> bool
+    ensures { result ≡ prepared.is_for_deletion_mode_of_finding finding mode }
 {
     match mode {
         None | Some(ForDeletionMode::IgnoredDirectoriesCanHideNestedRepositories) => false,
@@ -54,8 +54,8 @@ fn is_finding(finding: Finding, mode: Option<ForDeletionMode>) -> bool
 }
 
 /// Whether bare repositories are looked for just where they are to be found.
-fn fits_bare_option(finding: Finding, bare: bool) -> bool
-    ensures { result ≡ prepared.fits_bare_option finding bare }
+fn bare_option_fits_finding(finding: Finding, bare: bool) -> bool
+    ensures { result ≡ prepared.bare_option_fits_finding finding bare }
 {
     match finding {
         Finding::NonBare => !bare,
@@ -64,8 +64,8 @@ fn fits_bare_option(finding: Finding, bare: bool) -> bool
 }
 
 /// Whether untracked and ignored paths are reported each by itself.
-fn is_unfolded(options: &SetupOptions) -> bool
-    ensures { result ≡ prepared.is_unfolded options.now }
+fn emits_each_path_uncollapsed(options: &SetupOptions) -> bool
+    ensures { result ≡ prepared.emits_each_path_uncollapsed options.now }
 {
     matches!(options.emit_untracked, EmissionMode::Matching)
         && matches!(options.emit_ignored, Some(EmissionMode::Matching))
@@ -80,11 +80,11 @@ fn emits_pruned_tracked_and_empty(options: &SetupOptions) -> bool
 }
 
 /// Whether paths are to be deleted, with repositories found as asked and not looked into.
-fn is_for_deletion(options: &SetupOptions, finding: Finding) -> bool
-    ensures { result ≡ prepared.is_for_deletion finding options.now }
+fn has_deletion_options_of_finding(options: &SetupOptions, finding: Finding) -> bool
+    ensures { result ≡ prepared.has_deletion_options_of_finding finding options.now }
 {
-    is_finding(finding, options.for_deletion)
-        && fits_bare_option(finding, options.classify_untracked_bare_repositories)
+    is_for_deletion_mode_of_finding(finding, options.for_deletion)
+        && bare_option_fits_finding(finding, options.classify_untracked_bare_repositories)
         && !options.recurse_repositories
 }
 
@@ -92,11 +92,12 @@ fn is_for_deletion(options: &SetupOptions, finding: Finding) -> bool
 #[tactic(auto, using(crate::proofs::Preparing::is_same))]
 pub fn is_prepared(options: &SetupOptions, finding: Finding) -> bool
     ensures is { result ≡ prepared.is_prepared finding options.now }
-    ensures same { (result ≡ true) ↔ (prepared.prepared finding options.now ≡ options.now) }
+    ensures same { (result ≡ true) ↔ (prepared.options_prepared_for_plan finding options.now
+        ≡ options.now) }
 {
-    is_unfolded(options)
+    emits_each_path_uncollapsed(options)
         && emits_pruned_tracked_and_empty(options)
-        && is_for_deletion(options, finding)
+        && has_deletion_options_of_finding(options, finding)
         && omits_submodules_and_origins(options)
 }
 

@@ -1,14 +1,14 @@
 //! The top call.
 ghost use Rattle.std.specs.Prelude.{◌≡◌, ◌⊎◌, ◌↔◌, ◌++◌, ℕ, List, true, Some, None, IfOk, OnOk};
-ghost use Rattle.worktree_fs.specs.Causes.{NotIncreased};
+ghost use Rattle.worktree_fs.specs.Causes.{CountNotIncreased};
 ghost use Rattle.worktree_fs.specs.Tree.{Names};
-ghost use Rattle.worktree_report.specs.Ends.{Runs};
-ghost use Rattle.worktree_report.specs.Written.{Appends};
-ghost use Rattle.clean_plan.specs.Named.{requested_by};
+ghost use Rattle.worktree_report.specs.Ends.{TopCallAnswersAndEnds};
+ghost use Rattle.worktree_report.specs.Written.{AppendsWholeBytes};
+ghost use Rattle.clean_plan.specs.Named.{request_in_specification};
 ghost use Rattle.clean_plan.specs.Prepared.{is_prepared};
 ghost use Rattle.clean_plan.specs.Run as top;
 
-use crate::by_setup::plan_wanted;
+use crate::by_setup::make_report_and_plan_removal;
 use crate::error::CleanError;
 use crate::outcome::Plan;
 use crate::prepared::prepare;
@@ -18,7 +18,7 @@ use gitbase_core::{Bytes, Find, OutOfMemory, PathText};
 use std::alloc::Global;
 use worktree_fs::{Interrupt, Sink};
 use worktree_report::{
-    CountsFaults, Refusal, Setup, add_escaped, has_failed_since, read_setup,
+    CountsFaults, Refusal, Setup, append_path_escaped, has_failed_since, read_setup,
     refusal_of_report_error, write_answer,
 };
 
@@ -26,22 +26,22 @@ use worktree_report::{
 const USAGE: &[u8] = b"usage: clean untracked|all|ignored nonbare|all ROOT SETUP\n";
 
 /// Adds the lines of paths, in their order.
-fn add_paths(text: &mut Vec<u8>, paths: &[PathText]) -> Result<(), OutOfMemory>
-    ensures { OnOk result (text.new.items ≡ text.old.items ++ top.plan_text paths.now) }
+fn append_lines_of_paths(text: &mut Vec<u8>, paths: &[PathText]) -> Result<(), OutOfMemory>
+    ensures { OnOk result (text.new.items ≡ text.old.items ++ top.lines_of_plan_paths paths.now) }
 {
     for path in paths {
-        add_escaped(text, path.as_bytes())?;
+        append_path_escaped(text, path.as_bytes())?;
         text.push(b'\n')?;
     }
     Ok(())
 }
 
 /// The text of a plan: a line for each path.
-fn plan_bytes(alloc: Global, plan: &Plan) -> Result<Bytes, OutOfMemory>
-    ensures { IfOk result (λ text. text ≡ top.plan_text plan.now.paths.items) }
+fn encode_plan_lines(alloc: Global, plan: &Plan) -> Result<Bytes, OutOfMemory>
+    ensures { IfOk result (λ text. text ≡ top.lines_of_plan_paths plan.now.paths.items) }
 {
     let mut text = Vec::new(alloc);
-    add_paths(&mut text, &plan.paths)?;
+    append_lines_of_paths(&mut text, &plan.paths)?;
     Ok(Bytes::from_vec(text))
 }
 
@@ -69,7 +69,7 @@ fn refusal_of_clean_error(alloc: Global, error: CleanError) -> Result<Refusal, O
 ///   or its count stands at its last value.
 /// - `Interrupted`: the interrupt was raised, and counted it.
 /// - `OutOfMemory`: memory was refused.
-pub fn text_of_plan<W: CountsFaults, I: Interrupt>(
+pub fn plan_clean_as_text<W: CountsFaults, I: Interrupt>(
     alloc: Global,
     worktree: &mut W,
     interrupt: &mut I,
@@ -79,12 +79,12 @@ pub fn text_of_plan<W: CountsFaults, I: Interrupt>(
     finding: Finding,
 ) -> Result<Bytes, Refusal>
     requires prepared { is_prepared finding setup.now.options ≡ true }
-    ensures { top.PlanTexts W.Worktree I.Interrupt (W.precomposes worktree.old) worktree.old
-        worktree.new interrupt.old interrupt.new root.now setup.now wanted result }
+    ensures { top.AnswersPlanTextOrRefusal W.Worktree I.Interrupt (W.precomposes worktree.old)
+        worktree.old worktree.new interrupt.old interrupt.new root.now setup.now wanted result }
 {
     let before = worktree.fault_count();
     let mut objects = setup.blobs.fork(alloc)?;
-    match plan_wanted(
+    match make_report_and_plan_removal(
         alloc,
         worktree,
         &mut objects,
@@ -98,21 +98,21 @@ pub fn text_of_plan<W: CountsFaults, I: Interrupt>(
             if has_failed_since(worktree, before) {
                 return Err(Refusal::Fault);
             }
-            Ok(plan_bytes(alloc, &plan)?)
+            Ok(encode_plan_lines(alloc, &plan)?)
         }
         Err(error) => Err(refusal_of_clean_error(alloc, error)?),
     }
 }
 
 /// The text that a request asks for, or why there is none.
-fn text_at<W: CountsFaults, I: Interrupt>(
+fn clean_plan_text_for_request<W: CountsFaults, I: Interrupt>(
     alloc: Global,
     request: Request<'_>,
     worktree: &mut W,
     interrupt: &mut I,
 ) -> Result<Bytes, Refusal>
-    ensures { top.AnswersClean W.Worktree I.Interrupt worktree.old worktree.new interrupt.old
-        interrupt.new (requested_by request.entry) result }
+    ensures { top.AnswersCleanRequest W.Worktree I.Interrupt worktree.old worktree.new interrupt.old
+        interrupt.new (request_in_specification request.entry) result }
 {
     let Request {
         what,
@@ -121,29 +121,30 @@ fn text_at<W: CountsFaults, I: Interrupt>(
     } = request;
     let mut setup = read_setup(alloc, worktree, places.setup)?;
     prepare(&mut setup.options, finding);
-    text_of_plan(
+    plan_clean_as_text(
         alloc,
         worktree,
         interrupt,
         places.root,
         &setup,
-        Wanted::as_reported(what),
+        Wanted::allowing_special_and_spec_excluded(what),
         finding,
     )
 }
 
 /// The text that the words ask for, or why there is none.
-fn text_asked<W: CountsFaults, I: Interrupt>(
+fn clean_plan_text_for_words<W: CountsFaults, I: Interrupt>(
     alloc: Global,
     words: &[Bytes],
     worktree: &mut W,
     interrupt: &mut I,
 ) -> Result<Bytes, Refusal>
-    ensures { top.Answers W.Worktree I.Interrupt worktree.old worktree.new interrupt.old
-        interrupt.new (top.asked (W.precomposes worktree.old) words.now) result }
+    ensures { top.AnswersOptionalCleanRequest W.Worktree I.Interrupt worktree.old worktree.new
+        interrupt.old interrupt.new (top.request_of_words (W.precomposes worktree.old) words.now)
+        result }
 {
     match parse_clean_request(worktree.precomposes(), words) {
-        Some(request) => text_at(alloc, request, worktree, interrupt),
+        Some(request) => clean_plan_text_for_request(alloc, request, worktree, interrupt),
         None => Err(Refusal::Usage),
     }
 }
@@ -181,29 +182,31 @@ pub fn run_clean<W: CountsFaults, I: Interrupt, S: Sink, E: Sink>(
 ) -> u8
     // What the words ask for came to an answer: a text, or a refusal with its cause. The status, `out` and `err` are as that answer
     // has it, and what stays is said of each.
-    ensures runs { Runs S.Sink E.Sink out.old out.new err.old err.new top.usage
-        (top.Answers W.Worktree I.Interrupt worktree.old worktree.new interrupt.old interrupt.new
-        (top.asked (W.precomposes worktree.old) words.now)) result }
+    ensures runs { TopCallAnswersAndEnds S.Sink E.Sink out.old out.new err.old err.new top.usage
+        (top.AnswersOptionalCleanRequest W.Worktree I.Interrupt worktree.old worktree.new
+        interrupt.old interrupt.new (top.request_of_words (W.precomposes worktree.old) words.now))
+        result }
 
     // Status 0: no fault was counted, and the count does not stand at its last value.
     ensures unfaulted { result ≡ 0 → (W.faults worktree.new ≡ W.faults worktree.old)
-        × NotIncreased (W.faults worktree.old) (W.faults worktree.new) }
+        × CountNotIncreased (W.faults worktree.old) (W.faults worktree.new) }
 
     // Status 0, over a told tree: what `out` has is what it had, and the lines of the plan.
     ensures plan { (t : Names) → W.told worktree.old ≡ Some t → result ≡ 0
-        → (text : List ℕ) × top.IsOutput (W.precomposes worktree.old) t words.now text
-        × Appends (S.written out.old) (S.written out.new) text }
+        → (text : List ℕ) × top.IsPlanTextOfWords (W.precomposes worktree.old) t words.now text
+        × AppendsWholeBytes (S.written out.old) (S.written out.new) text }
 
     // Status 2 exactly where the words ask for nothing.
-    ensures usage { (result ≡ 2) ↔ (top.asked (W.precomposes worktree.old) words.now ≡ None) }
+    ensures usage { (result ≡ 2) ↔ (top.request_of_words (W.precomposes worktree.old) words.now
+        ≡ None) }
 
     // Valid input, over a told tree and with nothing counted.
-    ensures complete { (t : Names) → W.told worktree.old ≡ Some t
-        → top.IsValid (W.precomposes worktree.old) t words.now
-        → NotIncreased (W.faults worktree.old) (W.faults worktree.new)
-        → NotIncreased (I.raised interrupt.old) (I.raised interrupt.new)
-        → NotIncreased (S.refusals out.old) (S.refusals out.new) → (result ≡ 0) ⊎ (result ≡ 8) }
+    ensures complete { (t : Names) → W.told worktree.old ≡ Some t → top.AreValidCleanWords
+        (W.precomposes worktree.old) t words.now → CountNotIncreased (W.faults worktree.old)
+        (W.faults worktree.new) → CountNotIncreased (I.raised interrupt.old)
+        (I.raised interrupt.new) → CountNotIncreased (S.refusals out.old) (S.refusals out.new)
+        → (result ≡ 0) ⊎ (result ≡ 8) }
 {
-    let answer = text_asked(alloc, words, worktree, interrupt);
+    let answer = clean_plan_text_for_words(alloc, words, worktree, interrupt);
     write_answer(alloc, USAGE, answer, out, err)
 }

@@ -1,6 +1,6 @@
 //! What is asked for.
 ghost use Rattle.std.specs.Prelude.{◌≡◌};
-ghost use Rattle.clean_plan.specs.Wanted.{as_git_sees, as_reported};
+ghost use Rattle.clean_plan.specs.Wanted.{keeping_special_and_spec_excluded, allowing_special_and_spec_excluded};
 
 /// Which paths may be removed.
 ///
@@ -48,8 +48,8 @@ pub struct Wanted {
 impl Wanted {
     /// Each entry of the report may be removed for what is said of it: other nodes too, and what
     /// the path specs do not take out itself.
-    pub fn as_reported(what: What) -> Wanted
-        ensures { result ≡ as_reported what }
+    pub fn allowing_special_and_spec_excluded(what: What) -> Wanted
+        ensures { result ≡ allowing_special_and_spec_excluded what }
     {
         Wanted {
             what,
@@ -60,8 +60,8 @@ impl Wanted {
 
     /// What git does not look at stays too: other nodes, unless a directory above them goes as a
     /// whole, and what lies in a directory that the path specs take out.
-    pub fn as_git_sees(what: What) -> Wanted
-        ensures { result ≡ as_git_sees what }
+    pub fn keeping_special_and_spec_excluded(what: What) -> Wanted
+        ensures { result ≡ keeping_special_and_spec_excluded what }
     {
         Wanted {
             what,

@@ -1,11 +1,13 @@
 //! The words of a command line that ask for a plan.
 ghost use Rattle.std.specs.Prelude.{◌≡◌, option_map};
-ghost use Rattle.clean_plan.specs.Named.{requested_by};
-ghost use Rattle.clean_plan.specs.Words.{parse_clean_request, finding_of, request_of, what_of};
+ghost use Rattle.clean_plan.specs.Named.{request_in_specification};
+ghost use Rattle.clean_plan.specs.Words.{parse_clean_request, parse_repository_finding, parse_request_operands, parse_what_to_remove};
 
 use crate::what::{Finding, What};
 use gitbase_core::Bytes;
-use worktree_report::{Places, command_words, places_of, words_after_name};
+use worktree_report::{
+    Places, parse_root_and_setup_words, words_behind_composed, words_behind_first_word,
+};
 
 /// What may be removed, how repositories are looked for, and where.
 #[derive(Clone, Copy, Debug)]
@@ -16,8 +18,8 @@ pub struct Request<'a> {
 }
 
 /// Which paths a word asks for.
-fn what_of(word: &[u8]) -> Option<What>
-    ensures { result ≡ what_of word.now }
+fn parse_what_to_remove(word: &[u8]) -> Option<What>
+    ensures { result ≡ parse_what_to_remove word.now }
 {
     if word == b"untracked".as_slice() {
         Some(What::Untracked)
@@ -31,8 +33,8 @@ fn what_of(word: &[u8]) -> Option<What>
 }
 
 /// Which repositories a word asks to look for.
-fn finding_of(word: &[u8]) -> Option<Finding>
-    ensures { result ≡ finding_of word.now }
+fn parse_repository_finding(word: &[u8]) -> Option<Finding>
+    ensures { result ≡ parse_repository_finding word.now }
 {
     if word == b"nonbare".as_slice() {
         Some(Finding::NonBare)
@@ -44,15 +46,15 @@ fn finding_of(word: &[u8]) -> Option<Finding>
 }
 
 /// What WHAT, FIND, ROOT and SETUP ask for. None for any other words.
-#[tactic(auto, unfolding(crate::specs::Words::request_of))]
-fn request_of(words: &[Bytes]) -> Option<Request<'_>>
-    ensures { option_map requested_by result ≡ request_of words.now }
+#[tactic(auto, unfolding(crate::specs::Words::parse_request_operands))]
+fn parse_request_operands(words: &[Bytes]) -> Option<Request<'_>>
+    ensures { option_map request_in_specification result ≡ parse_request_operands words.now }
 {
     match words {
         [what, finding, rest @ ..] => Some(Request {
-            what: what_of(what.as_bytes())?,
-            finding: finding_of(finding.as_bytes())?,
-            places: places_of(rest)?,
+            what: parse_what_to_remove(what.as_bytes())?,
+            finding: parse_repository_finding(finding.as_bytes())?,
+            places: parse_root_and_setup_words(rest)?,
         }),
         _ => None,
     }
@@ -62,7 +64,10 @@ fn request_of(words: &[Bytes]) -> Option<Request<'_>>
 /// with `composed` before it exactly where the worktree composes names. None for any other words.
 #[tactic(auto, unfolding(crate::specs::Words::parse_clean_request))]
 pub(crate) fn parse_clean_request(composes: bool, words: &[Bytes]) -> Option<Request<'_>>
-    ensures { option_map requested_by result ≡ parse_clean_request composes words.now }
+    ensures { option_map request_in_specification result ≡ parse_clean_request composes words.now }
 {
-    request_of(words_after_name(b"clean", command_words(composes, words)?)?)
+    parse_request_operands(words_behind_first_word(
+        b"clean",
+        words_behind_composed(composes, words)?,
+    )?)
 }

@@ -2,9 +2,9 @@
 use crate::plans::setup_in;
 use crate::tree::tree_of;
 use bstr::ByteSlice;
-use clean_plan::{Finding, Wanted, What, is_prepared, text_of_plan};
+use clean_plan::{Finding, Wanted, What, is_prepared, plan_clean_as_text};
 use std::alloc::Global;
-use test_cases::{held, split_at_mark, text_of};
+use test_cases::{held, lines_of_field_steps, split_at_mark};
 use worktree_fs::{MemoryWorktree, PlannedInterrupt};
 use worktree_report::Setup;
 
@@ -112,11 +112,11 @@ fn text_is(
     if !is_prepared(&setup.options, finding) {
         return false;
     }
-    let Some(lines) = text_of(alloc, want) else {
+    let Some(lines) = lines_of_field_steps(alloc, want) else {
         return false;
     };
     let mut interrupt = PlannedInterrupt::never();
-    match text_of_plan(alloc, tree, &mut interrupt, b"/w", setup, wanted, finding) {
+    match plan_clean_as_text(alloc, tree, &mut interrupt, b"/w", setup, wanted, finding) {
         Ok(text) => text.as_bytes() == lines.as_slice(),
         Err(_) => false,
     }
@@ -133,8 +133,8 @@ fn holds(alloc: Global, row: &[u8], reversed: bool) -> bool {
     let Some(setup) = setup_in(alloc, setup, Finding::NonBare) else {
         return false;
     };
-    let with = Wanted::as_reported(What::UntrackedAndIgnored);
-    let without = Wanted::as_git_sees(What::UntrackedAndIgnored);
+    let with = Wanted::allowing_special_and_spec_excluded(What::UntrackedAndIgnored);
+    let without = Wanted::keeping_special_and_spec_excluded(What::UntrackedAndIgnored);
     text_is(alloc, &mut tree, &setup, with, reported)
         && text_is(alloc, &mut tree, &setup, without, seen)
 }

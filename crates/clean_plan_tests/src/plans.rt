@@ -4,7 +4,7 @@ use bstr::ByteSlice;
 use clean_plan::{CleanError, Finding, Plan, What, is_prepared, plan, prepare};
 use gitbase_core::MemoryStore;
 use std::alloc::Global;
-use test_cases::{held, split_at_mark, text_of};
+use test_cases::{held, lines_of_field_steps, split_at_mark};
 use worktree_fs::{MemoryWorktree, PlannedInterrupt};
 use worktree_report::Setup;
 
@@ -261,7 +261,7 @@ pub fn setup_of(alloc: Global, lines: &[u8], finding: Finding) -> Option<Setup> 
 
 /// The prepared setup whose lines are the steps of a field.
 pub fn setup_in(alloc: Global, field: &[u8], finding: Finding) -> Option<Setup> {
-    let lines = text_of(alloc, field)?;
+    let lines = lines_of_field_steps(alloc, field)?;
     setup_of(alloc, &lines, finding)
 }
 

@@ -2,8 +2,8 @@
 use crate::plans::setup_in;
 use crate::tree::tree_of;
 use bstr::ByteSlice;
-use clean_plan::{Finding, Wanted, What, is_prepared, text_of_plan};
-use gitbase_core::{Bytes, is_path_prefix};
+use clean_plan::{Finding, Wanted, What, is_prepared, plan_clean_as_text};
+use gitbase_core::{Bytes, is_prefix_by_whole_components};
 use std::alloc::Global;
 use test_cases::{held, split_at_mark};
 use worktree_fs::PlannedInterrupt;
@@ -159,7 +159,7 @@ fn text_of(alloc: Global, setup: &Setup, wanted: Wanted, reversed: bool) -> Opti
     }
     let mut tree = tree_of(alloc, NODES, reversed)?;
     let mut interrupt = PlannedInterrupt::never();
-    let text = text_of_plan(
+    let text = plan_clean_as_text(
         alloc,
         &mut tree,
         &mut interrupt,
@@ -174,7 +174,7 @@ fn text_of(alloc: Global, setup: &Setup, wanted: Wanted, reversed: bool) -> Opti
 /// Whether some of these paths are at or above a path.
 fn is_within(path: &[u8], paths: &[u8]) -> bool {
     for other in paths.split(|byte| *byte == b';') {
-        if !other.is_empty() && is_path_prefix(other, path) {
+        if !other.is_empty() && is_prefix_by_whole_components(other, path) {
             return true;
         }
     }
@@ -212,8 +212,18 @@ fn row_holds(alloc: Global, row: &[u8], reversed: bool) -> Option<bool> {
     let (seen, named) = split_at_mark(rest, b"\nnamed:");
     let setup = setup_in(alloc, setup, Finding::NonBare)?;
     let what = What::UntrackedAndIgnored;
-    let all = text_of(alloc, &setup, Wanted::as_reported(what), reversed)?;
-    let text = text_of(alloc, &setup, Wanted::as_git_sees(what), reversed)?;
+    let all = text_of(
+        alloc,
+        &setup,
+        Wanted::allowing_special_and_spec_excluded(what),
+        reversed,
+    )?;
+    let text = text_of(
+        alloc,
+        &setup,
+        Wanted::keeping_special_and_spec_excluded(what),
+        reversed,
+    )?;
     let text = text.as_bytes();
     let (reported, seen, named) = (held(reported), held(seen), held(named));
     Some(are_lines(all.as_bytes(), reported) && are_lines(text, seen) && are_within(text, named))

@@ -6,11 +6,11 @@ use Rattle.command_line.specs.declared.choice.Choice.{Choice}
 use Rattle.command_line.specs.declared.choice.Choice.TheVariants as choices
 use Rattle.command_line.specs.declared.opt.Opt.{Opt}
 use Rattle.command_line.specs.declared.opt.Opt.TheVariants as opts
-use Rattle.command_line.specs.Options.{first_of}
+use Rattle.command_line.specs.Options.{first_some}
 
 -- those that `no-` before them turns off
-abbrev pub negatable_choice_of : List ℕ → Option Choice
-negatable_choice_of name =
+abbrev pub negatable_ls_files_choice_of_name : List ℕ → Option Choice
+negatable_ls_files_choice_of_name name =
     if bytes_eq name (codes "cached") then Some choices.Cached
     else if bytes_eq name (codes "stage") then Some choices.Stages
     else if bytes_eq name (codes "unmerged") then Some choices.Unmerged
@@ -26,17 +26,17 @@ negatable_choice_of name =
     else None
 
 -- those that nothing turns off
-abbrev pub firm_choice_of : List ℕ → Option Choice
-firm_choice_of name =
+abbrev pub unnegatable_ls_files_choice_of_name : List ℕ → Option Choice
+unnegatable_ls_files_choice_of_name name =
     if bytes_eq name (codes "full-name") then Some choices.FullNames else None
 
 -- git's, of what a path is or which rules are asked; not answered here
-abbrev pub is_left_rule : List ℕ → Bool
-is_left_rule name = bytes_eq name (codes "resolve-undo")
+abbrev pub is_resolve_undo_option : List ℕ → Bool
+is_resolve_undo_option name = bytes_eq name (codes "resolve-undo")
 
 -- git's, of submodules, objects and forms; not answered here
-abbrev pub is_left_form : List ℕ → Bool
-is_left_form name =
+abbrev pub is_unsupported_ls_files_form_option : List ℕ → Bool
+is_unsupported_ls_files_form_option name =
     bytes_eq name (codes "recurse-submodules")
     || (bytes_eq name (codes "eol")
     || (bytes_eq name (codes "with-tree")
@@ -46,28 +46,28 @@ is_left_form name =
     || bytes_eq name (codes "sparse"))))))
 
 -- an option of git's `ls-files` that is refused by name: of rules, or of the form
-abbrev pub is_left : List ℕ → Bool
-is_left name = is_left_rule name || is_left_form name
+abbrev pub is_unsupported_ls_files_option : List ℕ → Bool
+is_unsupported_ls_files_option name = is_resolve_undo_option name || is_unsupported_ls_files_form_option name
 
 -- a choice that is made, and one that is dropped
-abbrev pub made : Option Choice → Option Opt
-made choice = option_map (λ (c : Choice). opts.Chooses c) choice
+abbrev pub choosing_option_of_optional_choice : Option Choice → Option Opt
+choosing_option_of_optional_choice choice = option_map (λ (c : Choice). opts.Chooses c) choice
 
 -- the option that drops a choice
-abbrev pub dropped : Option Choice → Option Opt
-dropped choice = option_map (λ (c : Choice). opts.Drops c) choice
+abbrev pub dropping_option_of_optional_choice : Option Choice → Option Opt
+dropping_option_of_optional_choice choice = option_map (λ (c : Choice). opts.Drops c) choice
 
 -- the option of a choice by its name, dropped behind `no-`
-abbrev pub chosen_by : List ℕ → Option Opt
-chosen_by name = if starts_with nat_eq name (codes "no-") then dropped (negatable_choice_of (drop 3 name)) else made (negatable_choice_of name)
+abbrev pub ls_files_option_with_optional_no_prefix : List ℕ → Option Opt
+ls_files_option_with_optional_no_prefix name = if starts_with nat_eq name (codes "no-") then dropping_option_of_optional_choice (negatable_ls_files_choice_of_name (drop 3 name)) else choosing_option_of_optional_choice (negatable_ls_files_choice_of_name name)
 
 -- the option that a long name means to `ls-files`: one that nothing drops, or a choice
-abbrev pub choosing : List ℕ → Option Opt
-choosing name = first_of (made (firm_choice_of name)) (chosen_by name)
+abbrev pub ls_files_choice_option_of_name : List ℕ → Option Opt
+ls_files_choice_option_of_name name = first_some (choosing_option_of_optional_choice (unnegatable_ls_files_choice_of_name name)) (ls_files_option_with_optional_no_prefix name)
 
 -- those of rules
-abbrev pub rule_opt_of : List ℕ → Option Opt
-rule_opt_of name =
+abbrev pub exclude_option_of_name : List ℕ → Option Opt
+exclude_option_of_name name =
     if bytes_eq name (codes "exclude") then Some opts.Pattern
     else if bytes_eq name (codes "exclude-from") then Some opts.ExcludeFrom
     else if bytes_eq name (codes "exclude-standard") then Some opts.Standard
@@ -75,15 +75,15 @@ rule_opt_of name =
     else None
 
 -- the option of a name, which stands behind `--`
-unfoldable pub listing_opt_of : List ℕ → Option Opt
-listing_opt_of name =
+unfoldable pub ls_files_option_of_name : List ℕ → Option Opt
+ls_files_option_of_name name =
     if bytes_eq name (codes "help") then Some opts.Help
-    else if is_left name then Some opts.Left
-    else first_of (rule_opt_of name) (choosing name)
+    else if is_unsupported_ls_files_option name then Some opts.Left
+    else first_some (exclude_option_of_name name) (ls_files_choice_option_of_name name)
 
 -- the choice of a letter, which stands behind `-`: c, s, u, o, k, d, m, i, t, v, z
-abbrev pub choice_of_letter : ℕ → Option Choice
-choice_of_letter letter =
+abbrev pub ls_files_choice_of_letter : ℕ → Option Choice
+ls_files_choice_of_letter letter =
     if letter == 99 then Some choices.Cached
     else if letter == 115 then Some choices.Stages
     else if letter == 117 then Some choices.Unmerged
@@ -98,14 +98,14 @@ choice_of_letter letter =
     else None
 
 -- git's, and not answered here: f
-abbrev pub is_left_letter : ℕ → Bool
-is_left_letter letter = letter == 102
+abbrev pub is_unsupported_ls_files_letter : ℕ → Bool
+is_unsupported_ls_files_letter letter = letter == 102
 
 -- x, X, and h
-abbrev pub listing_opt_of_letter : ℕ → Option Opt
-listing_opt_of_letter letter =
+abbrev pub ls_files_option_of_letter : ℕ → Option Opt
+ls_files_option_of_letter letter =
     if letter == 104 then Some opts.Help
     else if letter == 120 then Some opts.Pattern
     else if letter == 88 then Some opts.ExcludeFrom
-    else if is_left_letter letter then Some opts.Left
-    else made (choice_of_letter letter)
+    else if is_unsupported_ls_files_letter letter then Some opts.Left
+    else choosing_option_of_optional_choice (ls_files_choice_of_letter letter)

@@ -12,35 +12,35 @@ use Rattle.command_line.specs.declared.opt.Opt.TheVariants as opts
 -- ---- names
 
 -- those that `no-` before them turns off
-abbrev pub clean_choice_of : List ℕ → Option CleanChoice
-clean_choice_of name =
+abbrev pub negatable_clean_choice_of_name : List ℕ → Option CleanChoice
+negatable_clean_choice_of_name name =
     if bytes_eq name (codes "dry-run") then Some choices.DryRun
     else if bytes_eq name (codes "quiet") then Some choices.Quiet
     else None
 
 -- a choice that is made or dropped
-abbrev pub cleans : Bool → Option CleanChoice → Option Opt
-cleans is_on choice = option_map (λ (c : CleanChoice). opts.Cleans c is_on) choice
+abbrev pub clean_option_of_optional_choice : Bool → Option CleanChoice → Option Opt
+clean_option_of_optional_choice is_on choice = option_map (λ (c : CleanChoice). opts.Cleans c is_on) choice
 
 -- the option of a name for `clean`, turned on or off: `force`, or a choice
-abbrev pub cleaning_named : Bool → List ℕ → Option Opt
-cleaning_named is_on name = if bytes_eq name (codes "force") then Some (opts.Forces is_on) else cleans is_on (clean_choice_of name)
+abbrev pub clean_option_of_name_by_flag : Bool → List ℕ → Option Opt
+clean_option_of_name_by_flag is_on name = if bytes_eq name (codes "force") then Some (opts.Forces is_on) else clean_option_of_optional_choice is_on (negatable_clean_choice_of_name name)
 
 -- the option that a long name means to `clean`, off behind `no-`
-abbrev pub cleaning_by : List ℕ → Option Opt
-cleaning_by name = if starts_with nat_eq name (codes "no-") then cleaning_named false (drop 3 name) else cleaning_named true name
+abbrev pub clean_option_with_optional_no_prefix : List ℕ → Option Opt
+clean_option_with_optional_no_prefix name = if starts_with nat_eq name (codes "no-") then clean_option_of_name_by_flag false (drop 3 name) else clean_option_of_name_by_flag true name
 
 -- git's, and not answered here
-abbrev pub is_left_of_cleaning : List ℕ → Bool
-is_left_of_cleaning name = bytes_eq name (codes "interactive") || bytes_eq name (codes "no-interactive")
+abbrev pub is_unsupported_clean_option : List ℕ → Bool
+is_unsupported_clean_option name = bytes_eq name (codes "interactive") || bytes_eq name (codes "no-interactive")
 
 -- the option of a name, which stands behind `--`
-unfoldable pub cleaning_opt_of : List ℕ → Option Opt
-cleaning_opt_of name =
+unfoldable pub clean_option_of_name : List ℕ → Option Opt
+clean_option_of_name name =
     if bytes_eq name (codes "help") then Some opts.Help
     else if bytes_eq name (codes "exclude") then Some opts.Pattern
-    else if is_left_of_cleaning name then Some opts.Left
-    else cleaning_by name
+    else if is_unsupported_clean_option name then Some opts.Left
+    else clean_option_with_optional_no_prefix name
 
 -- ---- letters
 
@@ -55,27 +55,27 @@ clean_choice_of_letter letter =
     else None
 
 -- and h, f, e; i is not answered here
-abbrev pub cleaning_opt_of_letter : ℕ → Option Opt
-cleaning_opt_of_letter letter =
+abbrev pub clean_option_of_letter : ℕ → Option Opt
+clean_option_of_letter letter =
     if letter == 104 then Some opts.Help
     else if letter == 102 then Some (opts.Forces true)
     else if letter == 101 then Some opts.Pattern
     else if letter == 105 then Some opts.Left
-    else cleans true (clean_choice_of_letter letter)
+    else clean_option_of_optional_choice true (clean_choice_of_letter letter)
 
 -- ---- patterns
 
 -- a line feed stands among the bytes
-abbrev pub has_feed : List ℕ → Bool
-has_feed bytes = is_some (position (λ b. b == 10) bytes)
+abbrev pub contains_line_feed : List ℕ → Bool
+contains_line_feed bytes = is_some (position (λ b. b == 10) bytes)
 
 -- it ends in a blank or a carriage return
-abbrev pub ends_blank : List ℕ → Bool
-ends_blank bytes = ends_with nat_eq bytes (32 ∷ []) || ends_with nat_eq bytes (13 ∷ [])
+abbrev pub ends_in_space_or_carriage_return : List ℕ → Bool
+ends_in_space_or_carriage_return bytes = ends_with nat_eq bytes (32 ∷ []) || ends_with nat_eq bytes (13 ∷ [])
 
 -- A pattern that can stand as a line of a rules file. Others, which git takes too, are not answered here.
-abbrev pub is_line : List ℕ → Bool
-is_line bytes = not (has_feed bytes) && not (ends_blank bytes)
+abbrev pub lacks_line_feed_and_trailing_blank : List ℕ → Bool
+lacks_line_feed_and_trailing_blank bytes = not (contains_line_feed bytes) && not (ends_in_space_or_carriage_return bytes)
 
 -- ---- how often `-f` stands
 
@@ -88,21 +88,21 @@ with_one_more_force forces.Alone = forces.Twice
 with_one_more_force forces.Twice = forces.Twice
 
 -- once more, or not at all behind `--no-force`
-abbrev pub forced : Bool → Force → Force
-forced is_on force = if is_on then with_one_more_force force else forces.Dropped
+abbrev pub with_force_or_no_force : Bool → Force → Force
+with_force_or_no_force is_on force = if is_on then with_one_more_force force else forces.Dropped
 
 -- Something may be removed without `-n`. `clean.requireForce` counts as one `-f` where it is false, which is lax.
-abbrev pub is_forced : Force → Bool → Bool
-is_forced forces.Unsaid is_lax = is_lax
-is_forced forces.Dropped is_lax = false
-is_forced forces.Once is_lax = true
-is_forced forces.Alone is_lax = true
-is_forced forces.Twice is_lax = true
+abbrev pub is_force_given_counting_config : Force → Bool → Bool
+is_force_given_counting_config forces.Unsaid is_lax = is_lax
+is_force_given_counting_config forces.Dropped is_lax = false
+is_force_given_counting_config forces.Once is_lax = true
+is_force_given_counting_config forces.Alone is_lax = true
+is_force_given_counting_config forces.Twice is_lax = true
 
 -- repositories too
-abbrev pub is_forced_twice : Force → Bool → Bool
-is_forced_twice forces.Unsaid is_lax = false
-is_forced_twice forces.Dropped is_lax = false
-is_forced_twice forces.Once is_lax = is_lax
-is_forced_twice forces.Alone is_lax = false
-is_forced_twice forces.Twice is_lax = true
+abbrev pub is_force_given_twice_counting_config : Force → Bool → Bool
+is_force_given_twice_counting_config forces.Unsaid is_lax = false
+is_force_given_twice_counting_config forces.Dropped is_lax = false
+is_force_given_twice_counting_config forces.Once is_lax = is_lax
+is_force_given_twice_counting_config forces.Alone is_lax = false
+is_force_given_twice_counting_config forces.Twice is_lax = true

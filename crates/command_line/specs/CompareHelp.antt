@@ -3,8 +3,8 @@ use Rattle.std.specs.Prelude.{ℕ, List, [], ◌∷◌, ◌++◌, codes}
 use Rattle.std.specs.List.{flat_map}
 
 -- the help text of `diff-files`
-unfoldable pub compare : List ℕ
-compare =
+unfoldable pub diff_files_help_text : List ℕ
+diff_files_help_text =
     flat_map (λ (line : List ℕ). line ++ 10 ∷ [])
     (codes "usage: tizhagor [-C DIR] diff-files [OPTION..] [-- PATH..]"
     ∷ codes ""

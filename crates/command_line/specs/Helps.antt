@@ -2,22 +2,22 @@
 use Rattle.std.specs.Prelude.{ℕ, List, [], ◌∷◌, ◌++◌, codes}
 use Rattle.std.specs.List.{flat_map}
 use Rattle.command_line.specs.CheckHelp.{check}
-use Rattle.command_line.specs.CompareHelp.{compare}
+use Rattle.command_line.specs.CompareHelp.{diff_files_help_text}
 use Rattle.command_line.specs.declared.verb.Topic.{Topic}
 use Rattle.command_line.specs.declared.verb.Topic.TheVariants as topics
 use Rattle.command_line.specs.declared.verb.Verb.TheVariants as verbs
 
 -- how a command is called
-abbrev pub usage_of : Topic → List ℕ
-usage_of topics.Whole = codes "usage: tizhagor [-C DIR] report|plan|modules|state|ls-files|clean|diff-files|check-ignore [OPTION..] [--] [PATH..]\n"
-usage_of (topics.Of verbs.Report) = codes "usage: tizhagor [-C DIR] report [OPTION..] [--] [PATH..]\n"
-usage_of (topics.Of verbs.Plan) = codes "usage: tizhagor plan [OPTION..] [--] [PATH..]\n"
-usage_of (topics.Of verbs.Modules) = codes "usage: tizhagor [-C DIR] modules [OPTION..]\n"
-usage_of (topics.Of verbs.State) = codes "usage: tizhagor [-C DIR] state [OPTION..]\n"
-usage_of (topics.Of verbs.Files) = codes "usage: tizhagor [-C DIR] ls-files [OPTION..] [--] [PATH..]\n"
-usage_of (topics.Of verbs.Clean) = codes "usage: tizhagor clean -n [OPTION..] [--] [PATH..]\n"
-usage_of (topics.Of verbs.Compare) = codes "usage: tizhagor [-C DIR] diff-files [OPTION..] [-- PATH..]\n"
-usage_of (topics.Of verbs.Check) = codes "usage: tizhagor [-C DIR] check-ignore [OPTION..] [--] [PATH..]\n"
+abbrev pub usage_line_of_topic : Topic → List ℕ
+usage_line_of_topic topics.Whole = codes "usage: tizhagor [-C DIR] report|plan|modules|state|ls-files|clean|diff-files|check-ignore [OPTION..] [--] [PATH..]\n"
+usage_line_of_topic (topics.Of verbs.Report) = codes "usage: tizhagor [-C DIR] report [OPTION..] [--] [PATH..]\n"
+usage_line_of_topic (topics.Of verbs.Plan) = codes "usage: tizhagor plan [OPTION..] [--] [PATH..]\n"
+usage_line_of_topic (topics.Of verbs.Modules) = codes "usage: tizhagor [-C DIR] modules [OPTION..]\n"
+usage_line_of_topic (topics.Of verbs.State) = codes "usage: tizhagor [-C DIR] state [OPTION..]\n"
+usage_line_of_topic (topics.Of verbs.Files) = codes "usage: tizhagor [-C DIR] ls-files [OPTION..] [--] [PATH..]\n"
+usage_line_of_topic (topics.Of verbs.Clean) = codes "usage: tizhagor clean -n [OPTION..] [--] [PATH..]\n"
+usage_line_of_topic (topics.Of verbs.Compare) = codes "usage: tizhagor [-C DIR] diff-files [OPTION..] [-- PATH..]\n"
+usage_line_of_topic (topics.Of verbs.Check) = codes "usage: tizhagor [-C DIR] check-ignore [OPTION..] [--] [PATH..]\n"
 
 -- lines, each with a line feed
 abbrev text : List (List ℕ) → List ℕ
@@ -158,8 +158,8 @@ modules =
     )
 
 -- the help text of `state`
-unfoldable pub state : List ℕ
-state =
+unfoldable pub state_help_text : List ℕ
+state_help_text =
     text
     (codes "usage: tizhagor [-C DIR] state [OPTION..]"
     ∷ codes ""
@@ -283,17 +283,17 @@ clean =
     )
 
 -- the help text of a command, or of the whole program
-abbrev pub help_of : Topic → List ℕ
-help_of topics.Whole = general_help_text
-help_of (topics.Of verbs.Report) = report
-help_of (topics.Of verbs.Plan) = plan
-help_of (topics.Of verbs.Modules) = modules
-help_of (topics.Of verbs.State) = state
-help_of (topics.Of verbs.Files) = files
-help_of (topics.Of verbs.Clean) = clean
-help_of (topics.Of verbs.Compare) = compare
-help_of (topics.Of verbs.Check) = check
+abbrev pub help_text_of_topic : Topic → List ℕ
+help_text_of_topic topics.Whole = general_help_text
+help_text_of_topic (topics.Of verbs.Report) = report
+help_text_of_topic (topics.Of verbs.Plan) = plan
+help_text_of_topic (topics.Of verbs.Modules) = modules
+help_text_of_topic (topics.Of verbs.State) = state_help_text
+help_text_of_topic (topics.Of verbs.Files) = files
+help_text_of_topic (topics.Of verbs.Clean) = clean
+help_text_of_topic (topics.Of verbs.Compare) = diff_files_help_text
+help_text_of_topic (topics.Of verbs.Check) = check
 
 -- what `--version` prints
-abbrev pub version : List ℕ
-version = codes "tizhagor, unreleased\n"
+abbrev pub version_line : List ℕ
+version_line = codes "tizhagor, unreleased\n"

@@ -18,8 +18,8 @@ use Rattle.command_line.specs.declared.verb.Verb.TheVariants.{Report, Plan, Modu
 -- ---- names
 
 -- what is reported
-abbrev pub shown_of : List ℕ → Option Switch
-shown_of name =
+abbrev pub output_switch_of_name : List ℕ → Option Switch
+output_switch_of_name name =
     if bytes_eq name (codes "tracked") then Some switches.Tracked
     else if bytes_eq name (codes "pruned") then Some switches.Pruned
     else if bytes_eq name (codes "empty-directories") then Some switches.EmptyDirectories
@@ -29,8 +29,8 @@ shown_of name =
     else None
 
 -- how paths are looked at
-abbrev pub looked_of : List ℕ → Option Switch
-looked_of name =
+abbrev pub walk_switch_of_name : List ℕ → Option Switch
+walk_switch_of_name name =
     if bytes_eq name (codes "excludes") then Some switches.Excludes
     else if bytes_eq name (codes "precious") then Some switches.Precious
     else if bytes_eq name (codes "strict-parents") then Some switches.StrictParents
@@ -40,17 +40,17 @@ looked_of name =
     else None
 
 -- the first of two that is there
-abbrev pub first_of : {A : Type 0} → Option A → Option A → Option A
-first_of (Some a) other = Some a
-first_of None other = other
+abbrev pub first_some : {A : Type 0} → Option A → Option A → Option A
+first_some (Some a) other = Some a
+first_some None other = other
 
 -- what a name turns on
-unfoldable pub switch_of : List ℕ → Option Switch
-switch_of name = first_of (shown_of name) (looked_of name)
+unfoldable pub switch_of_name : List ℕ → Option Switch
+switch_of_name name = first_some (output_switch_of_name name) (walk_switch_of_name name)
 
 -- options that have a value, or may have one
-abbrev pub valued_of : List ℕ → Option Opt
-valued_of name =
+abbrev pub valued_option_of_name : List ℕ → Option Opt
+valued_option_of_name name =
     if bytes_eq name (codes "untracked-files") then Some opts.Untracked
     else if bytes_eq name (codes "ignored") then Some opts.Ignored
     else if bytes_eq name (codes "collapsed") then Some opts.Collapsed
@@ -62,8 +62,8 @@ valued_of name =
     else None
 
 -- options that have none and turn nothing on or off
-abbrev pub plain_of : List ℕ → Option Opt
-plain_of name =
+abbrev pub valueless_option_of_name : List ℕ → Option Opt
+valueless_option_of_name name =
     if bytes_eq name (codes "nonbare") then Some opts.NonBare
     else if bytes_eq name (codes "by-stat") then Some opts.ByStat
     else if bytes_eq name (codes "null") then Some opts.Nul
@@ -73,18 +73,18 @@ plain_of name =
     else None
 
 -- `NAME` turns on what it says, `no-NAME` turns it off
-abbrev pub turned_by : List ℕ → Option Opt
-turned_by name =
-    if starts_with nat_eq name (codes "no-") then option_map (λ (s : Switch). opts.Without s) (switch_of (drop 3 name))
-    else option_map (λ (s : Switch). opts.With s) (switch_of name)
+abbrev pub switch_option_with_optional_no_prefix : List ℕ → Option Opt
+switch_option_with_optional_no_prefix name =
+    if starts_with nat_eq name (codes "no-") then option_map (λ (s : Switch). opts.Without s) (switch_of_name (drop 3 name))
+    else option_map (λ (s : Switch). opts.With s) (switch_of_name name)
 
 -- the option of a name, which stands behind `--`
-unfoldable pub opt_of : List ℕ → Option Opt
-opt_of name = first_of (valued_of name) (first_of (plain_of name) (turned_by name))
+unfoldable pub option_of_name : List ℕ → Option Opt
+option_of_name name = first_some (valued_option_of_name name) (first_some (valueless_option_of_name name) (switch_option_with_optional_no_prefix name))
 
 -- the option of a letter, which stands behind `-`: u, x, X, z, h
-abbrev pub opt_of_letter : ℕ → Option Opt
-opt_of_letter letter =
+abbrev pub option_of_letter : ℕ → Option Opt
+option_of_letter letter =
     if letter == 117 then Some opts.Untracked
     else if letter == 120 then Some opts.IgnoredToo
     else if letter == 88 then Some opts.IgnoredAlone
@@ -95,76 +95,76 @@ opt_of_letter letter =
 -- ---- which command has which option
 
 -- what a plan does not fix for itself
-abbrev pub is_of_plan : Switch → Bool
-is_of_plan switches.Excludes = true
-is_of_plan switches.Precious = true
-is_of_plan switches.StrictParents = true
-is_of_plan switches.LinksAsDirectories = true
-is_of_plan other = false
+abbrev pub is_switch_of_plan : Switch → Bool
+is_switch_of_plan switches.Excludes = true
+is_switch_of_plan switches.Precious = true
+is_switch_of_plan switches.StrictParents = true
+is_switch_of_plan switches.LinksAsDirectories = true
+is_switch_of_plan other = false
 
 -- `report` has all but those that say what may be removed, or by what `state` goes
-abbrev pub is_of_report : Opt → Bool
-is_of_report opts.IgnoredToo = false
-is_of_report opts.IgnoredAlone = false
-is_of_report opts.NonBare = false
-is_of_report opts.ByStat = false
-is_of_report other = true
+abbrev pub is_option_of_report : Opt → Bool
+is_option_of_report opts.IgnoredToo = false
+is_option_of_report opts.IgnoredAlone = false
+is_option_of_report opts.NonBare = false
+is_option_of_report opts.ByStat = false
+is_option_of_report other = true
 
 -- an option of `plan`
-abbrev pub takes_for_plan : Opt → Bool
-takes_for_plan (opts.With switch) = is_of_plan switch
-takes_for_plan (opts.Without switch) = is_of_plan switch
-takes_for_plan opts.Strategy = true
-takes_for_plan opts.Depth = true
-takes_for_plan opts.IgnoredToo = true
-takes_for_plan opts.IgnoredAlone = true
-takes_for_plan opts.NonBare = true
-takes_for_plan opts.Nul = true
-takes_for_plan opts.Help = true
-takes_for_plan other = false
+abbrev pub is_option_of_plan : Opt → Bool
+is_option_of_plan (opts.With switch) = is_switch_of_plan switch
+is_option_of_plan (opts.Without switch) = is_switch_of_plan switch
+is_option_of_plan opts.Strategy = true
+is_option_of_plan opts.Depth = true
+is_option_of_plan opts.IgnoredToo = true
+is_option_of_plan opts.IgnoredAlone = true
+is_option_of_plan opts.NonBare = true
+is_option_of_plan opts.Nul = true
+is_option_of_plan opts.Help = true
+is_option_of_plan other = false
 
 -- an option of `modules`
-abbrev pub is_of_modules : Opt → Bool
-is_of_modules opts.Permissions = true
-is_of_modules opts.Help = true
-is_of_modules other = false
+abbrev pub is_option_of_modules : Opt → Bool
+is_option_of_modules opts.Permissions = true
+is_option_of_modules opts.Help = true
+is_option_of_modules other = false
 
 -- `state` has those of `report`, whose lines stand behind its own, but no letters: its own lines have none. And it may go by stat fields
-abbrev pub is_of_state : Opt → Bool
-is_of_state opts.Plain = false
-is_of_state opts.ByStat = true
-is_of_state other = is_of_report other
+abbrev pub is_option_of_state : Opt → Bool
+is_option_of_state opts.Plain = false
+is_option_of_state opts.ByStat = true
+is_option_of_state other = is_option_of_report other
 
 -- `ls-files`, `clean`, `diff-files` and `check-ignore` have those that they know by name
-abbrev pub takes : Verb → Opt → Bool
-takes Report opt = is_of_report opt
-takes Plan opt = takes_for_plan opt
-takes Modules opt = is_of_modules opt
-takes State opt = is_of_state opt
-takes Files opt = true
-takes Clean opt = true
-takes Compare opt = true
-takes Check opt = true
+abbrev pub command_has_option : Verb → Opt → Bool
+command_has_option Report opt = is_option_of_report opt
+command_has_option Plan opt = is_option_of_plan opt
+command_has_option Modules opt = is_option_of_modules opt
+command_has_option State opt = is_option_of_state opt
+command_has_option Files opt = true
+command_has_option Clean opt = true
+command_has_option Compare opt = true
+command_has_option Check opt = true
 
 -- ---- values
 
 -- the mode that a value names, in which paths are reported
-abbrev pub emission_of : List ℕ → Option EmissionMode
-emission_of value =
+abbrev pub parse_emission_mode : List ℕ → Option EmissionMode
+parse_emission_mode value =
     if bytes_eq value (codes "matching") then Some Matching
     else if bytes_eq value (codes "collapse") then Some CollapseDirectory
     else None
 
 -- the mode that a value names, for what a folded directory covers
-abbrev pub collapsed_of : List ℕ → Option CollapsedEntriesEmissionMode
-collapsed_of value =
+abbrev pub parse_collapsed_mode : List ℕ → Option CollapsedEntriesEmissionMode
+parse_collapsed_mode value =
     if bytes_eq value (codes "mismatch") then Some OnStatusMismatch
     else if bytes_eq value (codes "all") then Some All
     else None
 
 -- the mode that a value names, for what must not be deleted
-abbrev pub deletion_of : List ℕ → Option ForDeletionMode
-deletion_of value =
+abbrev pub parse_for_deletion_mode : List ℕ → Option ForDeletionMode
+parse_for_deletion_mode value =
     if bytes_eq value (codes "hide") then Some IgnoredDirectoriesCanHideNestedRepositories
     else if bytes_eq value (codes "nonbare") then Some FindNonBareRepositoriesInIgnoredDirectories
     else if bytes_eq value (codes "all") then Some FindRepositoriesInIgnoredDirectories

@@ -7,43 +7,43 @@ use Rattle.command_line.specs.declared.form.LineEnd.TheVariants.{Feed, Nul}
 use Rattle.command_line.specs.declared.form.Style.{Style}
 use Rattle.command_line.specs.declared.form.Wording.{Wording}
 use Rattle.command_line.specs.declared.form.Wording.TheVariants.{Words, Letters}
-use Rattle.command_line.specs.Rows.{line, path_text, end_of}
+use Rattle.command_line.specs.Rows.{line, path_unescaped_if_nul_end, line_end_byte}
 
 -- the lines of a text, without what ends them
-abbrev pub text_lines : List ℕ → List (List ℕ)
-text_lines text = map without_terminator (lines_of text)
+abbrev pub lines_without_terminators : List ℕ → List (List ℕ)
+lines_without_terminators text = map without_terminator (lines_of text)
 
 -- a line with its end
-abbrev pub whole_line : Style → List ℕ → List ℕ
-whole_line style text = line style text ++ end_of style.end
+abbrev pub styled_line_with_end : Style → List ℕ → List ℕ
+styled_line_with_end style text = line style text ++ line_end_byte style.end
 
 -- each line of a report, with its end
-abbrev pub each_line : Style → List ℕ → List ℕ
-each_line style text = flat_map (whole_line style) (text_lines text)
+abbrev pub restyle_each_line : Style → List ℕ → List ℕ
+restyle_each_line style text = flat_map (styled_line_with_end style) (lines_without_terminators text)
 
 -- the text needs no change: words, line feeds and no colours
-abbrev is_plain_in : Wording → LineEnd → Bool → Bool
-is_plain_in Words Feed is_colored = not is_colored
-is_plain_in Words Nul is_colored = false
-is_plain_in Letters end is_colored = false
+abbrev are_uncolored_words_with_line_feeds : Wording → LineEnd → Bool → Bool
+are_uncolored_words_with_line_feeds Words Feed is_colored = not is_colored
+are_uncolored_words_with_line_feeds Words Nul is_colored = false
+are_uncolored_words_with_line_feeds Letters end is_colored = false
 
 -- words, line feeds, and no colours
-abbrev pub is_plain : Style → Bool
-is_plain style = is_plain_in style.wording style.end style.is_colored
+abbrev pub is_uncolored_words_with_line_feeds : Style → Bool
+is_uncolored_words_with_line_feeds style = are_uncolored_words_with_line_feeds style.wording style.end style.is_colored
 
 -- the text of a report as it is where the style is plain, else each of its lines in the style
-abbrev pub rendered : Style → List ℕ → List ℕ
-rendered style text = if is_plain style then text else each_line style text
+abbrev pub restyle_report_text : Style → List ℕ → List ℕ
+restyle_report_text style text = if is_uncolored_words_with_line_feeds style then text else restyle_each_line style text
 
 -- a path of a plan with its end
-abbrev pub whole_path : LineEnd → List ℕ → List ℕ
-whole_path end path = path_text end path ++ end_of end
+abbrev pub path_with_line_end : LineEnd → List ℕ → List ℕ
+path_with_line_end end path = path_unescaped_if_nul_end end path ++ line_end_byte end
 
 -- each path of a plan, with the end of its line
-abbrev pub each_path : LineEnd → List ℕ → List ℕ
-each_path end text = flat_map (whole_path end) (text_lines text)
+abbrev pub paths_with_line_ends : LineEnd → List ℕ → List ℕ
+paths_with_line_ends end text = flat_map (path_with_line_end end) (lines_without_terminators text)
 
 -- the text of a plan as it is where lines end in line feeds
-abbrev pub rendered_paths : LineEnd → List ℕ → List ℕ
-rendered_paths Feed text = text
-rendered_paths Nul text = each_path Nul text
+abbrev pub plan_text_with_line_ends : LineEnd → List ℕ → List ℕ
+plan_text_with_line_ends Feed text = text
+plan_text_with_line_ends Nul text = paths_with_line_ends Nul text

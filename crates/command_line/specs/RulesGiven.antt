@@ -13,15 +13,15 @@ pub record RulesGiven : Type 0 where
   pub stronger : List (List ℕ)
 
 -- no ignore rules are given
-abbrev pub no_rules : RulesGiven
-no_rules = record { patterns = []; weaker = []; stronger = [] }
+abbrev pub no_rules_given : RulesGiven
+no_rules_given = record { patterns = []; weaker = []; stronger = [] }
 
 -- the last bytes of a word, as many as are said
-abbrev pub end_of_word : ℕ → List ℕ → List ℕ
-end_of_word left word = drop (length word - left) word
+abbrev pub last_bytes_of_word : ℕ → List ℕ → List ℕ
+last_bytes_of_word left word = drop (length word - left) word
 
 -- these and what one more word says: a pattern, a file, or that the standard rules are asked above all files so far
-abbrev pub with_ruling : Ruling → List ℕ → RulesGiven → RulesGiven
-with_ruling (rulings.Pattern left) word rules = record rules { patterns = rules.patterns ++ end_of_word left word ∷ [] }
-with_ruling (rulings.File left) word rules = record rules { stronger = rules.stronger ++ end_of_word left word ∷ [] }
-with_ruling rulings.Standard word rules = record rules { weaker = rules.weaker ++ rules.stronger; stronger = [] }
+abbrev pub with_ruling_of_word : Ruling → List ℕ → RulesGiven → RulesGiven
+with_ruling_of_word (rulings.Pattern left) word rules = record rules { patterns = rules.patterns ++ last_bytes_of_word left word ∷ [] }
+with_ruling_of_word (rulings.File left) word rules = record rules { stronger = rules.stronger ++ last_bytes_of_word left word ∷ [] }
+with_ruling_of_word rulings.Standard word rules = record rules { weaker = rules.weaker ++ rules.stronger; stronger = [] }

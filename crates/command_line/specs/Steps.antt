@@ -8,7 +8,7 @@ use Rattle.dir_classify.specs.declared.options.EmissionMode.{EmissionMode}
 use Rattle.dir_classify.specs.declared.options.EmissionMode.TheVariants.{Matching}
 use Rattle.dir_classify.specs.declared.options.ForDeletionMode.{ForDeletionMode}
 use Rattle.dir_walk.specs.declared.strategy.Strategy.TheVariants.{Held, AtOnce}
-use Rattle.worktree_report.specs.SetupDepth.{depth_of}
+use Rattle.worktree_report.specs.SetupDepth.{parse_depth_limit}
 use Rattle.command_line.specs.declared.choice.Choice.TheVariants as choices
 use Rattle.command_line.specs.declared.draft.Draft.{Draft}
 use Rattle.command_line.specs.declared.form.Color.TheVariants.{Auto, Always, Never}
@@ -24,278 +24,278 @@ use Rattle.command_line.specs.declared.step.Step.{Step}
 use Rattle.command_line.specs.declared.step.Step.TheVariants.{Said, Path, Rules, Wrong as is_wrong}
 use Rattle.command_line.specs.declared.verb.Verb.{Verb}
 use Rattle.command_line.specs.declared.verb.Verb.TheVariants as verbs
-use Rattle.command_line.specs.Checkings.{checking_opt_of, checking_opt_of_letter}
-use Rattle.command_line.specs.Choices.{listing_opt_of, listing_opt_of_letter}
-use Rattle.command_line.specs.Comparings.{comparing_opt_of, comparing_opt_of_letter, ignoring_of}
+use Rattle.command_line.specs.Checkings.{check_ignore_option_of_name, check_ignore_option_of_letter}
+use Rattle.command_line.specs.Choices.{ls_files_option_of_name, ls_files_option_of_letter}
+use Rattle.command_line.specs.Comparings.{diff_files_option_of_name, diff_files_option_of_letter, parse_ignore_submodules_value}
 use Rattle.command_line.specs.declared.compare_options.CompareChoice.TheVariants as compare_choices
 use Rattle.command_line.specs.declared.compare_options.Ignoring.{Ignoring}
 use Rattle.command_line.specs.declared.compare_options.Ignoring.TheVariants as ignorings
-use Rattle.command_line.specs.Cleanings.{cleaning_opt_of, cleaning_opt_of_letter, is_line}
-use Rattle.command_line.specs.Drafts.{with_switch, with_untracked, with_ignored, with_collapsed, with_deletion, with_permissions, with_strategy, with_wording, with_end, with_color, with_what, with_finding, with_depth, with_choice, with_clean_choice, with_force, with_compare_choice, with_check_choice, with_by_stat, with_help}
-use Rattle.command_line.specs.Options.{opt_of, opt_of_letter, takes, emission_of, collapsed_of, deletion_of}
-use Rattle.command_line.specs.Verbs.{needs_dashes, takes_paths}
+use Rattle.command_line.specs.Cleanings.{clean_option_of_name, clean_option_of_letter, lacks_line_feed_and_trailing_blank}
+use Rattle.command_line.specs.Drafts.{with_report_switch, with_untracked_emission_mode, with_ignored_emission_mode, with_collapsed_emission_mode, with_for_deletion_mode, with_config_permissions, with_walk_strategy, with_line_wording, with_line_end, with_color_choice, with_removal_scope, with_repository_finding, with_walk_depth, with_ls_files_choice, with_clean_choice, with_force_added_or_dropped, with_diff_files_choice, with_check_ignore_choice, with_stat_comparison, with_help_requested}
+use Rattle.command_line.specs.Options.{option_of_name, option_of_letter, command_has_option, parse_emission_mode, parse_collapsed_mode, parse_for_deletion_mode}
+use Rattle.command_line.specs.Verbs.{needs_double_dash_before_paths, takes_paths}
 
 -- something more is said, and the next word may be anything
-abbrev pub proceed_with : Draft → Step
-proceed_with draft = Said draft nexts.Any
+abbrev pub step_with_draft_then_any_word : Draft → Step
+step_with_draft_then_any_word draft = Said draft nexts.Any
 
 -- this is told of submodules
-abbrev pub ignoring_as : Ignoring → Draft → Step
-ignoring_as ignoring draft = proceed_with (with_compare_choice (compare_choices.Ignores ignoring) true draft)
+abbrev pub step_setting_ignore_submodules : Ignoring → Draft → Step
+step_setting_ignore_submodules ignoring draft = step_with_draft_then_any_word (with_diff_files_choice (compare_choices.Ignores ignoring) true draft)
 
 -- an option without a value
-abbrev pub bare : Opt → Draft → Step
-bare (opts.With switch) draft = proceed_with (with_switch switch true draft)
-bare (opts.Without switch) draft = proceed_with (with_switch switch false draft)
-bare opts.Untracked draft = proceed_with (with_untracked Matching draft)
-bare opts.Ignored draft = proceed_with (with_ignored (Some Matching) draft)
-bare opts.Collapsed draft = is_wrong wrongs.NoValue
-bare opts.Deletion draft = is_wrong wrongs.NoValue
-bare opts.Permissions draft = is_wrong wrongs.NoValue
-bare opts.Strategy draft = is_wrong wrongs.NoValue
-bare opts.Depth draft = Said draft nexts.Depth
-bare opts.IgnoredToo draft = proceed_with (with_what whats.UntrackedAndIgnored draft)
-bare opts.IgnoredAlone draft = proceed_with (with_what whats.IgnoredOnly draft)
-bare opts.NonBare draft = proceed_with (with_finding findings.NonBare draft)
-bare opts.ByStat draft = proceed_with (with_by_stat draft)
-bare opts.Nul draft = proceed_with (with_end Nul draft)
-bare opts.Plain draft = proceed_with (with_wording Letters draft)
-bare opts.Color draft = proceed_with (with_color Always draft)
-bare opts.NoColor draft = proceed_with (with_color Never draft)
-bare opts.Help draft = proceed_with (with_help draft)
-bare (opts.Chooses choice) draft = proceed_with (with_choice choice true draft)
-bare (opts.Drops choice) draft = proceed_with (with_choice choice false draft)
-bare (opts.Cleans choice is_on) draft = proceed_with (with_clean_choice choice is_on draft)
-bare (opts.Forces is_on) draft = proceed_with (with_force is_on draft)
-bare opts.Pattern draft = Said draft nexts.Pattern
-bare opts.ExcludeFrom draft = Said draft nexts.File
-bare opts.Standard draft = Rules (with_choice choices.ExcludesStandard true draft) rulings.Standard
-bare (opts.Compares choice is_on) draft = proceed_with (with_compare_choice choice is_on draft)
-bare (opts.Checks choice is_on) draft = proceed_with (with_check_choice choice is_on draft)
-bare opts.RulesFile draft = is_wrong wrongs.Left
-bare opts.Submodules draft = ignoring_as ignorings.All draft
-bare opts.Left draft = is_wrong wrongs.Left
+abbrev pub step_of_option_without_value : Opt → Draft → Step
+step_of_option_without_value (opts.With switch) draft = step_with_draft_then_any_word (with_report_switch switch true draft)
+step_of_option_without_value (opts.Without switch) draft = step_with_draft_then_any_word (with_report_switch switch false draft)
+step_of_option_without_value opts.Untracked draft = step_with_draft_then_any_word (with_untracked_emission_mode Matching draft)
+step_of_option_without_value opts.Ignored draft = step_with_draft_then_any_word (with_ignored_emission_mode (Some Matching) draft)
+step_of_option_without_value opts.Collapsed draft = is_wrong wrongs.NoValue
+step_of_option_without_value opts.Deletion draft = is_wrong wrongs.NoValue
+step_of_option_without_value opts.Permissions draft = is_wrong wrongs.NoValue
+step_of_option_without_value opts.Strategy draft = is_wrong wrongs.NoValue
+step_of_option_without_value opts.Depth draft = Said draft nexts.Depth
+step_of_option_without_value opts.IgnoredToo draft = step_with_draft_then_any_word (with_removal_scope whats.UntrackedAndIgnored draft)
+step_of_option_without_value opts.IgnoredAlone draft = step_with_draft_then_any_word (with_removal_scope whats.IgnoredOnly draft)
+step_of_option_without_value opts.NonBare draft = step_with_draft_then_any_word (with_repository_finding findings.NonBare draft)
+step_of_option_without_value opts.ByStat draft = step_with_draft_then_any_word (with_stat_comparison draft)
+step_of_option_without_value opts.Nul draft = step_with_draft_then_any_word (with_line_end Nul draft)
+step_of_option_without_value opts.Plain draft = step_with_draft_then_any_word (with_line_wording Letters draft)
+step_of_option_without_value opts.Color draft = step_with_draft_then_any_word (with_color_choice Always draft)
+step_of_option_without_value opts.NoColor draft = step_with_draft_then_any_word (with_color_choice Never draft)
+step_of_option_without_value opts.Help draft = step_with_draft_then_any_word (with_help_requested draft)
+step_of_option_without_value (opts.Chooses choice) draft = step_with_draft_then_any_word (with_ls_files_choice choice true draft)
+step_of_option_without_value (opts.Drops choice) draft = step_with_draft_then_any_word (with_ls_files_choice choice false draft)
+step_of_option_without_value (opts.Cleans choice is_on) draft = step_with_draft_then_any_word (with_clean_choice choice is_on draft)
+step_of_option_without_value (opts.Forces is_on) draft = step_with_draft_then_any_word (with_force_added_or_dropped is_on draft)
+step_of_option_without_value opts.Pattern draft = Said draft nexts.Pattern
+step_of_option_without_value opts.ExcludeFrom draft = Said draft nexts.File
+step_of_option_without_value opts.Standard draft = Rules (with_ls_files_choice choices.ExcludesStandard true draft) rulings.Standard
+step_of_option_without_value (opts.Compares choice is_on) draft = step_with_draft_then_any_word (with_diff_files_choice choice is_on draft)
+step_of_option_without_value (opts.Checks choice is_on) draft = step_with_draft_then_any_word (with_check_ignore_choice choice is_on draft)
+step_of_option_without_value opts.RulesFile draft = is_wrong wrongs.Left
+step_of_option_without_value opts.Submodules draft = step_setting_ignore_submodules ignorings.All draft
+step_of_option_without_value opts.Left draft = is_wrong wrongs.Left
 
 -- ---- values
 
 -- untracked paths in a mode, where the value names one
-abbrev untracked_as : Option EmissionMode → Draft → Step
-untracked_as (Some mode) draft = proceed_with (with_untracked mode draft)
-untracked_as None draft = is_wrong wrongs.UnknownValue
+abbrev step_of_optional_untracked_mode : Option EmissionMode → Draft → Step
+step_of_optional_untracked_mode (Some mode) draft = step_with_draft_then_any_word (with_untracked_emission_mode mode draft)
+step_of_optional_untracked_mode None draft = is_wrong wrongs.UnknownValue
 
 -- the step of `-u`, or of its long name, with a value
-abbrev pub untracked_by : List ℕ → Draft → Step
-untracked_by value draft = untracked_as (emission_of value) draft
+abbrev pub step_of_untracked_value : List ℕ → Draft → Step
+step_of_untracked_value value draft = step_of_optional_untracked_mode (parse_emission_mode value) draft
 
 -- ignored paths in a mode, where the value names one
-abbrev ignored_as : Option EmissionMode → Draft → Step
-ignored_as (Some mode) draft = proceed_with (with_ignored (Some mode) draft)
-ignored_as None draft = is_wrong wrongs.UnknownValue
+abbrev step_of_optional_ignored_mode : Option EmissionMode → Draft → Step
+step_of_optional_ignored_mode (Some mode) draft = step_with_draft_then_any_word (with_ignored_emission_mode (Some mode) draft)
+step_of_optional_ignored_mode None draft = is_wrong wrongs.UnknownValue
 
 -- the step of `--ignored` with its value
-abbrev pub ignored_by : List ℕ → Draft → Step
-ignored_by value draft = if bytes_eq value (codes "no") then proceed_with (with_ignored None draft) else ignored_as (emission_of value) draft
+abbrev pub step_of_ignored_value : List ℕ → Draft → Step
+step_of_ignored_value value draft = if bytes_eq value (codes "no") then step_with_draft_then_any_word (with_ignored_emission_mode None draft) else step_of_optional_ignored_mode (parse_emission_mode value) draft
 
 -- what a folded directory covers, where the value names a mode
-abbrev collapsed_as : Option CollapsedEntriesEmissionMode → Draft → Step
-collapsed_as (Some mode) draft = proceed_with (with_collapsed (Some mode) draft)
-collapsed_as None draft = is_wrong wrongs.UnknownValue
+abbrev step_of_optional_collapsed_mode : Option CollapsedEntriesEmissionMode → Draft → Step
+step_of_optional_collapsed_mode (Some mode) draft = step_with_draft_then_any_word (with_collapsed_emission_mode (Some mode) draft)
+step_of_optional_collapsed_mode None draft = is_wrong wrongs.UnknownValue
 
 -- the step of `--collapsed` with its value
-abbrev pub collapsed_by : List ℕ → Draft → Step
-collapsed_by value draft = if bytes_eq value (codes "no") then proceed_with (with_collapsed None draft) else collapsed_as (collapsed_of value) draft
+abbrev pub step_of_collapsed_value : List ℕ → Draft → Step
+step_of_collapsed_value value draft = if bytes_eq value (codes "no") then step_with_draft_then_any_word (with_collapsed_emission_mode None draft) else step_of_optional_collapsed_mode (parse_collapsed_mode value) draft
 
 -- looking for what must not be deleted, where the value names a mode
-abbrev deletion_as : Option ForDeletionMode → Draft → Step
-deletion_as (Some mode) draft = proceed_with (with_deletion (Some mode) draft)
-deletion_as None draft = is_wrong wrongs.UnknownValue
+abbrev step_of_optional_for_deletion_mode : Option ForDeletionMode → Draft → Step
+step_of_optional_for_deletion_mode (Some mode) draft = step_with_draft_then_any_word (with_for_deletion_mode (Some mode) draft)
+step_of_optional_for_deletion_mode None draft = is_wrong wrongs.UnknownValue
 
 -- the step of `--for-deletion` with its value
-abbrev pub deletion_by : List ℕ → Draft → Step
-deletion_by value draft = if bytes_eq value (codes "no") then proceed_with (with_deletion None draft) else deletion_as (deletion_of value) draft
+abbrev pub step_of_for_deletion_value : List ℕ → Draft → Step
+step_of_for_deletion_value value draft = if bytes_eq value (codes "no") then step_with_draft_then_any_word (with_for_deletion_mode None draft) else step_of_optional_for_deletion_mode (parse_for_deletion_mode value) draft
 
 -- what is safe in a repository of anybody is all, since nothing that is read is run
-abbrev pub permissions_by : List ℕ → Draft → Step
-permissions_by value draft =
-    if bytes_eq value (codes "isolated") then proceed_with (with_permissions true draft)
-    else if bytes_eq value (codes "secure") || bytes_eq value (codes "all") then proceed_with (with_permissions false draft)
+abbrev pub step_of_permissions_value : List ℕ → Draft → Step
+step_of_permissions_value value draft =
+    if bytes_eq value (codes "isolated") then step_with_draft_then_any_word (with_config_permissions true draft)
+    else if bytes_eq value (codes "secure") || bytes_eq value (codes "all") then step_with_draft_then_any_word (with_config_permissions false draft)
     else is_wrong wrongs.UnknownValue
 
 -- the step of `--strategy` with its value
-abbrev pub strategy_by : List ℕ → Draft → Step
-strategy_by value draft =
-    if bytes_eq value (codes "held") then proceed_with (with_strategy Held draft)
-    else if bytes_eq value (codes "at-once") then proceed_with (with_strategy AtOnce draft)
+abbrev pub step_of_strategy_value : List ℕ → Draft → Step
+step_of_strategy_value value draft =
+    if bytes_eq value (codes "held") then step_with_draft_then_any_word (with_walk_strategy Held draft)
+    else if bytes_eq value (codes "at-once") then step_with_draft_then_any_word (with_walk_strategy AtOnce draft)
     else is_wrong wrongs.UnknownValue
 
 -- the step of `--color` with its value
-abbrev pub color_by : List ℕ → Draft → Step
-color_by value draft =
-    if bytes_eq value (codes "auto") then proceed_with (with_color Auto draft)
-    else if bytes_eq value (codes "always") then proceed_with (with_color Always draft)
-    else if bytes_eq value (codes "never") then proceed_with (with_color Never draft)
+abbrev pub step_of_color_value : List ℕ → Draft → Step
+step_of_color_value value draft =
+    if bytes_eq value (codes "auto") then step_with_draft_then_any_word (with_color_choice Auto draft)
+    else if bytes_eq value (codes "always") then step_with_draft_then_any_word (with_color_choice Always draft)
+    else if bytes_eq value (codes "never") then step_with_draft_then_any_word (with_color_choice Never draft)
     else is_wrong wrongs.UnknownValue
 
 -- a limit of the depth, where the value is a number
-abbrev depth_as : Option ℕ → Draft → Step
-depth_as (Some depth) draft = proceed_with (with_depth depth draft)
-depth_as None draft = is_wrong wrongs.NotADepth
+abbrev step_of_optional_depth : Option ℕ → Draft → Step
+step_of_optional_depth (Some depth) draft = step_with_draft_then_any_word (with_walk_depth depth draft)
+step_of_optional_depth None draft = is_wrong wrongs.NotADepth
 
 -- a decimal number from 0 to 1000, without zeros in front
-abbrev pub depth_by : List ℕ → Draft → Step
-depth_by value draft = depth_as (depth_of value) draft
+abbrev pub step_of_depth_value : List ℕ → Draft → Step
+step_of_depth_value value draft = step_of_optional_depth (parse_depth_limit value) draft
 
 -- a pattern, which is the end of a word
-abbrev pub pattern_by : List ℕ → Draft → Step
-pattern_by value draft = if is_line value then Rules draft (rulings.Pattern (length value)) else is_wrong wrongs.Pattern
+abbrev pub step_of_exclude_pattern : List ℕ → Draft → Step
+step_of_exclude_pattern value draft = if lacks_line_feed_and_trailing_blank value then Rules draft (rulings.Pattern (length value)) else is_wrong wrongs.Pattern
 
 -- the name of a file of rules, which is the end of a word
-abbrev pub file_by : List ℕ → Draft → Step
-file_by value draft = Rules draft (rulings.File (length value))
+abbrev pub step_of_exclude_from_file : List ℕ → Draft → Step
+step_of_exclude_from_file value draft = Rules draft (rulings.File (length value))
 
 -- the name of the rules files of directories: `.gitignore`, or another, which is not answered here
-abbrev pub rules_file_by : List ℕ → Draft → Step
-rules_file_by value draft =
-    if bytes_eq value (codes ".gitignore") then proceed_with (with_choice choices.ExcludesDirectories true draft) else is_wrong wrongs.Left
+abbrev pub step_of_exclude_per_directory_value : List ℕ → Draft → Step
+step_of_exclude_per_directory_value value draft =
+    if bytes_eq value (codes ".gitignore") then step_with_draft_then_any_word (with_ls_files_choice choices.ExcludesDirectories true draft) else is_wrong wrongs.Left
 
 -- submodules are ignored so, where the value names how
-abbrev ignoring_said : Option Ignoring → Draft → Step
-ignoring_said (Some ignoring) draft = ignoring_as ignoring draft
-ignoring_said None draft = is_wrong wrongs.UnknownValue
+abbrev step_of_optional_ignore_submodules : Option Ignoring → Draft → Step
+step_of_optional_ignore_submodules (Some ignoring) draft = step_setting_ignore_submodules ignoring draft
+step_of_optional_ignore_submodules None draft = is_wrong wrongs.UnknownValue
 
 -- the step of `--ignore-submodules` with its value
-abbrev pub ignoring_by : List ℕ → Draft → Step
-ignoring_by value draft = ignoring_said (ignoring_of value) draft
+abbrev pub step_of_ignore_submodules_value : List ℕ → Draft → Step
+step_of_ignore_submodules_value value draft = step_of_optional_ignore_submodules (parse_ignore_submodules_value value) draft
 
 -- an option with a value
-abbrev pub valued : Opt → List ℕ → Draft → Step
-valued opts.Untracked value draft = untracked_by value draft
-valued opts.Ignored value draft = ignored_by value draft
-valued opts.Collapsed value draft = collapsed_by value draft
-valued opts.Deletion value draft = deletion_by value draft
-valued opts.Permissions value draft = permissions_by value draft
-valued opts.Strategy value draft = strategy_by value draft
-valued opts.Depth value draft = depth_by value draft
-valued opts.Color value draft = color_by value draft
-valued opts.Pattern value draft = pattern_by value draft
-valued opts.ExcludeFrom value draft = file_by value draft
-valued opts.RulesFile value draft = rules_file_by value draft
-valued opts.Submodules value draft = ignoring_by value draft
-valued opts.Left value draft = is_wrong wrongs.Left
-valued other value draft = is_wrong wrongs.TakesNoValue
+abbrev pub step_of_option_with_value : Opt → List ℕ → Draft → Step
+step_of_option_with_value opts.Untracked value draft = step_of_untracked_value value draft
+step_of_option_with_value opts.Ignored value draft = step_of_ignored_value value draft
+step_of_option_with_value opts.Collapsed value draft = step_of_collapsed_value value draft
+step_of_option_with_value opts.Deletion value draft = step_of_for_deletion_value value draft
+step_of_option_with_value opts.Permissions value draft = step_of_permissions_value value draft
+step_of_option_with_value opts.Strategy value draft = step_of_strategy_value value draft
+step_of_option_with_value opts.Depth value draft = step_of_depth_value value draft
+step_of_option_with_value opts.Color value draft = step_of_color_value value draft
+step_of_option_with_value opts.Pattern value draft = step_of_exclude_pattern value draft
+step_of_option_with_value opts.ExcludeFrom value draft = step_of_exclude_from_file value draft
+step_of_option_with_value opts.RulesFile value draft = step_of_exclude_per_directory_value value draft
+step_of_option_with_value opts.Submodules value draft = step_of_ignore_submodules_value value draft
+step_of_option_with_value opts.Left value draft = is_wrong wrongs.Left
+step_of_option_with_value other value draft = is_wrong wrongs.TakesNoValue
 
 -- ---- names
 
 -- an option, if a command has it
-abbrev pub if_taken : Verb → Option Opt → Option Opt
-if_taken verb None = None
-if_taken verb (Some opt) = if takes verb opt then Some opt else None
+abbrev pub option_if_command_has_it : Verb → Option Opt → Option Opt
+option_if_command_has_it verb None = None
+option_if_command_has_it verb (Some opt) = if command_has_option verb opt then Some opt else None
 
 -- the option of a name that a command has
-abbrev pub known : Verb → List ℕ → Option Opt
-known verbs.Files name = listing_opt_of name
-known verbs.Clean name = cleaning_opt_of name
-known verbs.Compare name = comparing_opt_of name
-known verbs.Check name = checking_opt_of name
-known verbs.Report name = if_taken verbs.Report (opt_of name)
-known verbs.Plan name = if_taken verbs.Plan (opt_of name)
-known verbs.Modules name = if_taken verbs.Modules (opt_of name)
-known verbs.State name = if_taken verbs.State (opt_of name)
+abbrev pub command_option_of_name : Verb → List ℕ → Option Opt
+command_option_of_name verbs.Files name = ls_files_option_of_name name
+command_option_of_name verbs.Clean name = clean_option_of_name name
+command_option_of_name verbs.Compare name = diff_files_option_of_name name
+command_option_of_name verbs.Check name = check_ignore_option_of_name name
+command_option_of_name verbs.Report name = option_if_command_has_it verbs.Report (option_of_name name)
+command_option_of_name verbs.Plan name = option_if_command_has_it verbs.Plan (option_of_name name)
+command_option_of_name verbs.Modules name = option_if_command_has_it verbs.Modules (option_of_name name)
+command_option_of_name verbs.State name = option_if_command_has_it verbs.State (option_of_name name)
 
 -- the step of an option without a value, where its name is known
-abbrev bare_or_unknown : Option Opt → Draft → Step
-bare_or_unknown (Some opt) draft = bare opt draft
-bare_or_unknown None draft = is_wrong wrongs.UnknownOption
+abbrev step_without_value_or_unknown_option : Option Opt → Draft → Step
+step_without_value_or_unknown_option (Some opt) draft = step_of_option_without_value opt draft
+step_without_value_or_unknown_option None draft = is_wrong wrongs.UnknownOption
 
 -- the step of a long option without a value
-abbrev pub named : Verb → List ℕ → Draft → Step
-named verb name draft = bare_or_unknown (known verb name) draft
+abbrev pub step_of_long_name : Verb → List ℕ → Draft → Step
+step_of_long_name verb name draft = step_without_value_or_unknown_option (command_option_of_name verb name) draft
 
 -- the step of an option with a value, where its name is known
-abbrev valued_or_unknown : Option Opt → List ℕ → Draft → Step
-valued_or_unknown (Some opt) value draft = valued opt value draft
-valued_or_unknown None value draft = is_wrong wrongs.UnknownOption
+abbrev step_with_value_or_unknown_option : Option Opt → List ℕ → Draft → Step
+step_with_value_or_unknown_option (Some opt) value draft = step_of_option_with_value opt value draft
+step_with_value_or_unknown_option None value draft = is_wrong wrongs.UnknownOption
 
 -- the step of a long option with its value
-abbrev pub named_with : Verb → List ℕ → List ℕ → Draft → Step
-named_with verb name value draft = valued_or_unknown (known verb name) value draft
+abbrev pub step_of_long_name_with_value : Verb → List ℕ → List ℕ → Draft → Step
+step_of_long_name_with_value verb name value draft = step_with_value_or_unknown_option (command_option_of_name verb name) value draft
 
 -- the step of a long option, with a value where it has an equals sign
-abbrev long_at : Verb → List ℕ → Option ℕ → Draft → Step
-long_at verb text None draft = named verb text draft
-long_at verb text (Some place) draft = named_with verb (take place text) (drop (place + 1) text) draft
+abbrev step_of_option_split_at_equals : Verb → List ℕ → Option ℕ → Draft → Step
+step_of_option_split_at_equals verb text None draft = step_of_long_name verb text draft
+step_of_option_split_at_equals verb text (Some place) draft = step_of_long_name_with_value verb (take place text) (drop (place + 1) text) draft
 
 -- what stands behind `--`: a name, and a value behind the first `=`
-abbrev pub long : Verb → List ℕ → Draft → Step
-long verb text draft = long_at verb text (position (λ b. b == 61) text) draft
+abbrev pub step_of_long_option : Verb → List ℕ → Draft → Step
+step_of_long_option verb text draft = step_of_option_split_at_equals verb text (position (λ b. b == 61) text) draft
 
 -- ---- letters
 
 -- the option of a letter that a command has
-abbrev pub known_letter : Verb → ℕ → Option Opt
-known_letter verbs.Files letter = listing_opt_of_letter letter
-known_letter verbs.Clean letter = cleaning_opt_of_letter letter
-known_letter verbs.Compare letter = comparing_opt_of_letter letter
-known_letter verbs.Check letter = checking_opt_of_letter letter
-known_letter verbs.Report letter = if_taken verbs.Report (opt_of_letter letter)
-known_letter verbs.Plan letter = if_taken verbs.Plan (opt_of_letter letter)
-known_letter verbs.Modules letter = if_taken verbs.Modules (opt_of_letter letter)
-known_letter verbs.State letter = if_taken verbs.State (opt_of_letter letter)
+abbrev pub command_option_of_letter : Verb → ℕ → Option Opt
+command_option_of_letter verbs.Files letter = ls_files_option_of_letter letter
+command_option_of_letter verbs.Clean letter = clean_option_of_letter letter
+command_option_of_letter verbs.Compare letter = diff_files_option_of_letter letter
+command_option_of_letter verbs.Check letter = check_ignore_option_of_letter letter
+command_option_of_letter verbs.Report letter = option_if_command_has_it verbs.Report (option_of_letter letter)
+command_option_of_letter verbs.Plan letter = option_if_command_has_it verbs.Plan (option_of_letter letter)
+command_option_of_letter verbs.Modules letter = option_if_command_has_it verbs.Modules (option_of_letter letter)
+command_option_of_letter verbs.State letter = option_if_command_has_it verbs.State (option_of_letter letter)
 
 -- `u` and a value behind it in its word, or nothing
-abbrev pub untracked_letter : List ℕ → Draft → Step
-untracked_letter [] draft = bare opts.Untracked draft
-untracked_letter (b ∷ value) draft = untracked_by (b ∷ value) draft
+abbrev pub step_of_untracked_letter : List ℕ → Draft → Step
+step_of_untracked_letter [] draft = step_of_option_without_value opts.Untracked draft
+step_of_untracked_letter (b ∷ value) draft = step_of_untracked_value (b ∷ value) draft
 
 -- a letter and a pattern behind it in its word, or in the next
-abbrev pub pattern_letter : ℕ → List ℕ → Draft → Step
-pattern_letter letter [] draft = Said draft (nexts.LetterPattern letter)
-pattern_letter letter (b ∷ value) draft = pattern_by (b ∷ value) draft
+abbrev pub step_of_pattern_letter : ℕ → List ℕ → Draft → Step
+step_of_pattern_letter letter [] draft = Said draft (nexts.LetterPattern letter)
+step_of_pattern_letter letter (b ∷ value) draft = step_of_exclude_pattern (b ∷ value) draft
 
 -- a letter and the name of a file of rules behind it in its word, or in the next
-abbrev pub file_letter : ℕ → List ℕ → Draft → Step
-file_letter letter [] draft = Said draft (nexts.LetterFile letter)
-file_letter letter (b ∷ value) draft = file_by (b ∷ value) draft
+abbrev pub step_of_file_letter : ℕ → List ℕ → Draft → Step
+step_of_file_letter letter [] draft = Said draft (nexts.LetterFile letter)
+step_of_file_letter letter (b ∷ value) draft = step_of_exclude_from_file (b ∷ value) draft
 
 -- the draft of a step; the one before where the step is another
-abbrev said_or : Draft → Step → Draft
-said_or draft (Said now next) = now
-said_or draft other = draft
+abbrev draft_of_step_or_fallback : Draft → Step → Draft
+draft_of_step_or_fallback draft (Said now next) = now
+draft_of_step_or_fallback draft other = draft
 
 -- the draft behind a letter that takes no value
-abbrev pub lettered : Opt → Draft → Draft
-lettered opt draft = said_or draft (bare opt draft)
+abbrev pub draft_with_letter_option : Opt → Draft → Draft
+draft_with_letter_option opt draft = draft_of_step_or_fallback draft (step_of_option_without_value opt draft)
 
 -- what stands behind the letter of an option in its word is the option's value
-abbrev pub takes_rest : Opt → Bool
-takes_rest opts.Untracked = true
-takes_rest opts.Pattern = true
-takes_rest opts.ExcludeFrom = true
-takes_rest other = false
+abbrev pub takes_rest_of_word_as_value : Opt → Bool
+takes_rest_of_word_as_value opts.Untracked = true
+takes_rest_of_word_as_value opts.Pattern = true
+takes_rest_of_word_as_value opts.ExcludeFrom = true
+takes_rest_of_word_as_value other = false
 
 -- the step of a letter whose value is the rest of its word
-abbrev pub with_rest : Opt → ℕ → List ℕ → Draft → Step
-with_rest opts.Pattern letter text draft = pattern_letter letter text draft
-with_rest opts.ExcludeFrom letter text draft = file_letter letter text draft
-with_rest other letter text draft = untracked_letter text draft
+abbrev pub step_of_letter_with_rest : Opt → ℕ → List ℕ → Draft → Step
+step_of_letter_with_rest opts.Pattern letter text draft = step_of_pattern_letter letter text draft
+step_of_letter_with_rest opts.ExcludeFrom letter text draft = step_of_file_letter letter text draft
+step_of_letter_with_rest other letter text draft = step_of_untracked_letter text draft
 
 -- an option of git's that is refused by name
-abbrev pub is_left : Opt → Bool
-is_left opts.Left = true
-is_left other = false
+abbrev pub is_unsupported_option : Opt → Bool
+is_unsupported_option opts.Left = true
+is_unsupported_option other = false
 
 -- the step of a letter: its value is the rest of the word, it is refused, or the letters behind it go on
-abbrev pub by_letter : Option Opt → ℕ → List ℕ → (Draft → Step) → Draft → Step
-by_letter None letter text onward draft = is_wrong (wrongs.UnknownSwitch letter)
-by_letter (Some opt) letter text onward draft =
-    if takes_rest opt then with_rest opt letter text draft
-    else if is_left opt then is_wrong (wrongs.LeftSwitch letter)
-    else onward (lettered opt draft)
+abbrev pub step_of_letter_and_rest : Option Opt → ℕ → List ℕ → (Draft → Step) → Draft → Step
+step_of_letter_and_rest None letter text onward draft = is_wrong (wrongs.UnknownSwitch letter)
+step_of_letter_and_rest (Some opt) letter text onward draft =
+    if takes_rest_of_word_as_value opt then step_of_letter_with_rest opt letter text draft
+    else if is_unsupported_option opt then is_wrong (wrongs.LeftSwitch letter)
+    else onward (draft_with_letter_option opt draft)
 
 -- letters, each an option; `u`, `e`, `x` and `X` take what is behind them as their value
-unfoldable pub letters : Verb → List ℕ → Draft → Step
-letters verb [] draft = proceed_with draft
-letters verb (letter ∷ text) draft = by_letter (known_letter verb letter) letter text (λ d. letters verb text d) draft
+unfoldable pub step_of_letters : Verb → List ℕ → Draft → Step
+step_of_letters verb [] draft = step_with_draft_then_any_word draft
+step_of_letters verb (letter ∷ text) draft = step_of_letter_and_rest (command_option_of_letter verb letter) letter text (λ d. step_of_letters verb text d) draft
 
 -- ---- words
 
@@ -304,31 +304,31 @@ abbrev pub path : Verb → Step
 path verb = if takes_paths verb then Path else is_wrong wrongs.Paths
 
 -- a word that is no option and stands before `--`
-abbrev pub undashed : Verb → Step
-undashed verb = if needs_dashes verb then is_wrong wrongs.Undashed else path verb
+abbrev pub step_of_path_before_double_dash : Verb → Step
+step_of_path_before_double_dash verb = if needs_double_dash_before_paths verb then is_wrong wrongs.Undashed else path verb
 
 -- what stands behind `--`
-abbrev pub twice_dashed : Verb → List ℕ → Draft → Step
-twice_dashed verb [] draft = Said draft nexts.Paths
-twice_dashed verb (b ∷ text) draft = long verb (b ∷ text) draft
+abbrev pub step_after_two_dashes : Verb → List ℕ → Draft → Step
+step_after_two_dashes verb [] draft = Said draft nexts.Paths
+step_after_two_dashes verb (b ∷ text) draft = step_of_long_option verb (b ∷ text) draft
 
 -- what stands behind the first `-`
-abbrev pub dashed : Verb → List ℕ → Draft → Step
-dashed verb [] draft = undashed verb
-dashed verb (b ∷ text) draft = if b == 45 then twice_dashed verb text draft else letters verb (b ∷ text) draft
+abbrev pub step_after_one_dash : Verb → List ℕ → Draft → Step
+step_after_one_dash verb [] draft = step_of_path_before_double_dash verb
+step_after_one_dash verb (b ∷ text) draft = if b == 45 then step_after_two_dashes verb text draft else step_of_letters verb (b ∷ text) draft
 
 -- A word that may be an option: `--` ends the options, `--NAME` and `--NAME=VALUE` are one, `-LETTERS` some; a `-` alone, and what does
 -- not begin with one, is a path.
-abbrev pub parse_option_or_path : Verb → List ℕ → Draft → Step
-parse_option_or_path verb [] draft = undashed verb
-parse_option_or_path verb (b ∷ text) draft = if b == 45 then dashed verb text draft else undashed verb
+abbrev pub step_of_option_or_path : Verb → List ℕ → Draft → Step
+step_of_option_or_path verb [] draft = step_of_path_before_double_dash verb
+step_of_option_or_path verb (b ∷ text) draft = if b == 45 then step_after_one_dash verb text draft else step_of_path_before_double_dash verb
 
 -- what a word says, by what was said before it
-abbrev pub word_step : Verb → Next → List ℕ → Draft → Step
-word_step verb nexts.Any word draft = parse_option_or_path verb word draft
-word_step verb nexts.Depth word draft = depth_by word draft
-word_step verb nexts.Pattern word draft = pattern_by word draft
-word_step verb (nexts.LetterPattern letter) word draft = pattern_by word draft
-word_step verb nexts.File word draft = file_by word draft
-word_step verb (nexts.LetterFile letter) word draft = file_by word draft
-word_step verb nexts.Paths word draft = path verb
+abbrev pub step_of_word : Verb → Next → List ℕ → Draft → Step
+step_of_word verb nexts.Any word draft = step_of_option_or_path verb word draft
+step_of_word verb nexts.Depth word draft = step_of_depth_value word draft
+step_of_word verb nexts.Pattern word draft = step_of_exclude_pattern word draft
+step_of_word verb (nexts.LetterPattern letter) word draft = step_of_exclude_pattern word draft
+step_of_word verb nexts.File word draft = step_of_exclude_from_file word draft
+step_of_word verb (nexts.LetterFile letter) word draft = step_of_exclude_from_file word draft
+step_of_word verb nexts.Paths word draft = path verb

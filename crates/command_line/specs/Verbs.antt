@@ -5,8 +5,8 @@ use Rattle.command_line.specs.declared.verb.Verb.{Verb}
 use Rattle.command_line.specs.declared.verb.Verb.TheVariants.{Report, Plan, Modules, State, Files, Clean, Compare, Check}
 
 -- the command of this name
-abbrev pub verb_of : List ℕ → Option Verb
-verb_of word =
+abbrev pub verb_of_word : List ℕ → Option Verb
+verb_of_word word =
     if bytes_eq word (codes "report") then Some Report
     else if bytes_eq word (codes "plan") then Some Plan
     else if bytes_eq word (codes "modules") then Some Modules
@@ -29,23 +29,23 @@ takes_paths Compare = true
 takes_paths Check = true
 
 -- git's own words mean the current directory where no path is asked for, and where each path excludes
-abbrev pub prefers_current : Verb → Bool
-prefers_current Report = false
-prefers_current Plan = false
-prefers_current Modules = false
-prefers_current State = false
-prefers_current Files = true
-prefers_current Clean = true
-prefers_current Compare = false
-prefers_current Check = false
+abbrev pub prefers_current_directory : Verb → Bool
+prefers_current_directory Report = false
+prefers_current_directory Plan = false
+prefers_current_directory Modules = false
+prefers_current_directory State = false
+prefers_current_directory Files = true
+prefers_current_directory Clean = true
+prefers_current_directory Compare = false
+prefers_current_directory Check = false
 
 -- a word of `diff-files` that stands before `--` may be a revision
-abbrev pub needs_dashes : Verb → Bool
-needs_dashes Report = false
-needs_dashes Plan = false
-needs_dashes Modules = false
-needs_dashes State = false
-needs_dashes Files = false
-needs_dashes Clean = false
-needs_dashes Compare = true
-needs_dashes Check = false
+abbrev pub needs_double_dash_before_paths : Verb → Bool
+needs_double_dash_before_paths Report = false
+needs_double_dash_before_paths Plan = false
+needs_double_dash_before_paths Modules = false
+needs_double_dash_before_paths State = false
+needs_double_dash_before_paths Files = false
+needs_double_dash_before_paths Clean = false
+needs_double_dash_before_paths Compare = true
+needs_double_dash_before_paths Check = false

@@ -15,8 +15,8 @@ pub struct ChangeWords {
 }
 
 /// Neither stands where no word says any.
-pub fn no_changes() -> ChangeWords
-    ensures { result ≡ words.no_changes }
+pub fn no_deleted_modified_flags() -> ChangeWords
+    ensures { result ≡ words.no_deleted_modified_flags }
 {
     ChangeWords {
         deleted: false,
@@ -25,8 +25,12 @@ pub fn no_changes() -> ChangeWords
 }
 
 /// The same with one choice made or dropped; all but two choices are about something else.
-pub fn with_change(changes: ChangeWords, choice: Choice, on: bool) -> ChangeWords
-    ensures { result ≡ words.with_change choice on changes }
+pub fn deleted_modified_flags_with_choice(
+    changes: ChangeWords,
+    choice: Choice,
+    on: bool,
+) -> ChangeWords
+    ensures { result ≡ words.deleted_modified_flags_with_choice choice on changes }
 {
     let mut changes = changes;
     match choice {
@@ -53,8 +57,8 @@ pub fn with_change(changes: ChangeWords, choice: Choice, on: bool) -> ChangeWord
 }
 
 /// Which paths are shown so; none where neither stands.
-pub fn standings_of(changes: ChangeWords) -> Option<Standings>
-    ensures { result ≡ words.standings_of changes }
+pub fn standings_of_deleted_modified_flags(changes: ChangeWords) -> Option<Standings>
+    ensures { result ≡ words.standings_of_deleted_modified_flags changes }
 {
     if changes.deleted {
         if changes.modified {

@@ -25,7 +25,7 @@ Of options that say the same the last counts; --no- before a name takes it back,
 
 /// The help text of `check-ignore`.
 #[tactic(auto, unfolding(crate::specs::CheckHelp::check))]
-pub fn check_help() -> &'static [u8]
+pub fn check_ignore_help() -> &'static [u8]
     ensures { result.now ≡ helps.check }
 {
     CHECK

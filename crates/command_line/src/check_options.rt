@@ -33,8 +33,8 @@ pub enum CheckChoice {
 }
 
 /// What is asked of `check-ignore` where no word says any.
-pub fn default_checking() -> CheckAsked
-    ensures { result ≡ checkings.default_checking }
+pub fn default_check_ignore_request() -> CheckAsked
+    ensures { result ≡ checkings.default_check_ignore_request }
 {
     CheckAsked {
         checking: Checking {
@@ -51,8 +51,8 @@ pub fn default_checking() -> CheckAsked
 }
 
 /// The same with one choice made or dropped; all others stay.
-pub fn told_of(asked: CheckAsked, choice: CheckChoice, on: bool) -> CheckAsked
-    ensures { result ≡ checkings.told_of choice on asked }
+pub fn check_request_with_choice(asked: CheckAsked, choice: CheckChoice, on: bool) -> CheckAsked
+    ensures { result ≡ checkings.check_request_with_choice choice on asked }
 {
     let mut asked = asked;
     match choice {
@@ -67,8 +67,8 @@ pub fn told_of(asked: CheckAsked, choice: CheckChoice, on: bool) -> CheckAsked
 }
 
 /// The choice of this name that `no-` before it turns off.
-fn check_choice_of(name: &[u8]) -> Option<CheckChoice>
-    ensures { result ≡ checkings.check_choice_of name.now }
+fn negatable_check_choice_of_name(name: &[u8]) -> Option<CheckChoice>
+    ensures { result ≡ checkings.negatable_check_choice_of_name name.now }
 {
     if name == b"quiet".as_slice() {
         Some(CheckChoice::Quiet)
@@ -84,8 +84,8 @@ fn check_choice_of(name: &[u8]) -> Option<CheckChoice>
 }
 
 /// A choice that is made or dropped, if there is one.
-fn checks(is_on: bool, choice: Option<CheckChoice>) -> Option<Opt>
-    ensures { result ≡ checkings.checks is_on choice }
+fn check_option_of_optional_choice(is_on: bool, choice: Option<CheckChoice>) -> Option<Opt>
+    ensures { result ≡ checkings.check_option_of_optional_choice is_on choice }
 {
     match choice {
         Some(choice) => Some(Opt::Checks(choice, is_on)),
@@ -94,57 +94,57 @@ fn checks(is_on: bool, choice: Option<CheckChoice>) -> Option<Opt>
 }
 
 /// What this name says of whether the index is left aside.
-fn index_by(name: &[u8]) -> Option<Opt>
-    ensures { result ≡ checkings.index_by name.now }
+fn index_option_of_name(name: &[u8]) -> Option<Opt>
+    ensures { result ≡ checkings.index_option_of_name name.now }
 {
     if name == b"no-index".as_slice() {
-        checks(true, Some(CheckChoice::LeavesIndex))
+        check_option_of_optional_choice(true, Some(CheckChoice::LeavesIndex))
     } else if name == b"index".as_slice() || name == b"no-no-index".as_slice() {
-        checks(false, Some(CheckChoice::LeavesIndex))
+        check_option_of_optional_choice(false, Some(CheckChoice::LeavesIndex))
     } else {
         None
     }
 }
 
 /// The choice of this name, dropped where `no-` stands before it.
-fn checking_by(name: &[u8]) -> Option<Opt>
-    ensures { result ≡ checkings.checking_by name.now }
+fn check_option_with_optional_no_prefix(name: &[u8]) -> Option<Opt>
+    ensures { result ≡ checkings.check_option_with_optional_no_prefix name.now }
 {
     if name.starts_with(b"no-") {
         let (_, rest) = name.split_at(3);
-        return checks(false, check_choice_of(rest));
+        return check_option_of_optional_choice(false, negatable_check_choice_of_name(rest));
     }
-    checks(true, check_choice_of(name))
+    check_option_of_optional_choice(true, negatable_check_choice_of_name(name))
 }
 
 /// The option of `check-ignore` of this name, which stands behind `--`. None where there is none.
-#[tactic(auto, unfolding(crate::specs::Checkings::checking_opt_of))]
-pub fn checking_opt_of(name: &[u8]) -> Option<Opt>
-    ensures { result ≡ checkings.checking_opt_of name.now }
+#[tactic(auto, unfolding(crate::specs::Checkings::check_ignore_option_of_name))]
+pub fn check_ignore_option_of_name(name: &[u8]) -> Option<Opt>
+    ensures { result ≡ checkings.check_ignore_option_of_name name.now }
 {
     if name == b"help".as_slice() {
         return Some(Opt::Help);
     }
-    match index_by(name) {
+    match index_option_of_name(name) {
         Some(opt) => Some(opt),
-        None => checking_by(name),
+        None => check_option_with_optional_no_prefix(name),
     }
 }
 
 /// The option of `check-ignore` of this letter, which stands behind `-`. None where there is none.
-pub fn checking_opt_of_letter(letter: u8) -> Option<Opt>
-    ensures { result ≡ checkings.checking_opt_of_letter letter }
+pub fn check_ignore_option_of_letter(letter: u8) -> Option<Opt>
+    ensures { result ≡ checkings.check_ignore_option_of_letter letter }
 {
     if letter == b'h' {
         Some(Opt::Help)
     } else if letter == b'q' {
-        checks(true, Some(CheckChoice::Quiet))
+        check_option_of_optional_choice(true, Some(CheckChoice::Quiet))
     } else if letter == b'v' {
-        checks(true, Some(CheckChoice::Verbose))
+        check_option_of_optional_choice(true, Some(CheckChoice::Verbose))
     } else if letter == b'n' {
-        checks(true, Some(CheckChoice::NonMatching))
+        check_option_of_optional_choice(true, Some(CheckChoice::NonMatching))
     } else if letter == b'z' {
-        checks(true, Some(CheckChoice::Nul))
+        check_option_of_optional_choice(true, Some(CheckChoice::Nul))
     } else {
         None
     }

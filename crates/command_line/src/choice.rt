@@ -46,8 +46,8 @@ pub enum Choice {
 }
 
 /// The choice of this name that can be turned off.
-fn negatable_choice_of(name: &[u8]) -> Option<Choice>
-    ensures { result ≡ choices.negatable_choice_of name.now }
+fn negatable_ls_files_choice_of_name(name: &[u8]) -> Option<Choice>
+    ensures { result ≡ choices.negatable_ls_files_choice_of_name name.now }
 {
     if name == b"cached".as_slice() {
         Some(Choice::Cached)
@@ -79,8 +79,8 @@ fn negatable_choice_of(name: &[u8]) -> Option<Choice>
 }
 
 /// The choice of this name that cannot be.
-fn firm_choice_of(name: &[u8]) -> Option<Choice>
-    ensures { result ≡ choices.firm_choice_of name.now }
+fn unnegatable_ls_files_choice_of_name(name: &[u8]) -> Option<Choice>
+    ensures { result ≡ choices.unnegatable_ls_files_choice_of_name name.now }
 {
     if name == b"full-name".as_slice() {
         Some(Choice::FullNames)
@@ -91,15 +91,15 @@ fn firm_choice_of(name: &[u8]) -> Option<Choice>
 
 /// Whether git has an option of this name, of what a path is or which rules are asked, that is not
 /// answered here.
-fn is_left_rule(name: &[u8]) -> bool
-    ensures { result ≡ choices.is_left_rule name.now }
+fn is_resolve_undo_option(name: &[u8]) -> bool
+    ensures { result ≡ choices.is_resolve_undo_option name.now }
 {
     name == b"resolve-undo".as_slice()
 }
 
 /// The same of submodules, objects and forms.
-fn is_left_form(name: &[u8]) -> bool
-    ensures { result ≡ choices.is_left_form name.now }
+fn is_unsupported_ls_files_form_option(name: &[u8]) -> bool
+    ensures { result ≡ choices.is_unsupported_ls_files_form_option name.now }
 {
     name == b"recurse-submodules".as_slice()
         || name == b"eol".as_slice()
@@ -111,18 +111,18 @@ fn is_left_form(name: &[u8]) -> bool
 }
 
 /// Whether git has an option of this name that is not answered here.
-fn is_left(name: &[u8]) -> bool
-    ensures { result ≡ choices.is_left name.now }
+fn is_unsupported_ls_files_option(name: &[u8]) -> bool
+    ensures { result ≡ choices.is_unsupported_ls_files_option name.now }
 {
-    if is_left_rule(name) {
+    if is_resolve_undo_option(name) {
         return true;
     }
-    is_left_form(name)
+    is_unsupported_ls_files_form_option(name)
 }
 
 /// A choice that is made, if there is one.
-fn made(choice: Option<Choice>) -> Option<Opt>
-    ensures { result ≡ choices.made choice }
+fn choosing_option_of_optional_choice(choice: Option<Choice>) -> Option<Opt>
+    ensures { result ≡ choices.choosing_option_of_optional_choice choice }
 {
     match choice {
         Some(choice) => Some(Opt::Chooses(choice)),
@@ -131,32 +131,32 @@ fn made(choice: Option<Choice>) -> Option<Opt>
 }
 
 /// The option of this name that makes a choice, or drops it where `no-` stands before the name.
-fn chosen_by(name: &[u8]) -> Option<Opt>
-    ensures { result ≡ choices.chosen_by name.now }
+fn ls_files_option_with_optional_no_prefix(name: &[u8]) -> Option<Opt>
+    ensures { result ≡ choices.ls_files_option_with_optional_no_prefix name.now }
 {
     if name.starts_with(b"no-") {
         let (_, rest) = name.split_at(3);
-        return match negatable_choice_of(rest) {
+        return match negatable_ls_files_choice_of_name(rest) {
             Some(choice) => Some(Opt::Drops(choice)),
             None => None,
         };
     }
-    made(negatable_choice_of(name))
+    choosing_option_of_optional_choice(negatable_ls_files_choice_of_name(name))
 }
 
 /// The option of this name that is a choice, whether it can be turned off or not.
-fn choosing(name: &[u8]) -> Option<Opt>
-    ensures { result ≡ choices.choosing name.now }
+fn ls_files_choice_option_of_name(name: &[u8]) -> Option<Opt>
+    ensures { result ≡ choices.ls_files_choice_option_of_name name.now }
 {
-    match made(firm_choice_of(name)) {
+    match choosing_option_of_optional_choice(unnegatable_ls_files_choice_of_name(name)) {
         Some(opt) => Some(opt),
-        None => chosen_by(name),
+        None => ls_files_option_with_optional_no_prefix(name),
     }
 }
 
 /// The option of rules of this name.
-fn rule_opt_of(name: &[u8]) -> Option<Opt>
-    ensures { result ≡ choices.rule_opt_of name.now }
+fn exclude_option_of_name(name: &[u8]) -> Option<Opt>
+    ensures { result ≡ choices.exclude_option_of_name name.now }
 {
     if name == b"exclude".as_slice() {
         Some(Opt::Pattern)
@@ -172,25 +172,25 @@ fn rule_opt_of(name: &[u8]) -> Option<Opt>
 }
 
 /// The option of `ls-files` of this name, which stands behind `--`. None where there is none.
-#[tactic(auto, unfolding(crate::specs::Choices::listing_opt_of))]
-pub fn listing_opt_of(name: &[u8]) -> Option<Opt>
-    ensures { result ≡ choices.listing_opt_of name.now }
+#[tactic(auto, unfolding(crate::specs::Choices::ls_files_option_of_name))]
+pub fn ls_files_option_of_name(name: &[u8]) -> Option<Opt>
+    ensures { result ≡ choices.ls_files_option_of_name name.now }
 {
     if name == b"help".as_slice() {
         return Some(Opt::Help);
     }
-    if is_left(name) {
+    if is_unsupported_ls_files_option(name) {
         return Some(Opt::Left);
     }
-    match rule_opt_of(name) {
+    match exclude_option_of_name(name) {
         Some(opt) => Some(opt),
-        None => choosing(name),
+        None => ls_files_choice_option_of_name(name),
     }
 }
 
 /// The choice of this letter.
-fn choice_of_letter(letter: u8) -> Option<Choice>
-    ensures { result ≡ choices.choice_of_letter letter }
+fn ls_files_choice_of_letter(letter: u8) -> Option<Choice>
+    ensures { result ≡ choices.ls_files_choice_of_letter letter }
 {
     if letter == b'c' {
         Some(Choice::Cached)
@@ -220,15 +220,15 @@ fn choice_of_letter(letter: u8) -> Option<Choice>
 }
 
 /// Whether git has an option of this letter that is not answered here.
-fn is_left_letter(letter: u8) -> bool
-    ensures { result ≡ choices.is_left_letter letter }
+fn is_unsupported_ls_files_letter(letter: u8) -> bool
+    ensures { result ≡ choices.is_unsupported_ls_files_letter letter }
 {
     letter == b'f'
 }
 
 /// The option of `ls-files` of this letter, which stands behind `-`. None where there is none.
-pub fn listing_opt_of_letter(letter: u8) -> Option<Opt>
-    ensures { result ≡ choices.listing_opt_of_letter letter }
+pub fn ls_files_option_of_letter(letter: u8) -> Option<Opt>
+    ensures { result ≡ choices.ls_files_option_of_letter letter }
 {
     if letter == b'h' {
         return Some(Opt::Help);
@@ -239,8 +239,8 @@ pub fn listing_opt_of_letter(letter: u8) -> Option<Opt>
     if letter == b'X' {
         return Some(Opt::ExcludeFrom);
     }
-    if is_left_letter(letter) {
+    if is_unsupported_ls_files_letter(letter) {
         return Some(Opt::Left);
     }
-    made(choice_of_letter(letter))
+    choosing_option_of_optional_choice(ls_files_choice_of_letter(letter))
 }

@@ -47,8 +47,8 @@ impl Force {
     }
 
     /// The same with `-f` once more, or with `--no-force`.
-    pub fn with(self, is_on: bool) -> Force
-        ensures { result ≡ cleanings.forced is_on self }
+    pub fn with_force_or_no_force(self, is_on: bool) -> Force
+        ensures { result ≡ cleanings.with_force_or_no_force is_on self }
     {
         if is_on {
             self.with_one_more_force()
@@ -59,8 +59,8 @@ impl Force {
 
     /// Whether something may be removed without `-n`; `is_lax` says that `clean.requireForce` is
     /// false.
-    pub fn is_said(self, is_lax: bool) -> bool
-        ensures { result ≡ cleanings.is_forced self is_lax }
+    pub fn is_force_given_counting_config(self, is_lax: bool) -> bool
+        ensures { result ≡ cleanings.is_force_given_counting_config self is_lax }
     {
         match self {
             Force::Unsaid => is_lax,
@@ -70,8 +70,8 @@ impl Force {
     }
 
     /// Whether repositories are removed too.
-    pub fn is_twice(self, is_lax: bool) -> bool
-        ensures { result ≡ cleanings.is_forced_twice self is_lax }
+    pub fn is_force_given_twice_counting_config(self, is_lax: bool) -> bool
+        ensures { result ≡ cleanings.is_force_given_twice_counting_config self is_lax }
     {
         match self {
             Force::Unsaid | Force::Dropped | Force::Alone => false,
@@ -82,8 +82,8 @@ impl Force {
 }
 
 /// The choice of this name that can be turned off.
-fn clean_choice_of(name: &[u8]) -> Option<CleanChoice>
-    ensures { result ≡ cleanings.clean_choice_of name.now }
+fn negatable_clean_choice_of_name(name: &[u8]) -> Option<CleanChoice>
+    ensures { result ≡ cleanings.negatable_clean_choice_of_name name.now }
 {
     if name == b"dry-run".as_slice() {
         Some(CleanChoice::DryRun)
@@ -95,8 +95,8 @@ fn clean_choice_of(name: &[u8]) -> Option<CleanChoice>
 }
 
 /// A choice that is made or dropped, if there is one.
-fn cleans(is_on: bool, choice: Option<CleanChoice>) -> Option<Opt>
-    ensures { result ≡ cleanings.cleans is_on choice }
+fn clean_option_of_optional_choice(is_on: bool, choice: Option<CleanChoice>) -> Option<Opt>
+    ensures { result ≡ cleanings.clean_option_of_optional_choice is_on choice }
 {
     match choice {
         Some(choice) => Some(Opt::Cleans(choice, is_on)),
@@ -105,37 +105,37 @@ fn cleans(is_on: bool, choice: Option<CleanChoice>) -> Option<Opt>
 }
 
 /// What a name turns on or off.
-fn cleaning_named(is_on: bool, name: &[u8]) -> Option<Opt>
-    ensures { result ≡ cleanings.cleaning_named is_on name.now }
+fn clean_option_of_name_by_flag(is_on: bool, name: &[u8]) -> Option<Opt>
+    ensures { result ≡ cleanings.clean_option_of_name_by_flag is_on name.now }
 {
     if name == b"force".as_slice() {
         return Some(Opt::Forces(is_on));
     }
-    cleans(is_on, clean_choice_of(name))
+    clean_option_of_optional_choice(is_on, negatable_clean_choice_of_name(name))
 }
 
 /// The same, off where `no-` stands before the name.
-fn cleaning_by(name: &[u8]) -> Option<Opt>
-    ensures { result ≡ cleanings.cleaning_by name.now }
+fn clean_option_with_optional_no_prefix(name: &[u8]) -> Option<Opt>
+    ensures { result ≡ cleanings.clean_option_with_optional_no_prefix name.now }
 {
     if name.starts_with(b"no-") {
         let (_, rest) = name.split_at(3);
-        return cleaning_named(false, rest);
+        return clean_option_of_name_by_flag(false, rest);
     }
-    cleaning_named(true, name)
+    clean_option_of_name_by_flag(true, name)
 }
 
 /// Whether git has an option of this name that is not answered here.
-fn is_left_of_cleaning(name: &[u8]) -> bool
-    ensures { result ≡ cleanings.is_left_of_cleaning name.now }
+fn is_unsupported_clean_option(name: &[u8]) -> bool
+    ensures { result ≡ cleanings.is_unsupported_clean_option name.now }
 {
     name == b"interactive".as_slice() || name == b"no-interactive".as_slice()
 }
 
 /// The option of `clean` of this name, which stands behind `--`. None where there is none.
-#[tactic(auto, unfolding(crate::specs::Cleanings::cleaning_opt_of))]
-pub fn cleaning_opt_of(name: &[u8]) -> Option<Opt>
-    ensures { result ≡ cleanings.cleaning_opt_of name.now }
+#[tactic(auto, unfolding(crate::specs::Cleanings::clean_option_of_name))]
+pub fn clean_option_of_name(name: &[u8]) -> Option<Opt>
+    ensures { result ≡ cleanings.clean_option_of_name name.now }
 {
     if name == b"help".as_slice() {
         return Some(Opt::Help);
@@ -143,10 +143,10 @@ pub fn cleaning_opt_of(name: &[u8]) -> Option<Opt>
     if name == b"exclude".as_slice() {
         return Some(Opt::Pattern);
     }
-    if is_left_of_cleaning(name) {
+    if is_unsupported_clean_option(name) {
         return Some(Opt::Left);
     }
-    cleaning_by(name)
+    clean_option_with_optional_no_prefix(name)
 }
 
 /// The choice of this letter.
@@ -169,8 +169,8 @@ fn clean_choice_of_letter(letter: u8) -> Option<CleanChoice>
 }
 
 /// The option of `clean` of this letter, which stands behind `-`. None where there is none.
-pub fn cleaning_opt_of_letter(letter: u8) -> Option<Opt>
-    ensures { result ≡ cleanings.cleaning_opt_of_letter letter }
+pub fn clean_option_of_letter(letter: u8) -> Option<Opt>
+    ensures { result ≡ cleanings.clean_option_of_letter letter }
 {
     if letter == b'h' {
         Some(Opt::Help)
@@ -181,38 +181,38 @@ pub fn cleaning_opt_of_letter(letter: u8) -> Option<Opt>
     } else if letter == b'i' {
         Some(Opt::Left)
     } else {
-        cleans(true, clean_choice_of_letter(letter))
+        clean_option_of_optional_choice(true, clean_choice_of_letter(letter))
     }
 }
 
 /// The place of the first line feed.
-fn first_feed(bytes: &[u8]) -> Option<usize>
+fn index_of_first_line_feed(bytes: &[u8]) -> Option<usize>
     ensures { result ≡ position (λ b. b == 10) bytes.now }
 {
     bytes.iter().position(|b| *b == b'\n')
 }
 
 /// Whether a line feed is among some bytes.
-fn has_feed(bytes: &[u8]) -> bool
-    ensures { result ≡ cleanings.has_feed bytes.now }
+fn contains_line_feed(bytes: &[u8]) -> bool
+    ensures { result ≡ cleanings.contains_line_feed bytes.now }
 {
-    let place = first_feed(bytes);
+    let place = index_of_first_line_feed(bytes);
     place.is_some()
 }
 
 /// Whether some bytes end in a blank or a carriage return.
-fn ends_blank(bytes: &[u8]) -> bool
-    ensures { result ≡ cleanings.ends_blank bytes.now }
+fn ends_in_space_or_carriage_return(bytes: &[u8]) -> bool
+    ensures { result ≡ cleanings.ends_in_space_or_carriage_return bytes.now }
 {
     bytes.ends_with(b" ") || bytes.ends_with(b"\r")
 }
 
 /// Whether a pattern can stand as a line of a rules file.
-pub fn is_line(bytes: &[u8]) -> bool
-    ensures { result ≡ cleanings.is_line bytes.now }
+pub fn lacks_line_feed_and_trailing_blank(bytes: &[u8]) -> bool
+    ensures { result ≡ cleanings.lacks_line_feed_and_trailing_blank bytes.now }
 {
-    if has_feed(bytes) {
+    if contains_line_feed(bytes) {
         return false;
     }
-    !ends_blank(bytes)
+    !ends_in_space_or_carriage_return(bytes)
 }

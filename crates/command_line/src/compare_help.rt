@@ -25,9 +25,9 @@ they name. For example: tizhagor diff-files --name-only -- src
 ";
 
 /// The help text of `diff-files`.
-#[tactic(auto, unfolding(crate::specs::CompareHelp::compare))]
-pub fn compare_help() -> &'static [u8]
-    ensures { result.now ≡ helps.compare }
+#[tactic(auto, unfolding(crate::specs::CompareHelp::diff_files_help_text))]
+pub fn diff_files_help() -> &'static [u8]
+    ensures { result.now ≡ helps.diff_files_help_text }
 {
     COMPARE
 }

@@ -57,8 +57,8 @@ pub enum CompareChoice {
 }
 
 /// What is asked of `diff-files` where no word says any.
-pub fn default_comparing() -> Comparing
-    ensures { result ≡ comparings.default_comparing }
+pub fn default_diff_files_request() -> Comparing
+    ensures { result ≡ comparings.default_diff_files_request }
 {
     Comparing {
         raw: false,
@@ -72,8 +72,12 @@ pub fn default_comparing() -> Comparing
 }
 
 /// The same with one choice made or dropped; all others stay.
-pub fn comparing_with_choice(comparing: Comparing, choice: CompareChoice, on: bool) -> Comparing
-    ensures { result ≡ comparings.comparing_with_choice choice on comparing }
+pub fn diff_files_request_with_choice(
+    comparing: Comparing,
+    choice: CompareChoice,
+    on: bool,
+) -> Comparing
+    ensures { result ≡ comparings.diff_files_request_with_choice choice on comparing }
 {
     let mut comparing = comparing;
     match choice {
@@ -90,8 +94,8 @@ pub fn comparing_with_choice(comparing: Comparing, choice: CompareChoice, on: bo
 }
 
 /// The choice of this name that cannot be turned off.
-fn form_of(name: &[u8]) -> Option<CompareChoice>
-    ensures { result ≡ comparings.form_of name.now }
+fn unnegatable_diff_files_choice_of_name(name: &[u8]) -> Option<CompareChoice>
+    ensures { result ≡ comparings.unnegatable_diff_files_choice_of_name name.now }
 {
     if name == b"raw".as_slice() {
         Some(CompareChoice::Raw)
@@ -105,8 +109,8 @@ fn form_of(name: &[u8]) -> Option<CompareChoice>
 }
 
 /// The choice of this name that can be.
-fn telling_of(name: &[u8]) -> Option<CompareChoice>
-    ensures { result ≡ comparings.telling_of name.now }
+fn negatable_diff_files_choice_of_name(name: &[u8]) -> Option<CompareChoice>
+    ensures { result ≡ comparings.negatable_diff_files_choice_of_name name.now }
 {
     if name == b"exit-code".as_slice() {
         Some(CompareChoice::TellsChanges)
@@ -118,8 +122,8 @@ fn telling_of(name: &[u8]) -> Option<CompareChoice>
 }
 
 /// A choice that is made or dropped, if there is one.
-fn compare_choice_option(is_on: bool, choice: Option<CompareChoice>) -> Option<Opt>
-    ensures { result ≡ comparings.compare_choice_option is_on choice }
+fn diff_files_option_of_optional_choice(is_on: bool, choice: Option<CompareChoice>) -> Option<Opt>
+    ensures { result ≡ comparings.diff_files_option_of_optional_choice is_on choice }
 {
     match choice {
         Some(choice) => Some(Opt::Compares(choice, is_on)),
@@ -128,19 +132,22 @@ fn compare_choice_option(is_on: bool, choice: Option<CompareChoice>) -> Option<O
 }
 
 /// The option of this name that can be turned off, off where `no-` stands before the name.
-fn telling_by(name: &[u8]) -> Option<Opt>
-    ensures { result ≡ comparings.telling_by name.now }
+fn diff_files_option_with_optional_no_prefix(name: &[u8]) -> Option<Opt>
+    ensures { result ≡ comparings.diff_files_option_with_optional_no_prefix name.now }
 {
     if name.starts_with(b"no-") {
         let (_, rest) = name.split_at(3);
-        return compare_choice_option(false, telling_of(rest));
+        return diff_files_option_of_optional_choice(
+            false,
+            negatable_diff_files_choice_of_name(rest),
+        );
     }
-    compare_choice_option(true, telling_of(name))
+    diff_files_option_of_optional_choice(true, negatable_diff_files_choice_of_name(name))
 }
 
 /// Whether git has an option of this name, of patches, that is not answered here.
-fn is_left_patch(name: &[u8]) -> bool
-    ensures { result ≡ comparings.is_left_patch name.now }
+fn is_unsupported_patch_option(name: &[u8]) -> bool
+    ensures { result ≡ comparings.is_unsupported_patch_option name.now }
 {
     name == b"patch".as_slice()
         || name == b"no-patch".as_slice()
@@ -155,8 +162,8 @@ fn is_left_patch(name: &[u8]) -> bool
 }
 
 /// The same of counts.
-fn is_left_count(name: &[u8]) -> bool
-    ensures { result ≡ comparings.is_left_count name.now }
+fn is_unsupported_stat_option(name: &[u8]) -> bool
+    ensures { result ≡ comparings.is_unsupported_stat_option name.now }
 {
     name == b"stat".as_slice()
         || name == b"numstat".as_slice()
@@ -167,8 +174,8 @@ fn is_left_count(name: &[u8]) -> bool
 }
 
 /// The same of which changes are told, and of pairs.
-fn is_left_filter(name: &[u8]) -> bool
-    ensures { result ≡ comparings.is_left_filter name.now }
+fn is_unsupported_filter_or_rename_option(name: &[u8]) -> bool
+    ensures { result ≡ comparings.is_unsupported_filter_or_rename_option name.now }
 {
     name == b"diff-filter".as_slice()
         || name == b"find-renames".as_slice()
@@ -183,8 +190,8 @@ fn is_left_filter(name: &[u8]) -> bool
 }
 
 /// The same of stages and of how paths and ids are written.
-fn is_left_form(name: &[u8]) -> bool
-    ensures { result ≡ comparings.is_left_form name.now }
+fn is_unsupported_stage_or_form_option(name: &[u8]) -> bool
+    ensures { result ≡ comparings.is_unsupported_stage_or_form_option name.now }
 {
     name == b"base".as_slice()
         || name == b"ours".as_slice()
@@ -200,25 +207,25 @@ fn is_left_form(name: &[u8]) -> bool
 }
 
 /// Whether git has an option of this name that is not answered here.
-fn is_left(name: &[u8]) -> bool
-    ensures { result ≡ comparings.is_left name.now }
+fn is_unsupported_diff_files_option(name: &[u8]) -> bool
+    ensures { result ≡ comparings.is_unsupported_diff_files_option name.now }
 {
-    if is_left_patch(name) {
+    if is_unsupported_patch_option(name) {
         return true;
     }
-    if is_left_count(name) {
+    if is_unsupported_stat_option(name) {
         return true;
     }
-    if is_left_filter(name) {
+    if is_unsupported_filter_or_rename_option(name) {
         return true;
     }
-    is_left_form(name)
+    is_unsupported_stage_or_form_option(name)
 }
 
 /// Which submodules are told of, by the value of `--ignore-submodules`. What only tells how far a
 /// submodule is looked into leaves none out.
-pub fn ignoring_of(value: &[u8]) -> Option<Ignoring>
-    ensures { result ≡ comparings.ignoring_of value.now }
+pub fn parse_ignore_submodules_value(value: &[u8]) -> Option<Ignoring>
+    ensures { result ≡ comparings.parse_ignore_submodules_value value.now }
 {
     if value == b"all".as_slice() {
         Some(Ignoring::All)
@@ -234,51 +241,51 @@ pub fn ignoring_of(value: &[u8]) -> Option<Ignoring>
 }
 
 /// The option of this name that is a choice, whether it can be turned off or not.
-fn comparing_by(name: &[u8]) -> Option<Opt>
-    ensures { result ≡ comparings.comparing_by name.now }
+fn diff_files_choice_option_of_name(name: &[u8]) -> Option<Opt>
+    ensures { result ≡ comparings.diff_files_choice_option_of_name name.now }
 {
-    match compare_choice_option(true, form_of(name)) {
+    match diff_files_option_of_optional_choice(true, unnegatable_diff_files_choice_of_name(name)) {
         Some(opt) => Some(opt),
-        None => telling_by(name),
+        None => diff_files_option_with_optional_no_prefix(name),
     }
 }
 
 /// The option of this name that is not answered here, or a choice.
-#[tactic(auto, unfolding(crate::specs::Comparings::left_or_choice))]
-fn left_or_choice(name: &[u8]) -> Option<Opt>
-    ensures { result ≡ comparings.left_or_choice name.now }
+#[tactic(auto, unfolding(crate::specs::Comparings::unsupported_or_choice_option_of_name))]
+fn unsupported_or_choice_option_of_name(name: &[u8]) -> Option<Opt>
+    ensures { result ≡ comparings.unsupported_or_choice_option_of_name name.now }
 {
-    if is_left(name) {
+    if is_unsupported_diff_files_option(name) {
         return Some(Opt::Left);
     }
-    comparing_by(name)
+    diff_files_choice_option_of_name(name)
 }
 
 /// The option of this name beside the help.
-#[tactic(auto, unfolding(crate::specs::Comparings::named_opt))]
-fn named_opt(name: &[u8]) -> Option<Opt>
-    ensures { result ≡ comparings.named_opt name.now }
+#[tactic(auto, unfolding(crate::specs::Comparings::diff_files_option_of_name_except_help))]
+fn diff_files_option_of_name_except_help(name: &[u8]) -> Option<Opt>
+    ensures { result ≡ comparings.diff_files_option_of_name_except_help name.now }
 {
     if name == b"ignore-submodules".as_slice() {
         return Some(Opt::Submodules);
     }
-    left_or_choice(name)
+    unsupported_or_choice_option_of_name(name)
 }
 
 /// The option of `diff-files` of this name, which stands behind `--`. None where there is none.
-#[tactic(auto, unfolding(crate::specs::Comparings::comparing_opt_of))]
-pub fn comparing_opt_of(name: &[u8]) -> Option<Opt>
-    ensures { result ≡ comparings.comparing_opt_of name.now }
+#[tactic(auto, unfolding(crate::specs::Comparings::diff_files_option_of_name))]
+pub fn diff_files_option_of_name(name: &[u8]) -> Option<Opt>
+    ensures { result ≡ comparings.diff_files_option_of_name name.now }
 {
     if name == b"help".as_slice() {
         return Some(Opt::Help);
     }
-    named_opt(name)
+    diff_files_option_of_name_except_help(name)
 }
 
 /// Whether git has an option of this letter that is not answered here.
-fn is_left_letter(letter: u8) -> bool
-    ensures { result ≡ comparings.is_left_letter letter }
+fn is_unsupported_diff_files_letter(letter: u8) -> bool
+    ensures { result ≡ comparings.is_unsupported_diff_files_letter letter }
 {
     b"puUsRMCBDSGOlWabwcIXrmt0123"
         .iter()
@@ -286,8 +293,8 @@ fn is_left_letter(letter: u8) -> bool
 }
 
 /// The option of `diff-files` of this letter, which stands behind `-`. None where there is none.
-pub fn comparing_opt_of_letter(letter: u8) -> Option<Opt>
-    ensures { result ≡ comparings.comparing_opt_of_letter letter }
+pub fn diff_files_option_of_letter(letter: u8) -> Option<Opt>
+    ensures { result ≡ comparings.diff_files_option_of_letter letter }
 {
     if letter == b'h' {
         Some(Opt::Help)
@@ -295,7 +302,7 @@ pub fn comparing_opt_of_letter(letter: u8) -> Option<Opt>
         Some(Opt::Compares(CompareChoice::Nul, true))
     } else if letter == b'q' {
         Some(Opt::Compares(CompareChoice::Silent, true))
-    } else if is_left_letter(letter) {
+    } else if is_unsupported_diff_files_letter(letter) {
         Some(Opt::Left)
     } else {
         None

@@ -2,11 +2,17 @@
 ghost use Rattle.std.specs.Prelude.{◌≡◌, Option};
 ghost use Rattle.command_line.specs.Drafts as drafts;
 
-use crate::change_words::{ChangeWords, no_changes, with_change};
-use crate::check_options::{CheckAsked, CheckChoice, default_checking, told_of};
+use crate::change_words::{
+    ChangeWords, deleted_modified_flags_with_choice, no_deleted_modified_flags,
+};
+use crate::check_options::{
+    CheckAsked, CheckChoice, check_request_with_choice, default_check_ignore_request,
+};
 use crate::choice::Choice;
 use crate::clean_options::{CleanChoice, Force};
-use crate::compare_options::{CompareChoice, Comparing, comparing_with_choice, default_comparing};
+use crate::compare_options::{
+    CompareChoice, Comparing, default_diff_files_request, diff_files_request_with_choice,
+};
 use crate::form::{Color, Form, LineEnd, Wording};
 use crate::opt::Switch;
 use clean_plan::{Finding, What};
@@ -51,8 +57,8 @@ pub struct Draft {
 }
 
 /// The options of a report where no word says any.
-fn default_options() -> SetupOptions
-    ensures { result ≡ drafts.default_options }
+fn default_report_options() -> SetupOptions
+    ensures { result ≡ drafts.default_report_options }
 {
     SetupOptions {
         ignore_case: false,
@@ -79,8 +85,8 @@ fn default_options() -> SetupOptions
 }
 
 /// The listing where no word says any.
-fn default_listing() -> Listing
-    ensures { result ≡ drafts.default_listing }
+fn default_ls_files_options() -> Listing
+    ensures { result ≡ drafts.default_ls_files_options }
 {
     Listing {
         cached: false,
@@ -105,8 +111,8 @@ fn default_listing() -> Listing
 }
 
 /// What is asked of `clean` where no word says anything.
-fn default_cleaning() -> Cleaning
-    ensures { result ≡ drafts.default_cleaning }
+fn default_clean_request() -> Cleaning
+    ensures { result ≡ drafts.default_clean_request }
 {
     Cleaning {
         dry_run: false,
@@ -125,7 +131,7 @@ pub fn default_draft() -> Draft
     ensures { result ≡ drafts.default_draft }
 {
     Draft {
-        options: default_options(),
+        options: default_report_options(),
         what: What::Untracked,
         finding: Finding::All,
         depth: DEPTH,
@@ -134,11 +140,11 @@ pub fn default_draft() -> Draft
             end: LineEnd::Feed,
             color: Color::Auto,
         },
-        listing: default_listing(),
-        changes: no_changes(),
-        cleaning: default_cleaning(),
-        comparing: default_comparing(),
-        checking: default_checking(),
+        listing: default_ls_files_options(),
+        changes: no_deleted_modified_flags(),
+        cleaning: default_clean_request(),
+        comparing: default_diff_files_request(),
+        checking: default_check_ignore_request(),
         force: Force::Unsaid,
         by_stat: false,
         is_help: false,
@@ -170,8 +176,8 @@ fn turned(options: SetupOptions, switch: Switch, on: bool) -> SetupOptions
 }
 
 /// The listing with one choice made or dropped; all others stay.
-fn listing_with_choice(listing: Listing, choice: Choice, on: bool) -> Listing
-    ensures { result ≡ drafts.listing_with_choice choice on listing }
+fn ls_files_options_with_choice(listing: Listing, choice: Choice, on: bool) -> Listing
+    ensures { result ≡ drafts.ls_files_options_with_choice choice on listing }
 {
     let mut listing = listing;
     match choice {
@@ -198,8 +204,8 @@ fn listing_with_choice(listing: Listing, choice: Choice, on: bool) -> Listing
 }
 
 /// What is asked of `clean` with one choice made or dropped; all others stay.
-fn cleaning_with_choice(cleaning: Cleaning, choice: CleanChoice, on: bool) -> Cleaning
-    ensures { result ≡ drafts.cleaning_with_choice choice on cleaning }
+fn clean_request_with_choice(cleaning: Cleaning, choice: CleanChoice, on: bool) -> Cleaning
+    ensures { result ≡ drafts.clean_request_with_choice choice on cleaning }
 {
     let mut cleaning = cleaning;
     match choice {
@@ -213,8 +219,8 @@ fn cleaning_with_choice(cleaning: Cleaning, choice: CleanChoice, on: bool) -> Cl
 }
 
 /// The configurations that may be read.
-fn permissions_of(is_isolated: bool) -> Permissions
-    ensures { result ≡ drafts.permissions_of is_isolated }
+fn permissions_isolated_or_all(is_isolated: bool) -> Permissions
+    ensures { result ≡ drafts.permissions_isolated_or_all is_isolated }
 {
     if is_isolated {
         Permissions::isolated()
@@ -225,8 +231,8 @@ fn permissions_of(is_isolated: bool) -> Permissions
 
 impl Draft {
     /// The draft with other options of the report.
-    fn with_options(self, options: SetupOptions) -> Draft
-        ensures { result ≡ drafts.with_options options self }
+    fn with_setup_options(self, options: SetupOptions) -> Draft
+        ensures { result ≡ drafts.with_setup_options options self }
     {
         let mut draft = self;
         draft.options = options;
@@ -234,8 +240,8 @@ impl Draft {
     }
 
     /// The draft with another form of the answer.
-    fn with_form(self, form: Form) -> Draft
-        ensures { result ≡ drafts.with_form form self }
+    fn with_output_form(self, form: Form) -> Draft
+        ensures { result ≡ drafts.with_output_form form self }
     {
         let mut draft = self;
         draft.form = form;
@@ -243,96 +249,96 @@ impl Draft {
     }
 
     /// One of what is reported is turned on or off.
-    pub fn with_switch(self, switch: Switch, on: bool) -> Draft
-        ensures { result ≡ drafts.with_switch switch on self }
+    pub fn with_report_switch(self, switch: Switch, on: bool) -> Draft
+        ensures { result ≡ drafts.with_report_switch switch on self }
     {
-        self.with_options(turned(self.options, switch, on))
+        self.with_setup_options(turned(self.options, switch, on))
     }
 
     /// Untracked paths are reported in this mode.
-    pub fn with_untracked(self, mode: EmissionMode) -> Draft
-        ensures { result ≡ drafts.with_untracked mode self }
+    pub fn with_untracked_emission_mode(self, mode: EmissionMode) -> Draft
+        ensures { result ≡ drafts.with_untracked_emission_mode mode self }
     {
         let mut options = self.options;
         options.emit_untracked = mode;
-        self.with_options(options)
+        self.with_setup_options(options)
     }
 
     /// Ignored paths are reported in this mode, or not at all.
-    pub fn with_ignored(self, mode: Option<EmissionMode>) -> Draft
-        ensures { result ≡ drafts.with_ignored mode self }
+    pub fn with_ignored_emission_mode(self, mode: Option<EmissionMode>) -> Draft
+        ensures { result ≡ drafts.with_ignored_emission_mode mode self }
     {
         let mut options = self.options;
         options.emit_ignored = mode;
-        self.with_options(options)
+        self.with_setup_options(options)
     }
 
     /// What a folded directory covers is reported in this mode, or not at all.
-    pub fn with_collapsed(self, mode: Option<CollapsedEntriesEmissionMode>) -> Draft
-        ensures { result ≡ drafts.with_collapsed mode self }
+    pub fn with_collapsed_emission_mode(self, mode: Option<CollapsedEntriesEmissionMode>) -> Draft
+        ensures { result ≡ drafts.with_collapsed_emission_mode mode self }
     {
         let mut options = self.options;
         options.emit_collapsed = mode;
-        self.with_options(options)
+        self.with_setup_options(options)
     }
 
     /// The walk looks in this mode for what must not be deleted, or not at all.
-    pub fn with_deletion(self, mode: Option<ForDeletionMode>) -> Draft
-        ensures { result ≡ drafts.with_deletion mode self }
+    pub fn with_for_deletion_mode(self, mode: Option<ForDeletionMode>) -> Draft
+        ensures { result ≡ drafts.with_for_deletion_mode mode self }
     {
         let mut options = self.options;
         options.for_deletion = mode;
-        self.with_options(options)
+        self.with_setup_options(options)
     }
 
     /// The configurations of an isolated work tree are read, or all.
-    pub fn with_permissions(self, is_isolated: bool) -> Draft
-        ensures { result ≡ drafts.with_permissions is_isolated self }
+    pub fn with_config_permissions(self, is_isolated: bool) -> Draft
+        ensures { result ≡ drafts.with_config_permissions is_isolated self }
     {
         let mut options = self.options;
-        options.permissions = permissions_of(is_isolated);
-        self.with_options(options)
+        options.permissions = permissions_isolated_or_all(is_isolated);
+        self.with_setup_options(options)
     }
 
     /// Subtrees are walked by this strategy.
-    pub fn with_strategy(self, strategy: Strategy) -> Draft
-        ensures { result ≡ drafts.with_strategy strategy self }
+    pub fn with_walk_strategy(self, strategy: Strategy) -> Draft
+        ensures { result ≡ drafts.with_walk_strategy strategy self }
     {
         let mut options = self.options;
         options.strategy = strategy;
-        self.with_options(options)
+        self.with_setup_options(options)
     }
 
     /// Lines are written in words or in letters.
-    pub fn with_wording(self, wording: Wording) -> Draft
-        ensures { result ≡ drafts.with_wording wording self }
+    pub fn with_line_wording(self, wording: Wording) -> Draft
+        ensures { result ≡ drafts.with_line_wording wording self }
     {
         let mut form = self.form;
         form.wording = wording;
-        self.with_form(form)
+        self.with_output_form(form)
     }
 
     /// Lines end so.
-    pub fn with_end(self, end: LineEnd) -> Draft
-        ensures { result ≡ drafts.with_end end self }
+    pub fn with_line_end(self, end: LineEnd) -> Draft
+        ensures { result ≡ drafts.with_line_end end self }
     {
         let mut form = self.form;
         form.end = end;
-        self.with_form(form)
+        self.with_output_form(form)
     }
 
     /// Colours are used so.
-    pub fn with_color(self, color: Color) -> Draft
-        ensures { result ≡ drafts.with_color color self }
+    pub fn with_color_choice(self, color: Color) -> Draft
+        ensures { result ≡ drafts.with_color_choice color self }
     {
         let mut form = self.form;
         form.color = color;
-        self.with_form(form)
+        self.with_output_form(form)
     }
 
     /// These paths may go.
-    pub fn with_what(self, what: What) -> Draft
-        ensures { result ≡ drafts.with_what what self }
+    pub fn with_removal_scope(self, what: What) -> Draft
+        ensures { result ≡ drafts.with_removal_scope what self }
     {
         let mut draft = self;
         draft.what = what;
@@ -340,8 +346,8 @@ impl Draft {
     }
 
     /// Repositories are looked for so.
-    pub fn with_finding(self, finding: Finding) -> Draft
-        ensures { result ≡ drafts.with_finding finding self }
+    pub fn with_repository_finding(self, finding: Finding) -> Draft
+        ensures { result ≡ drafts.with_repository_finding finding self }
     {
         let mut draft = self;
         draft.finding = finding;
@@ -349,8 +355,8 @@ impl Draft {
     }
 
     /// So many components may a directory have that is entered.
-    pub fn with_depth(self, depth: usize) -> Draft
-        ensures { result ≡ drafts.with_depth depth self }
+    pub fn with_walk_depth(self, depth: usize) -> Draft
+        ensures { result ≡ drafts.with_walk_depth depth self }
     {
         let mut draft = self;
         draft.depth = depth;
@@ -358,12 +364,12 @@ impl Draft {
     }
 
     /// One choice of `ls-files` is made or dropped.
-    pub fn with_choice(self, choice: Choice, on: bool) -> Draft
-        ensures { result ≡ drafts.with_choice choice on self }
+    pub fn with_ls_files_choice(self, choice: Choice, on: bool) -> Draft
+        ensures { result ≡ drafts.with_ls_files_choice choice on self }
     {
         let mut draft = self;
-        draft.listing = listing_with_choice(draft.listing, choice, on);
-        draft.changes = with_change(draft.changes, choice, on);
+        draft.listing = ls_files_options_with_choice(draft.listing, choice, on);
+        draft.changes = deleted_modified_flags_with_choice(draft.changes, choice, on);
         draft
     }
 
@@ -372,40 +378,40 @@ impl Draft {
         ensures { result ≡ drafts.with_clean_choice choice on self }
     {
         let mut draft = self;
-        draft.cleaning = cleaning_with_choice(draft.cleaning, choice, on);
+        draft.cleaning = clean_request_with_choice(draft.cleaning, choice, on);
         draft
     }
 
     /// Force is asked for once more, or no more.
-    pub fn with_force(self, on: bool) -> Draft
-        ensures { result ≡ drafts.with_force on self }
+    pub fn with_force_added_or_dropped(self, on: bool) -> Draft
+        ensures { result ≡ drafts.with_force_added_or_dropped on self }
     {
         let mut draft = self;
-        draft.force = draft.force.with(on);
+        draft.force = draft.force.with_force_or_no_force(on);
         draft
     }
 
     /// One choice of `diff-files` is made or dropped.
-    pub fn with_compare_choice(self, choice: CompareChoice, on: bool) -> Draft
-        ensures { result ≡ drafts.with_compare_choice choice on self }
+    pub fn with_diff_files_choice(self, choice: CompareChoice, on: bool) -> Draft
+        ensures { result ≡ drafts.with_diff_files_choice choice on self }
     {
         let mut draft = self;
-        draft.comparing = comparing_with_choice(draft.comparing, choice, on);
+        draft.comparing = diff_files_request_with_choice(draft.comparing, choice, on);
         draft
     }
 
     /// One choice of `check-ignore` is made or dropped.
-    pub fn with_check_choice(self, choice: CheckChoice, on: bool) -> Draft
-        ensures { result ≡ drafts.with_check_choice choice on self }
+    pub fn with_check_ignore_choice(self, choice: CheckChoice, on: bool) -> Draft
+        ensures { result ≡ drafts.with_check_ignore_choice choice on self }
     {
         let mut draft = self;
-        draft.checking = told_of(draft.checking, choice, on);
+        draft.checking = check_request_with_choice(draft.checking, choice, on);
         draft
     }
 
     /// The stat fields of files tell what changed.
-    pub fn with_by_stat(self) -> Draft
-        ensures { result ≡ drafts.with_by_stat self }
+    pub fn with_stat_comparison(self) -> Draft
+        ensures { result ≡ drafts.with_stat_comparison self }
     {
         let mut draft = self;
         draft.by_stat = true;
@@ -413,8 +419,8 @@ impl Draft {
     }
 
     /// The help text is asked for.
-    pub fn with_help(self) -> Draft
-        ensures { result ≡ drafts.with_help self }
+    pub fn with_help_requested(self) -> Draft
+        ensures { result ≡ drafts.with_help_requested self }
     {
         let mut draft = self;
         draft.is_help = true;

@@ -54,8 +54,8 @@ pub struct Style {
 }
 
 /// Whether lines are coloured, where the output takes colours or not.
-fn is_colored(color: Color, end: LineEnd, takes_colors: bool) -> bool
-    ensures { result ≡ forms.is_colored color end takes_colors }
+fn are_lines_colored(color: Color, end: LineEnd, takes_colors: bool) -> bool
+    ensures { result ≡ forms.are_lines_colored color end takes_colors }
 {
     match color {
         Color::Always => true,
@@ -69,12 +69,12 @@ fn is_colored(color: Color, end: LineEnd, takes_colors: bool) -> bool
 
 /// The style that a form means for an output that takes colours or not. Colours left to the program
 /// are shown where the output takes them, unless lines end in NULs.
-pub fn styled(form: Form, takes_colors: bool) -> Style
-    ensures { result ≡ forms.styled form takes_colors }
+pub fn style_for_output(form: Form, takes_colors: bool) -> Style
+    ensures { result ≡ forms.style_for_output form takes_colors }
 {
     Style {
         wording: form.wording,
         end: form.end,
-        is_colored: is_colored(form.color, form.end, takes_colors),
+        is_colored: are_lines_colored(form.color, form.end, takes_colors),
     }
 }

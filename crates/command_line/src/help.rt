@@ -2,8 +2,8 @@
 ghost use Rattle.std.specs.Prelude.{◌≡◌};
 ghost use Rattle.command_line.specs.Helps as helps;
 
-use crate::check_help::check_help;
-use crate::compare_help::compare_help;
+use crate::check_help::check_ignore_help;
+use crate::compare_help::diff_files_help;
 use crate::verb::{Topic, Verb};
 
 const WHOLE: &[u8] =
@@ -248,16 +248,16 @@ fn plan_help() -> &'static [u8]
 }
 
 /// The help text of `state`.
-#[tactic(auto, unfolding(crate::specs::Helps::state))]
+#[tactic(auto, unfolding(crate::specs::Helps::state_help_text))]
 fn state_help() -> &'static [u8]
-    ensures { result.now ≡ helps.state }
+    ensures { result.now ≡ helps.state_help_text }
 {
     STATE
 }
 
 /// The help text of `ls-files`.
 #[tactic(auto, unfolding(crate::specs::Helps::files))]
-fn files_help() -> &'static [u8]
+fn ls_files_help() -> &'static [u8]
     ensures { result.now ≡ helps.files }
 {
     FILES
@@ -272,8 +272,8 @@ fn clean_help() -> &'static [u8]
 }
 
 /// How a command is called.
-pub fn usage_of(topic: Topic) -> &'static [u8]
-    ensures { result.now ≡ helps.usage_of topic }
+pub fn usage_line_of_topic(topic: Topic) -> &'static [u8]
+    ensures { result.now ≡ helps.usage_line_of_topic topic }
 {
     match topic {
         Topic::Whole =>
@@ -291,8 +291,8 @@ pub fn usage_of(topic: Topic) -> &'static [u8]
 }
 
 /// The help text of a command, or of the whole program.
-pub fn help_of(topic: Topic) -> &'static [u8]
-    ensures { result.now ≡ helps.help_of topic }
+pub fn help_text_of_topic(topic: Topic) -> &'static [u8]
+    ensures { result.now ≡ helps.help_text_of_topic topic }
 {
     match topic {
         Topic::Whole => WHOLE,
@@ -300,16 +300,16 @@ pub fn help_of(topic: Topic) -> &'static [u8]
         Topic::Of(Verb::Plan) => plan_help(),
         Topic::Of(Verb::Modules) => MODULES,
         Topic::Of(Verb::State) => state_help(),
-        Topic::Of(Verb::Files) => files_help(),
+        Topic::Of(Verb::Files) => ls_files_help(),
         Topic::Of(Verb::Clean) => clean_help(),
-        Topic::Of(Verb::Compare) => compare_help(),
-        Topic::Of(Verb::Check) => check_help(),
+        Topic::Of(Verb::Compare) => diff_files_help(),
+        Topic::Of(Verb::Check) => check_ignore_help(),
     }
 }
 
 /// The version of the program.
-pub fn version() -> &'static [u8]
-    ensures { result.now ≡ helps.version }
+pub fn version_line() -> &'static [u8]
+    ensures { result.now ≡ helps.version_line }
 {
     b"tizhagor, unreleased\n"
 }

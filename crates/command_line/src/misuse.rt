@@ -2,12 +2,12 @@
 ghost use Rattle.std.specs.Prelude.{◌≡◌, ◌++◌, IfOk, OnOk};
 ghost use Rattle.command_line.specs.Misuses as misuses;
 
-use crate::help::usage_of;
+use crate::help::usage_line_of_topic;
 use crate::verb::Topic;
 use gitbase_core::{Bytes, OutOfMemory};
 use std::alloc::Global;
 use thiserror::Error;
-use worktree_report::add_escaped;
+use worktree_report::append_path_escaped;
 
 /// What is wrong with a word.
 #[derive(Clone, Copy, Debug, PartialEq, Eq)]
@@ -83,8 +83,8 @@ impl From<OutOfMemory> for Misuse {
 }
 
 /// What stands before the word in the line of a misuse.
-fn front_of(wrong: Wrong) -> &'static [u8]
-    ensures { result.now ≡ misuses.front_of wrong }
+fn error_text_before_wrong_word(wrong: Wrong) -> &'static [u8]
+    ensures { result.now ≡ misuses.error_text_before_wrong_word wrong }
 {
     match wrong {
         Wrong::NoCommand => b"error: no command is given",
@@ -103,8 +103,8 @@ fn front_of(wrong: Wrong) -> &'static [u8]
 }
 
 /// What stands behind it.
-fn back_of(wrong: Wrong) -> &'static [u8]
-    ensures { result.now ≡ misuses.back_of wrong }
+fn error_text_after_wrong_word(wrong: Wrong) -> &'static [u8]
+    ensures { result.now ≡ misuses.error_text_after_wrong_word wrong }
 {
     match wrong {
         Wrong::NoCommand => b"\n",
@@ -124,27 +124,38 @@ fn back_of(wrong: Wrong) -> &'static [u8]
 }
 
 /// Adds what is wrong: the word, or the letter in it.
-fn add_word(text: &mut Vec<u8>, wrong: Wrong, word: &[u8]) -> Result<(), OutOfMemory>
-    ensures { OnOk result (text.new.items ≡ text.old.items ++ misuses.word_in wrong word.now) }
+fn append_wrong_word_or_letter(
+    text: &mut Vec<u8>,
+    wrong: Wrong,
+    word: &[u8],
+) -> Result<(), OutOfMemory>
+    ensures { OnOk result (text.new.items ≡ text.old.items ++ misuses.escaped_wrong_word_or_letter
+        wrong word.now) }
 {
     match wrong {
         Wrong::UnknownSwitch { letter }
         | Wrong::NoSwitchValue { letter }
-        | Wrong::LeftSwitch { letter } => add_escaped(text, &[letter])?,
-        _ => add_escaped(text, word)?,
+        | Wrong::LeftSwitch { letter } => append_path_escaped(text, &[letter])?,
+        _ => append_path_escaped(text, word)?,
     }
     Ok(())
 }
 
 /// The line of a word that is wrong, and the usage.
-fn said_of(alloc: Global, topic: Topic, wrong: Wrong, word: &[u8]) -> Result<Bytes, OutOfMemory>
-    ensures { IfOk result (λ text. text ≡ misuses.said_of topic wrong word.now) }
+fn message_and_usage_of_wrong_word(
+    alloc: Global,
+    topic: Topic,
+    wrong: Wrong,
+    word: &[u8],
+) -> Result<Bytes, OutOfMemory>
+    ensures { IfOk result (λ text. text ≡ misuses.message_and_usage_of_wrong_word topic wrong
+        word.now) }
 {
     let mut text = Vec::new(alloc);
-    text.extend_from_slice(front_of(wrong))?;
-    add_word(&mut text, wrong, word)?;
-    text.extend_from_slice(back_of(wrong))?;
-    text.extend_from_slice(usage_of(topic))?;
+    text.extend_from_slice(error_text_before_wrong_word(wrong))?;
+    append_wrong_word_or_letter(&mut text, wrong, word)?;
+    text.extend_from_slice(error_text_after_wrong_word(wrong))?;
+    text.extend_from_slice(usage_line_of_topic(topic))?;
     Ok(Bytes::from_vec(text))
 }
 
@@ -154,11 +165,16 @@ fn said_of(alloc: Global, topic: Topic, wrong: Wrong, word: &[u8]) -> Result<Byt
 /// # Errors
 ///
 /// Memory was refused.
-pub fn said(alloc: Global, misuse: &Misuse) -> Result<Bytes, OutOfMemory>
-    ensures { IfOk result (λ text. text ≡ misuses.said misuse.now) }
+pub fn message_of_misuse(alloc: Global, misuse: &Misuse) -> Result<Bytes, OutOfMemory>
+    ensures { IfOk result (λ text. text ≡ misuses.message_of_misuse misuse.now) }
 {
     match misuse {
-        Misuse::Word { topic, wrong, word } => said_of(alloc, *topic, *wrong, word.as_bytes()),
+        Misuse::Word { topic, wrong, word } => message_and_usage_of_wrong_word(
+            alloc,
+            *topic,
+            *wrong,
+            word.as_bytes(),
+        ),
         Misuse::OutOfMemory => Bytes::from_slice(alloc, b"fatal: out of memory\n"),
     }
 }

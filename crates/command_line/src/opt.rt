@@ -104,8 +104,8 @@ pub enum Opt {
 }
 
 /// What an option of this name says of what is reported.
-fn shown_of(name: &[u8]) -> Option<Switch>
-    ensures { result ≡ options.shown_of name.now }
+fn output_switch_of_name(name: &[u8]) -> Option<Switch>
+    ensures { result ≡ options.output_switch_of_name name.now }
 {
     if name == b"tracked".as_slice() {
         Some(Switch::Tracked)
@@ -125,8 +125,8 @@ fn shown_of(name: &[u8]) -> Option<Switch>
 }
 
 /// What an option of this name says of how paths are looked at.
-fn looked_of(name: &[u8]) -> Option<Switch>
-    ensures { result ≡ options.looked_of name.now }
+fn walk_switch_of_name(name: &[u8]) -> Option<Switch>
+    ensures { result ≡ options.walk_switch_of_name name.now }
 {
     if name == b"excludes".as_slice() {
         Some(Switch::Excludes)
@@ -146,19 +146,19 @@ fn looked_of(name: &[u8]) -> Option<Switch>
 }
 
 /// What an option of this name turns on.
-#[tactic(auto, unfolding(crate::specs::Options::switch_of))]
-fn switch_of(name: &[u8]) -> Option<Switch>
-    ensures { result ≡ options.switch_of name.now }
+#[tactic(auto, unfolding(crate::specs::Options::switch_of_name))]
+fn switch_of_name(name: &[u8]) -> Option<Switch>
+    ensures { result ≡ options.switch_of_name name.now }
 {
-    match shown_of(name) {
+    match output_switch_of_name(name) {
         Some(switch) => Some(switch),
-        None => looked_of(name),
+        None => walk_switch_of_name(name),
     }
 }
 
 /// The option of this name that has a value, or may have one.
-fn valued_of(name: &[u8]) -> Option<Opt>
-    ensures { result ≡ options.valued_of name.now }
+fn valued_option_of_name(name: &[u8]) -> Option<Opt>
+    ensures { result ≡ options.valued_option_of_name name.now }
 {
     if name == b"untracked-files".as_slice() {
         Some(Opt::Untracked)
@@ -182,8 +182,8 @@ fn valued_of(name: &[u8]) -> Option<Opt>
 }
 
 /// The option of this name that has no value and is no switch.
-fn plain_of(name: &[u8]) -> Option<Opt>
-    ensures { result ≡ options.plain_of name.now }
+fn valueless_option_of_name(name: &[u8]) -> Option<Opt>
+    ensures { result ≡ options.valueless_option_of_name name.now }
 {
     if name == b"nonbare".as_slice() {
         Some(Opt::NonBare)
@@ -203,39 +203,39 @@ fn plain_of(name: &[u8]) -> Option<Opt>
 }
 
 /// The option that turns on or off what this name says, `no-` before it for off.
-fn turned_by(name: &[u8]) -> Option<Opt>
-    ensures { result ≡ options.turned_by name.now }
+fn switch_option_with_optional_no_prefix(name: &[u8]) -> Option<Opt>
+    ensures { result ≡ options.switch_option_with_optional_no_prefix name.now }
 {
     if name.starts_with(b"no-") {
         let (_, rest) = name.split_at(3);
-        return match switch_of(rest) {
+        return match switch_of_name(rest) {
             Some(switch) => Some(Opt::Without(switch)),
             None => None,
         };
     }
-    match switch_of(name) {
+    match switch_of_name(name) {
         Some(switch) => Some(Opt::With(switch)),
         None => None,
     }
 }
 
 /// The option of this name, which stands behind `--`. None where there is none.
-#[tactic(auto, unfolding(crate::specs::Options::opt_of))]
-pub fn opt_of(name: &[u8]) -> Option<Opt>
-    ensures { result ≡ options.opt_of name.now }
+#[tactic(auto, unfolding(crate::specs::Options::option_of_name))]
+pub fn option_of_name(name: &[u8]) -> Option<Opt>
+    ensures { result ≡ options.option_of_name name.now }
 {
-    match valued_of(name) {
+    match valued_option_of_name(name) {
         Some(opt) => Some(opt),
-        None => match plain_of(name) {
+        None => match valueless_option_of_name(name) {
             Some(opt) => Some(opt),
-            None => turned_by(name),
+            None => switch_option_with_optional_no_prefix(name),
         },
     }
 }
 
 /// The option of this letter, which stands behind `-`. None where there is none.
-pub fn opt_of_letter(letter: u8) -> Option<Opt>
-    ensures { result ≡ options.opt_of_letter letter }
+pub fn option_of_letter(letter: u8) -> Option<Opt>
+    ensures { result ≡ options.option_of_letter letter }
 {
     if letter == b'u' {
         Some(Opt::Untracked)
@@ -253,8 +253,8 @@ pub fn opt_of_letter(letter: u8) -> Option<Opt>
 }
 
 /// Whether a plan depends on what a switch says.
-fn is_of_plan(switch: Switch) -> bool
-    ensures { result ≡ options.is_of_plan switch }
+fn is_switch_of_plan(switch: Switch) -> bool
+    ensures { result ≡ options.is_switch_of_plan switch }
 {
     matches!(
         switch,
@@ -263,8 +263,8 @@ fn is_of_plan(switch: Switch) -> bool
 }
 
 /// Whether `report` has an option.
-fn is_of_report(opt: Opt) -> bool
-    ensures { result ≡ options.is_of_report opt }
+fn is_option_of_report(opt: Opt) -> bool
+    ensures { result ≡ options.is_option_of_report opt }
 {
     !matches!(
         opt,
@@ -273,23 +273,23 @@ fn is_of_report(opt: Opt) -> bool
 }
 
 /// Whether `state` has an option.
-fn is_of_state(opt: Opt) -> bool
-    ensures { result ≡ options.is_of_state opt }
+fn is_option_of_state(opt: Opt) -> bool
+    ensures { result ≡ options.is_option_of_state opt }
 {
     match opt {
         Opt::Plain => false,
         Opt::ByStat => true,
-        _ => is_of_report(opt),
+        _ => is_option_of_report(opt),
     }
 }
 
 /// Whether `plan` has an option.
-fn takes_for_plan(opt: Opt) -> bool
-    ensures { result ≡ options.takes_for_plan opt }
+fn is_option_of_plan(opt: Opt) -> bool
+    ensures { result ≡ options.is_option_of_plan opt }
 {
     match opt {
-        Opt::With(switch) => is_of_plan(switch),
-        Opt::Without(switch) => is_of_plan(switch),
+        Opt::With(switch) => is_switch_of_plan(switch),
+        Opt::Without(switch) => is_switch_of_plan(switch),
         _ => matches!(
             opt,
             Opt::Strategy
@@ -304,21 +304,21 @@ fn takes_for_plan(opt: Opt) -> bool
 }
 
 /// Whether a command has an option.
-pub fn takes(verb: Verb, opt: Opt) -> bool
-    ensures { result ≡ options.takes verb opt }
+pub fn command_has_option(verb: Verb, opt: Opt) -> bool
+    ensures { result ≡ options.command_has_option verb opt }
 {
     match verb {
-        Verb::Report => is_of_report(opt),
-        Verb::Plan => takes_for_plan(opt),
+        Verb::Report => is_option_of_report(opt),
+        Verb::Plan => is_option_of_plan(opt),
         Verb::Modules => matches!(opt, Opt::Permissions | Opt::Help),
-        Verb::State => is_of_state(opt),
+        Verb::State => is_option_of_state(opt),
         Verb::Files | Verb::Clean | Verb::Compare | Verb::Check => true,
     }
 }
 
 /// How paths of a kind are reported, by a value.
-pub fn emission_of(value: &[u8]) -> Option<EmissionMode>
-    ensures { result ≡ options.emission_of value.now }
+pub fn parse_emission_mode(value: &[u8]) -> Option<EmissionMode>
+    ensures { result ≡ options.parse_emission_mode value.now }
 {
     if value == b"matching".as_slice() {
         Some(EmissionMode::Matching)
@@ -330,8 +330,8 @@ pub fn emission_of(value: &[u8]) -> Option<EmissionMode>
 }
 
 /// Which paths are reported besides the directory that was folded over them, by a value.
-pub fn collapsed_of(value: &[u8]) -> Option<CollapsedEntriesEmissionMode>
-    ensures { result ≡ options.collapsed_of value.now }
+pub fn parse_collapsed_mode(value: &[u8]) -> Option<CollapsedEntriesEmissionMode>
+    ensures { result ≡ options.parse_collapsed_mode value.now }
 {
     if value == b"mismatch".as_slice() {
         Some(CollapsedEntriesEmissionMode::OnStatusMismatch)
@@ -343,8 +343,8 @@ pub fn collapsed_of(value: &[u8]) -> Option<CollapsedEntriesEmissionMode>
 }
 
 /// How deletion goes about ignored directories, by a value.
-pub fn deletion_of(value: &[u8]) -> Option<ForDeletionMode>
-    ensures { result ≡ options.deletion_of value.now }
+pub fn parse_for_deletion_mode(value: &[u8]) -> Option<ForDeletionMode>
+    ensures { result ≡ options.parse_for_deletion_mode value.now }
 {
     if value == b"hide".as_slice() {
         Some(ForDeletionMode::IgnoredDirectoriesCanHideNestedRepositories)

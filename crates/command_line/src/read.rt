@@ -5,7 +5,7 @@ ghost use Rattle.command_line.specs.Readings as readings;
 use crate::draft::{Draft, default_draft};
 use crate::misuse::Wrong;
 use crate::rules_given::RulesGiven;
-use crate::step::{Next, Step, word_step};
+use crate::step::{Next, Step, step_of_word};
 use crate::verb::Verb;
 use gitbase_core::{Bytes, OutOfMemory};
 use std::alloc::Global;
@@ -20,15 +20,15 @@ pub enum Read {
 }
 
 /// What the words say where there are no more: an option may want a value still.
-fn ended(
+fn finish_reading_or_missing_value(
     alloc: Global,
     draft: Draft,
     next: Next,
     paths: Vec<Bytes>,
     rules: RulesGiven,
 ) -> Result<Read, OutOfMemory>
-    ensures { IfOk result
-        (λ read. readings.seen read ≡ readings.ended draft next paths.items rules) }
+    ensures { IfOk result (λ read. readings.seen read ≡ readings.finish_reading_or_missing_value
+        draft next paths.items rules) }
 {
     match next {
         Next::Any | Next::Paths => Ok(Read::Said(draft, paths, rules)),
@@ -45,9 +45,10 @@ fn ended(
 }
 
 /// What the words of a command say together.
-#[tactic(auto, unfolding(crate::specs::Readings::read_on))]
-pub fn read_words(alloc: Global, verb: Verb, words: &[Bytes]) -> Result<Read, OutOfMemory>
-    ensures { IfOk result (λ read. readings.seen read ≡ readings.read_words verb words.now) }
+#[tactic(auto, unfolding(crate::specs::Readings::read_remaining_words))]
+pub fn read_command_words(alloc: Global, verb: Verb, words: &[Bytes]) -> Result<Read, OutOfMemory>
+    ensures { IfOk result (λ read. readings.seen read ≡ readings.read_command_words verb
+        words.now) }
 {
     let mut draft = default_draft();
     let mut next = Next::Any;
@@ -55,7 +56,7 @@ pub fn read_words(alloc: Global, verb: Verb, words: &[Bytes]) -> Result<Read, Ou
     let mut rules = RulesGiven::new(alloc);
     let mut rest = words;
     while let Some((word, after)) = rest.split_first() {
-        match word_step(verb, next, word.as_bytes(), draft) {
+        match step_of_word(verb, next, word.as_bytes(), draft) {
             Step::Said(now, then) => {
                 draft = now;
                 next = then;
@@ -64,7 +65,7 @@ pub fn read_words(alloc: Global, verb: Verb, words: &[Bytes]) -> Result<Read, Ou
             Step::Rules(now, ruling) => {
                 draft = now;
                 next = Next::Any;
-                rules = rules.with(alloc, ruling, word.as_bytes())?;
+                rules = rules.with_ruling_of_word(alloc, ruling, word.as_bytes())?;
             }
             Step::Wrong(wrong) => {
                 return Ok(Read::Wrong(wrong, Bytes::from_slice(alloc, word.as_bytes())?));
@@ -72,5 +73,5 @@ pub fn read_words(alloc: Global, verb: Verb, words: &[Bytes]) -> Result<Read, Ou
         }
         rest = after;
     }
-    ended(alloc, draft, next, paths, rules)
+    finish_reading_or_missing_value(alloc, draft, next, paths, rules)
 }

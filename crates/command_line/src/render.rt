@@ -3,34 +3,39 @@ ghost use Rattle.std.specs.Prelude.{◌≡◌, ◌++◌, IfOk, OnOk};
 ghost use Rattle.command_line.specs.Rendered as rendered;
 
 use crate::form::{LineEnd, Style, Wording};
-use crate::row::{add_end, add_line, add_path};
+use crate::row::{append_line_end, append_path_unescaped_if_nul_end, append_styled_line};
 use bstr::ByteSlice;
 use gitbase_core::{Bytes, OutOfMemory};
 use std::alloc::Global;
 
 /// Adds a line of a report and its end.
-fn add_whole(text: &mut Vec<u8>, style: Style, line: &[u8]) -> Result<(), OutOfMemory>
-    ensures { OnOk result (text.new.items ≡ text.old.items ++ rendered.whole_line style line.now) }
+fn append_styled_line_with_end(
+    text: &mut Vec<u8>,
+    style: Style,
+    line: &[u8],
+) -> Result<(), OutOfMemory>
+    ensures { OnOk result (text.new.items ≡ text.old.items ++ rendered.styled_line_with_end style
+        line.now) }
 {
-    add_line(text, style, line)?;
-    add_end(text, style.end)?;
+    append_styled_line(text, style, line)?;
+    append_line_end(text, style.end)?;
     Ok(())
 }
 
 /// Each line of a report in a style.
-fn each_line(alloc: Global, style: Style, text: &[u8]) -> Result<Bytes, OutOfMemory>
-    ensures { IfOk result (λ out. out ≡ rendered.each_line style text.now) }
+fn restyle_each_line(alloc: Global, style: Style, text: &[u8]) -> Result<Bytes, OutOfMemory>
+    ensures { IfOk result (λ out. out ≡ rendered.restyle_each_line style text.now) }
 {
     let mut out = Vec::new(alloc);
     for line in text.lines() {
-        add_whole(&mut out, style, line)?;
+        append_styled_line_with_end(&mut out, style, line)?;
     }
     Ok(Bytes::from_vec(out))
 }
 
 /// Whether a report stays as it is: words, line feeds, and no colours.
-fn is_plain(style: Style) -> bool
-    ensures { result ≡ rendered.is_plain style }
+fn is_uncolored_words_with_line_feeds(style: Style) -> bool
+    ensures { result ≡ rendered.is_uncolored_words_with_line_feeds style }
 {
     match style.wording {
         Wording::Words => match style.end {
@@ -48,31 +53,32 @@ fn is_plain(style: Style) -> bool
 /// # Errors
 ///
 /// Memory was refused.
-pub fn rendered(alloc: Global, style: Style, text: &[u8]) -> Result<Bytes, OutOfMemory>
-    ensures { IfOk result (λ out. out ≡ rendered.rendered style text.now) }
+pub fn restyle_report_text(alloc: Global, style: Style, text: &[u8]) -> Result<Bytes, OutOfMemory>
+    ensures { IfOk result (λ out. out ≡ rendered.restyle_report_text style text.now) }
 {
-    if is_plain(style) {
+    if is_uncolored_words_with_line_feeds(style) {
         return Bytes::from_slice(alloc, text);
     }
-    each_line(alloc, style, text)
+    restyle_each_line(alloc, style, text)
 }
 
 /// Adds a path and the end of its line.
-fn add_whole_path(text: &mut Vec<u8>, end: LineEnd, path: &[u8]) -> Result<(), OutOfMemory>
-    ensures { OnOk result (text.new.items ≡ text.old.items ++ rendered.whole_path end path.now) }
+fn append_path_with_end(text: &mut Vec<u8>, end: LineEnd, path: &[u8]) -> Result<(), OutOfMemory>
+    ensures { OnOk result (text.new.items ≡ text.old.items ++ rendered.path_with_line_end end
+        path.now) }
 {
-    add_path(text, end, path)?;
-    add_end(text, end)?;
+    append_path_unescaped_if_nul_end(text, end, path)?;
+    append_line_end(text, end)?;
     Ok(())
 }
 
 /// Each path of a plan, with such ends of lines.
-fn each_path(alloc: Global, end: LineEnd, text: &[u8]) -> Result<Bytes, OutOfMemory>
-    ensures { IfOk result (λ out. out ≡ rendered.each_path end text.now) }
+fn paths_with_line_ends(alloc: Global, end: LineEnd, text: &[u8]) -> Result<Bytes, OutOfMemory>
+    ensures { IfOk result (λ out. out ≡ rendered.paths_with_line_ends end text.now) }
 {
     let mut out = Vec::new(alloc);
     for line in text.lines() {
-        add_whole_path(&mut out, end, line)?;
+        append_path_with_end(&mut out, end, line)?;
     }
     Ok(Bytes::from_vec(out))
 }
@@ -83,11 +89,15 @@ fn each_path(alloc: Global, end: LineEnd, text: &[u8]) -> Result<Bytes, OutOfMem
 /// # Errors
 ///
 /// Memory was refused.
-pub fn rendered_paths(alloc: Global, end: LineEnd, text: &[u8]) -> Result<Bytes, OutOfMemory>
-    ensures { IfOk result (λ out. out ≡ rendered.rendered_paths end text.now) }
+pub fn plan_text_with_line_ends(
+    alloc: Global,
+    end: LineEnd,
+    text: &[u8],
+) -> Result<Bytes, OutOfMemory>
+    ensures { IfOk result (λ out. out ≡ rendered.plan_text_with_line_ends end text.now) }
 {
     match end {
         LineEnd::Feed => Bytes::from_slice(alloc, text),
-        LineEnd::Nul => each_path(alloc, LineEnd::Nul, text),
+        LineEnd::Nul => paths_with_line_ends(alloc, LineEnd::Nul, text),
     }
 }

@@ -2,13 +2,13 @@
 ghost use Rattle.std.specs.Prelude.{◌≡◌};
 ghost use Rattle.command_line.specs.Requests as requests;
 
-use crate::change_words::standings_of;
+use crate::change_words::standings_of_deleted_modified_flags;
 use crate::command::{CleanAsked, Command, FilesAsked, Request};
 use crate::draft::Draft;
 use crate::misuse::{Misuse, Wrong};
-use crate::read::{Read, read_words};
+use crate::read::{Read, read_command_words};
 use crate::rules_given::RulesGiven;
-use crate::verb::{Topic, Verb, prefers_current, verb_of};
+use crate::verb::{Topic, Verb, prefers_current_directory, verb_of_word};
 use git_clean::Cleaning;
 use git_setup::Asked;
 use gitbase_core::Bytes;
@@ -19,8 +19,8 @@ use std::alloc::Global;
 const DEEPEST: usize = 1000;
 
 /// How many components a directory that is entered may have.
-fn depth_in(verb: Verb, depth: usize) -> usize
-    ensures { result ≡ requests.depth_in verb depth }
+fn given_depth_or_deepest_by_verb(verb: Verb, depth: usize) -> usize
+    ensures { result ≡ requests.given_depth_or_deepest_by_verb verb depth }
 {
     match verb {
         Verb::Report | Verb::Plan | Verb::Modules | Verb::State => depth,
@@ -29,8 +29,8 @@ fn depth_in(verb: Verb, depth: usize) -> usize
 }
 
 /// What is asked of `clean`, by its paths too.
-fn cleaning_in(cleaning: Cleaning, paths: &[Bytes]) -> Cleaning
-    ensures { result ≡ requests.cleaning_in cleaning paths.now }
+fn clean_request_of_directories_if_paths(cleaning: Cleaning, paths: &[Bytes]) -> Cleaning
+    ensures { result ≡ requests.clean_request_of_directories_if_paths cleaning paths.now }
 {
     match paths {
         [] => cleaning,
@@ -43,9 +43,13 @@ fn cleaning_in(cleaning: Cleaning, paths: &[Bytes]) -> Cleaning
 }
 
 /// What is listed: what changed too, where that is asked for.
-fn listed(standings: Option<Standings>, asked: Asked, files: FilesAsked) -> Command
-    ensures { requests.seen result ≡ requests.listed standings (requests.want_of asked)
-        files.listing files.rules }
+fn ls_files_or_changed_command(
+    standings: Option<Standings>,
+    asked: Asked,
+    files: FilesAsked,
+) -> Command
+    ensures { requests.seen result ≡ requests.ls_files_or_changed_command standings
+        (requests.work_tree_request_of_asked asked) files.listing files.rules }
 {
     match standings {
         Some(standings) => Command::Changed {
@@ -65,12 +69,12 @@ fn command_from_draft(verb: Verb, draft: Draft, paths: Vec<Bytes>, rules: RulesG
         return Command::Help(Topic::Of(verb));
     }
     let form = draft.form;
-    let cleaning = cleaning_in(draft.cleaning, &paths);
+    let cleaning = clean_request_of_directories_if_paths(draft.cleaning, &paths);
     let asked = Asked {
         options: draft.options,
         paths,
-        depth: depth_in(verb, draft.depth),
-        prefers_current: prefers_current(verb),
+        depth: given_depth_or_deepest_by_verb(verb, draft.depth),
+        prefers_current: prefers_current_directory(verb),
     };
     match verb {
         Verb::Report => Command::Report { asked, form },
@@ -88,8 +92,8 @@ fn command_from_draft(verb: Verb, draft: Draft, paths: Vec<Bytes>, rules: RulesG
         },
         Verb::Files => {
             let listing = draft.listing;
-            listed(
-                standings_of(draft.changes),
+            ls_files_or_changed_command(
+                standings_of_deleted_modified_flags(draft.changes),
                 asked,
                 FilesAsked { listing, rules },
             )
@@ -114,10 +118,11 @@ fn command_from_draft(verb: Verb, draft: Draft, paths: Vec<Bytes>, rules: RulesG
 }
 
 /// What the words behind a command ask for.
-fn of_verb(alloc: Global, verb: Verb, words: &[Bytes]) -> Result<Command, Misuse>
-    ensures { requests.Commands result (requests.of_verb verb words.now) }
+fn parse_words_of_verb(alloc: Global, verb: Verb, words: &[Bytes]) -> Result<Command, Misuse>
+    ensures { requests.IsCommandOrMisuseOfAnswer result (requests.parse_words_of_verb verb
+        words.now) }
 {
-    match read_words(alloc, verb, words)? {
+    match read_command_words(alloc, verb, words)? {
         Read::Said(draft, paths, rules) => Ok(command_from_draft(verb, draft, paths, rules)),
         Read::Wrong(wrong, word) => Err(Misuse::Word {
             topic: Topic::Of(verb),
@@ -128,8 +133,9 @@ fn of_verb(alloc: Global, verb: Verb, words: &[Bytes]) -> Result<Command, Misuse
 }
 
 /// That a word before any command is wrong.
-fn misused(alloc: Global, wrong: Wrong, word: &[u8]) -> Result<Command, Misuse>
-    ensures { requests.Commands result (requests.misused wrong word.now) }
+fn misuse_before_command(alloc: Global, wrong: Wrong, word: &[u8]) -> Result<Command, Misuse>
+    ensures { requests.IsCommandOrMisuseOfAnswer result (requests.misuse_before_command wrong
+        word.now) }
 {
     let word = Bytes::from_slice(alloc, word)?;
     Err(Misuse::Word {
@@ -140,15 +146,15 @@ fn misused(alloc: Global, wrong: Wrong, word: &[u8]) -> Result<Command, Misuse>
 }
 
 /// Whether a word asks for help.
-fn is_help(word: &[u8]) -> bool
-    ensures { result ≡ requests.is_help word.now }
+fn is_help_word(word: &[u8]) -> bool
+    ensures { result ≡ requests.is_help_word word.now }
 {
     word == b"-h".as_slice() || word == b"--help".as_slice()
 }
 
 /// What is wrong with a first word that is no command.
-fn wrong_first(word: &[u8]) -> Wrong
-    ensures { result ≡ requests.wrong_first word.now }
+fn error_of_unknown_first_word(word: &[u8]) -> Wrong
+    ensures { result ≡ requests.error_of_unknown_first_word word.now }
 {
     if word == b"-C".as_slice() {
         Wrong::SecondDirectory
@@ -160,34 +166,40 @@ fn wrong_first(word: &[u8]) -> Wrong
 }
 
 /// What the words that begin with this one ask for.
-fn first(alloc: Global, word: &[u8], words: &[Bytes]) -> Result<Command, Misuse>
-    ensures { requests.Commands result (requests.first word.now words.now) }
+fn parse_command_from_first_word(
+    alloc: Global,
+    word: &[u8],
+    words: &[Bytes],
+) -> Result<Command, Misuse>
+    ensures { requests.IsCommandOrMisuseOfAnswer result (requests.parse_command_from_first_word
+        word.now words.now) }
 {
-    if is_help(word) {
+    if is_help_word(word) {
         return Ok(Command::Help(Topic::Whole));
     }
     if word == b"--version".as_slice() {
         return Ok(Command::Version);
     }
-    match verb_of(word) {
-        Some(verb) => of_verb(alloc, verb, words),
-        None => misused(alloc, wrong_first(word), word),
+    match verb_of_word(word) {
+        Some(verb) => parse_words_of_verb(alloc, verb, words),
+        None => misuse_before_command(alloc, error_of_unknown_first_word(word), word),
     }
 }
 
 /// What the words from the command on ask for.
-fn command_of(alloc: Global, words: &[Bytes]) -> Result<Command, Misuse>
-    ensures { requests.Commands result (requests.command_in words.now) }
+fn parse_command_words(alloc: Global, words: &[Bytes]) -> Result<Command, Misuse>
+    ensures { requests.IsCommandOrMisuseOfAnswer result (requests.parse_command_words words.now) }
 {
     match words {
-        [] => misused(alloc, Wrong::NoCommand, b""),
-        [word, rest @ ..] => first(alloc, word.as_bytes(), rest),
+        [] => misuse_before_command(alloc, Wrong::NoCommand, b""),
+        [word, rest @ ..] => parse_command_from_first_word(alloc, word.as_bytes(), rest),
     }
 }
 
 /// The directory that is said, where it is not empty.
-fn directory_of(alloc: Global, word: &[u8]) -> Result<Option<Bytes>, Misuse>
-    ensures { requests.Directories result (requests.directory_of word.now) }
+fn directory_unless_empty(alloc: Global, word: &[u8]) -> Result<Option<Bytes>, Misuse>
+    ensures { requests.IsDirectoryUnlessOutOfMemory result (requests.directory_unless_empty
+        word.now) }
 {
     if word.is_empty() {
         return Ok(None);
@@ -197,19 +209,20 @@ fn directory_of(alloc: Global, word: &[u8]) -> Result<Option<Bytes>, Misuse>
 
 /// What words ask for in the directory that `-C` says.
 fn parse_directory_and_command(alloc: Global, words: &[Bytes]) -> Result<Request, Misuse>
-    ensures { requests.Answers result (requests.parse_directory_and_command words.now) }
+    ensures { requests.IsRequestOrMisuseOfWords result (requests.parse_directory_and_command
+        words.now) }
 {
     match words {
         [] => {
-            let command = misused(alloc, Wrong::NoValue, b"-C")?;
+            let command = misuse_before_command(alloc, Wrong::NoValue, b"-C")?;
             Ok(Request {
                 directory: None,
                 command,
             })
         }
         [word, rest @ ..] => {
-            let directory = directory_of(alloc, word.as_bytes())?;
-            let command = command_of(alloc, rest)?;
+            let directory = directory_unless_empty(alloc, word.as_bytes())?;
+            let command = parse_command_words(alloc, rest)?;
             Ok(Request { directory, command })
         }
     }
@@ -222,15 +235,15 @@ fn parse_directory_and_command(alloc: Global, words: &[Bytes]) -> Result<Request
 ///
 /// - `Word` names the first word that is wrong, and says how.
 /// - `OutOfMemory` for want of memory.
-pub fn request_of(alloc: Global, words: &[Bytes]) -> Result<Request, Misuse>
-    ensures { requests.Answers result (requests.request_in words.now) }
+pub fn parse_request_words(alloc: Global, words: &[Bytes]) -> Result<Request, Misuse>
+    ensures { requests.IsRequestOrMisuseOfWords result (requests.parse_request_words words.now) }
 {
     match words {
         [word, rest @ ..] if word.as_bytes() == b"-C".as_slice() => parse_directory_and_command(
             alloc, rest,
         ),
         _ => {
-            let command = command_of(alloc, words)?;
+            let command = parse_command_words(alloc, words)?;
             Ok(Request {
                 directory: None,
                 command,

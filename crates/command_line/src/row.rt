@@ -3,11 +3,11 @@ ghost use Rattle.std.specs.Prelude.{◌≡◌, ◌==◌, ◌<◌, ◌++◌, leng
 ghost use Rattle.command_line.specs.Rows as rows;
 
 use crate::form::{LineEnd, Style, Wording};
-use crate::unspelled::add_unspelled;
+use crate::unspelled::append_unescaped_path;
 use gitbase_core::OutOfMemory;
 
 /// The place of the first byte of a value.
-fn first_place(value: u8, bytes: &[u8]) -> Option<usize>
+fn index_of_first_byte(value: u8, bytes: &[u8]) -> Option<usize>
     ensures place { result ≡ position (λ b. b == value) bytes.now }
     ensures within { IfSome result (λ place. place < length bytes.now) }
 {
@@ -18,7 +18,7 @@ fn first_place(value: u8, bytes: &[u8]) -> Option<usize>
 fn first_word(words: &[u8]) -> &[u8]
     ensures { result.now ≡ rows.first_word words.now }
 {
-    match first_place(b' ', words) {
+    match index_of_first_byte(b' ', words) {
         Some(place) => {
             let (word, _) = words.split_at(place);
             word
@@ -28,10 +28,10 @@ fn first_word(words: &[u8]) -> &[u8]
 }
 
 /// What stands behind the first space, or nothing where there is none.
-fn behind_space(words: &[u8]) -> &[u8]
-    ensures { result.now ≡ rows.behind_space words.now }
+fn text_after_first_space(words: &[u8]) -> &[u8]
+    ensures { result.now ≡ rows.text_after_first_space words.now }
 {
-    match first_place(b' ', words) {
+    match index_of_first_byte(b' ', words) {
         Some(place) => {
             let (_, rest) = words.split_at(place + 1);
             rest
@@ -60,8 +60,8 @@ fn status_letters(status: &[u8]) -> &[u8]
 }
 
 /// What a terminal is sent before a line of a status; nothing for another word.
-fn opening_of(status: &[u8]) -> &'static [u8]
-    ensures { result.now ≡ rows.opening_of status.now }
+fn color_escape_of_status(status: &[u8]) -> &'static [u8]
+    ensures { result.now ≡ rows.color_escape_of_status status.now }
 {
     if status == b"untracked".as_slice() {
         b"\x1b[31m"
@@ -79,22 +79,26 @@ fn opening_of(status: &[u8]) -> &'static [u8]
 }
 
 /// What it is sent before a line where lines are coloured.
-fn opening(is_colored: bool, status: &[u8]) -> &'static [u8]
-    ensures { result.now ≡ rows.opening is_colored status.now }
+fn color_escape_if_colored(is_colored: bool, status: &[u8]) -> &'static [u8]
+    ensures { result.now ≡ rows.color_escape_if_colored is_colored status.now }
 {
-    if is_colored { opening_of(status) } else { b"" }
+    if is_colored {
+        color_escape_of_status(status)
+    } else {
+        b""
+    }
 }
 
 /// What it is sent behind a line that it was sent something before.
-fn closing(opening: &[u8]) -> &'static [u8]
-    ensures { result.now ≡ rows.closing opening.now }
+fn color_reset_if_opened(opening: &[u8]) -> &'static [u8]
+    ensures { result.now ≡ rows.color_reset_if_opened opening.now }
 {
     if opening.is_empty() { b"" } else { b"\x1b[0m" }
 }
 
 /// The slash behind what holds other paths.
-fn slash_of(disk: &[u8]) -> &'static [u8]
-    ensures { result.now ≡ rows.slash_of disk.now }
+fn slash_for_directory_or_repository(disk: &[u8]) -> &'static [u8]
+    ensures { result.now ≡ rows.slash_for_directory_or_repository disk.now }
 {
     if disk == b"directory".as_slice() || disk == b"repository".as_slice() {
         b"/"
@@ -104,80 +108,103 @@ fn slash_of(disk: &[u8]) -> &'static [u8]
 }
 
 /// Adds a path: escaped as it is in the text, or as it is on disk.
-pub fn add_path(text: &mut Vec<u8>, end: LineEnd, path: &[u8]) -> Result<(), OutOfMemory>
-    ensures { OnOk result (text.new.items ≡ text.old.items ++ rows.path_text end path.now) }
+pub fn append_path_unescaped_if_nul_end(
+    text: &mut Vec<u8>,
+    end: LineEnd,
+    path: &[u8],
+) -> Result<(), OutOfMemory>
+    ensures { OnOk result (text.new.items ≡ text.old.items ++ rows.path_unescaped_if_nul_end end
+        path.now) }
 {
     match end {
         LineEnd::Feed => text.extend_from_slice(path)?,
-        LineEnd::Nul => add_unspelled(text, path)?,
+        LineEnd::Nul => append_unescaped_path(text, path)?,
     }
     Ok(())
 }
 
 /// Adds the words of a line and its path.
-fn add_words(text: &mut Vec<u8>, end: LineEnd, words: &[u8], path: &[u8]) -> Result<(), OutOfMemory>
-    ensures { OnOk result (text.new.items ≡ text.old.items ++ rows.in_words end words.now
-        path.now) }
-{
-    text.extend_from_slice(words)?;
-    text.push(b'\t')?;
-    add_path(text, end, path)?;
-    Ok(())
-}
-
-/// Adds the letters of a line and its path.
-fn add_letters(
+fn append_words_tab_path(
     text: &mut Vec<u8>,
     end: LineEnd,
     words: &[u8],
     path: &[u8],
 ) -> Result<(), OutOfMemory>
-    ensures { OnOk result (text.new.items ≡ text.old.items ++ rows.in_letters end words.now
+    ensures { OnOk result (text.new.items ≡ text.old.items ++ rows.words_tab_path end words.now
         path.now) }
 {
-    text.extend_from_slice(status_letters(first_word(words)))?;
-    text.push(b' ')?;
-    add_path(text, end, path)?;
-    text.extend_from_slice(slash_of(first_word(behind_space(words))))?;
+    text.extend_from_slice(words)?;
+    text.push(b'\t')?;
+    append_path_unescaped_if_nul_end(text, end, path)?;
     Ok(())
 }
 
-fn add_body(text: &mut Vec<u8>, style: Style, words: &[u8], path: &[u8]) -> Result<(), OutOfMemory>
+/// Adds the letters of a line and its path.
+fn append_status_letters_and_path(
+    text: &mut Vec<u8>,
+    end: LineEnd,
+    words: &[u8],
+    path: &[u8],
+) -> Result<(), OutOfMemory>
+    ensures { OnOk result (text.new.items ≡ text.old.items ++ rows.status_letters_space_path end
+        words.now path.now) }
+{
+    text.extend_from_slice(status_letters(first_word(words)))?;
+    text.push(b' ')?;
+    append_path_unescaped_if_nul_end(text, end, path)?;
+    text.extend_from_slice(slash_for_directory_or_repository(first_word(text_after_first_space(
+        words,
+    ))))?;
+    Ok(())
+}
+
+fn append_uncolored_styled_line(
+    text: &mut Vec<u8>,
+    style: Style,
+    words: &[u8],
+    path: &[u8],
+) -> Result<(), OutOfMemory>
     ensures { OnOk result (text.new.items ≡ text.old.items ++ rows.uncolored_styled_line style
         words.now path.now) }
 {
     match style.wording {
-        Wording::Words => add_words(text, style.end, words, path)?,
-        Wording::Letters => add_letters(text, style.end, words, path)?,
+        Wording::Words => append_words_tab_path(text, style.end, words, path)?,
+        Wording::Letters => append_status_letters_and_path(text, style.end, words, path)?,
     }
     Ok(())
 }
 
 /// Adds a line of words and a path, in its colour.
-fn add_row(text: &mut Vec<u8>, style: Style, words: &[u8], path: &[u8]) -> Result<(), OutOfMemory>
-    ensures { OnOk result (text.new.items ≡ text.old.items ++ rows.row style words.now path.now) }
+fn append_row_colored_if_style_says(
+    text: &mut Vec<u8>,
+    style: Style,
+    words: &[u8],
+    path: &[u8],
+) -> Result<(), OutOfMemory>
+    ensures { OnOk result (text.new.items ≡ text.old.items ++ rows.row_colored_if_style_says style
+        words.now path.now) }
 {
-    let opening = opening(style.is_colored, first_word(words));
+    let opening = color_escape_if_colored(style.is_colored, first_word(words));
     text.extend_from_slice(opening)?;
-    add_body(text, style, words, path)?;
-    text.extend_from_slice(closing(opening))?;
+    append_uncolored_styled_line(text, style, words, path)?;
+    text.extend_from_slice(color_reset_if_opened(opening))?;
     Ok(())
 }
 
 /// Adds a line of a report without its end: one that begins with `# ` stays, and so does one
 /// without a tab.
-pub fn add_line(text: &mut Vec<u8>, style: Style, line: &[u8]) -> Result<(), OutOfMemory>
+pub fn append_styled_line(text: &mut Vec<u8>, style: Style, line: &[u8]) -> Result<(), OutOfMemory>
     ensures { OnOk result (text.new.items ≡ text.old.items ++ rows.line style line.now) }
 {
     if line.starts_with(b"# ") {
         text.extend_from_slice(line)?;
         return Ok(());
     }
-    match first_place(b'\t', line) {
+    match index_of_first_byte(b'\t', line) {
         Some(place) => {
             let (words, _) = line.split_at(place);
             let (_, path) = line.split_at(place + 1);
-            add_row(text, style, words, path)?;
+            append_row_colored_if_style_says(text, style, words, path)?;
         }
         None => text.extend_from_slice(line)?,
     }
@@ -185,8 +212,8 @@ pub fn add_line(text: &mut Vec<u8>, style: Style, line: &[u8]) -> Result<(), Out
 }
 
 /// Adds the end of a line.
-pub fn add_end(text: &mut Vec<u8>, end: LineEnd) -> Result<(), OutOfMemory>
-    ensures { OnOk result (text.new.items ≡ text.old.items ++ rows.end_of end) }
+pub fn append_line_end(text: &mut Vec<u8>, end: LineEnd) -> Result<(), OutOfMemory>
+    ensures { OnOk result (text.new.items ≡ text.old.items ++ rows.line_end_byte end) }
 {
     match end {
         LineEnd::Feed => text.push(b'\n')?,

@@ -48,15 +48,15 @@ pub enum Ruling {
 }
 
 /// The last bytes of a word, as many as are said.
-fn end_of_word(alloc: Global, left: usize, word: &[u8]) -> Result<Bytes, OutOfMemory>
-    ensures { IfOk result (λ text. text ≡ words.end_of_word left word.now) }
+fn last_bytes_of_word(alloc: Global, left: usize, word: &[u8]) -> Result<Bytes, OutOfMemory>
+    ensures { IfOk result (λ text. text ≡ words.last_bytes_of_word left word.now) }
 {
     let (_, text) = word.split_at(word.len().saturating_sub(left));
     Bytes::from_slice(alloc, text)
 }
 
 /// A list with one more at its end.
-fn pushed(list: Vec<Bytes>, bytes: Bytes) -> Result<Vec<Bytes>, OutOfMemory>
+fn list_with_bytes_pushed(list: Vec<Bytes>, bytes: Bytes) -> Result<Vec<Bytes>, OutOfMemory>
     ensures { IfOk result (λ longer. longer.items ≡ list.items ++ bytes ∷ []) }
 {
     let mut list = list;
@@ -65,7 +65,7 @@ fn pushed(list: Vec<Bytes>, bytes: Bytes) -> Result<Vec<Bytes>, OutOfMemory>
 }
 
 /// A list with those of another at its end.
-fn joined(list: Vec<Bytes>, more: Vec<Bytes>) -> Result<Vec<Bytes>, OutOfMemory>
+fn concatenated_lists(list: Vec<Bytes>, more: Vec<Bytes>) -> Result<Vec<Bytes>, OutOfMemory>
     ensures { IfOk result (λ longer. longer.items ≡ list.items ++ more.items) }
 {
     let mut list = list;
@@ -78,7 +78,7 @@ fn joined(list: Vec<Bytes>, more: Vec<Bytes>) -> Result<Vec<Bytes>, OutOfMemory>
 impl RulesGiven {
     /// No rules; takes no memory.
     pub fn new(alloc: Global) -> RulesGiven
-        ensures { result ≡ words.no_rules }
+        ensures { result ≡ words.no_rules_given }
     {
         RulesGiven {
             patterns: Vec::new(alloc),
@@ -95,8 +95,13 @@ impl RulesGiven {
     }
 
     /// These and what one more word says.
-    pub fn with(self, alloc: Global, ruling: Ruling, word: &[u8]) -> Result<RulesGiven, OutOfMemory>
-        ensures { IfOk result (λ rules. rules ≡ words.with_ruling ruling word.now self) }
+    pub fn with_ruling_of_word(
+        self,
+        alloc: Global,
+        ruling: Ruling,
+        word: &[u8],
+    ) -> Result<RulesGiven, OutOfMemory>
+        ensures { IfOk result (λ rules. rules ≡ words.with_ruling_of_word ruling word.now self) }
     {
         let RulesGiven {
             patterns,
@@ -105,18 +110,18 @@ impl RulesGiven {
         } = self;
         match ruling {
             Ruling::Pattern { left } => Ok(RulesGiven {
-                patterns: pushed(patterns, end_of_word(alloc, left, word)?)?,
+                patterns: list_with_bytes_pushed(patterns, last_bytes_of_word(alloc, left, word)?)?,
                 weaker,
                 stronger,
             }),
             Ruling::File { left } => Ok(RulesGiven {
                 patterns,
                 weaker,
-                stronger: pushed(stronger, end_of_word(alloc, left, word)?)?,
+                stronger: list_with_bytes_pushed(stronger, last_bytes_of_word(alloc, left, word)?)?,
             }),
             Ruling::Standard => Ok(RulesGiven {
                 patterns,
-                weaker: joined(weaker, stronger)?,
+                weaker: concatenated_lists(weaker, stronger)?,
                 stronger: Vec::new(alloc),
             }),
         }

@@ -6,8 +6,8 @@ ghost use Rattle.command_line.specs.Unspelled as unspelled;
 use gitbase_core::OutOfMemory;
 
 /// The value of a lower-case hexadecimal digit.
-fn digit_value(byte: u8) -> Option<u8>
-    ensures { result ≡ escapes.digit_value byte }
+fn lowercase_hex_digit_value(byte: u8) -> Option<u8>
+    ensures { result ≡ escapes.value_of_hex_digit byte }
 {
     match byte {
         b'0'..=b'9' => Some(byte - b'0'),
@@ -17,36 +17,37 @@ fn digit_value(byte: u8) -> Option<u8>
 }
 
 /// The byte that the first two bytes write as hexadecimal digits.
-fn hex_byte(bytes: &[u8]) -> Option<u8>
-    ensures { result ≡ escapes.hex_byte bytes.now }
+fn byte_of_two_hex_digits(bytes: &[u8]) -> Option<u8>
+    ensures { result ≡ escapes.byte_from_two_hex_digits bytes.now }
 {
     if bytes.len() < 2 {
         return None;
     }
-    let high = digit_value(bytes[0])?;
-    let low = digit_value(bytes[1])?;
+    let high = lowercase_hex_digit_value(bytes[0])?;
+    let low = lowercase_hex_digit_value(bytes[1])?;
     Some(16 * high + low)
 }
 
 /// The byte that a backslash and two digits spell at the beginning of a text. None where it begins
 /// otherwise.
-fn spelled(first: u8, rest: &[u8]) -> Option<u8>
-    ensures { result ≡ unspelled.spelled first rest.now }
+fn byte_of_backslash_hex_escape(first: u8, rest: &[u8]) -> Option<u8>
+    ensures { result ≡ unspelled.byte_of_backslash_hex_escape first rest.now }
 {
     if first != b'\\' {
         return None;
     }
-    hex_byte(rest)
+    byte_of_two_hex_digits(rest)
 }
 
 /// Adds the bytes that a text spells: a backslash and two lower-case hexadecimal digits are one,
 /// every other byte is itself.
-pub fn add_unspelled(text: &mut Vec<u8>, path: &[u8]) -> Result<(), OutOfMemory>
-    ensures { OnOk result (text.new.items ≡ text.old.items ++ unspelled.unspelled path.now) }
+pub fn append_unescaped_path(text: &mut Vec<u8>, path: &[u8]) -> Result<(), OutOfMemory>
+    ensures { OnOk result (text.new.items ≡ text.old.items ++
+        unspelled.bytes_with_hex_escapes_decoded path.now) }
 {
     let mut rest = path;
     while let Some((first, after)) = rest.split_first() {
-        match spelled(*first, after) {
+        match byte_of_backslash_hex_escape(*first, after) {
             Some(byte) => {
                 text.push(byte)?;
                 let (_, behind) = after.split_at(2);

@@ -33,8 +33,8 @@ pub enum Topic {
 }
 
 /// The command of this name. None where there is none.
-pub(crate) fn verb_of(word: &[u8]) -> Option<Verb>
-    ensures { result ≡ verbs.verb_of word.now }
+pub(crate) fn verb_of_word(word: &[u8]) -> Option<Verb>
+    ensures { result ≡ verbs.verb_of_word word.now }
 {
     if word == b"report".as_slice() {
         Some(Verb::Report)
@@ -68,15 +68,15 @@ pub(crate) fn takes_paths(verb: Verb) -> bool
 }
 
 /// Whether the current directory is meant where no path is asked for, and where each path excludes.
-pub(crate) fn prefers_current(verb: Verb) -> bool
-    ensures { result ≡ verbs.prefers_current verb }
+pub(crate) fn prefers_current_directory(verb: Verb) -> bool
+    ensures { result ≡ verbs.prefers_current_directory verb }
 {
     matches!(verb, Verb::Files | Verb::Clean)
 }
 
 /// Whether paths stand behind `--` alone: a word before it may be a revision.
-pub(crate) fn needs_dashes(verb: Verb) -> bool
-    ensures { result ≡ verbs.needs_dashes verb }
+pub(crate) fn needs_double_dash_before_paths(verb: Verb) -> bool
+    ensures { result ≡ verbs.needs_double_dash_before_paths verb }
 {
     matches!(verb, Verb::Compare)
 }

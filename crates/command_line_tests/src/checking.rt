@@ -1,6 +1,8 @@
 //! What words ask of `check-ignore`. Which words git 2.39.5 takes was asked of it.
 use bstr::ByteSlice;
-use command_line::{CheckAsked, Command, Topic, Verb, help_of, request_of, said};
+use command_line::{
+    CheckAsked, Command, Topic, Verb, help_text_of_topic, message_of_misuse, parse_request_words,
+};
 use gitbase_core::Bytes;
 use std::alloc::Global;
 
@@ -75,10 +77,10 @@ fn is_wanted(command: &Command, want: &[u8]) -> bool {
 fn holds(alloc: Global, row: &[u8]) -> Option<bool> {
     let (words, want) = row.split_once_str(b">")?;
     let words = words_of(alloc, words)?;
-    match request_of(alloc, &words) {
+    match parse_request_words(alloc, &words) {
         Ok(request) => Some(is_wanted(&request.command, want)),
         Err(misuse) => {
-            let line = said(alloc, &misuse).ok()?;
+            let line = message_of_misuse(alloc, &misuse).ok()?;
             let wrong = want.strip_prefix(b"!".as_slice())?;
             let usage = b"usage: tizhagor [-C DIR] check-ignore";
             Some(line.as_bytes().starts_with(wrong) && line.as_bytes().contains_str(usage))
@@ -103,7 +105,7 @@ fn words_of_check_ignore_are_read(rt: HostRuntime) {
 
 #[test]
 fn the_help_text_of_check_ignore_names_the_options(rt: HostRuntime) {
-    let text = help_of(Topic::Of(Verb::Check));
+    let text = help_text_of_topic(Topic::Of(Verb::Check));
     let names = b"-v, --verbose,-n, --non-matching,-q, --quiet,--no-index,--index,-h, --help";
     let all = names
         .split(|byte| *byte == b',')

@@ -1,6 +1,6 @@
 //! The help texts.
 use bstr::ByteSlice;
-use command_line::{Topic, Verb, help_of, version};
+use command_line::{Topic, Verb, help_text_of_topic, version_line};
 
 /// The options that each help text names, beside those that a switch of the same name turns off.
 const REPORT: &[u8] =
@@ -13,7 +13,7 @@ const FILES: &[u8] =
   -t ,  -v ,  -z ,--deduplicate,--full-name,--error-unmatch,-h, --help";
 
 fn names_all(topic: Topic, names: &[u8]) -> bool {
-    let text = help_of(topic);
+    let text = help_text_of_topic(topic);
     names
         .split(|byte| *byte == b',')
         .all(|name| text.contains_str(name))
@@ -31,7 +31,7 @@ fn help_texts_name_the_options(rt: HostRuntime) {
         Topic::Of(Verb::State),
         b"--ignored,  --by-stat ,but for --by-stat,  --excludes,  --strict-parents,-z, --null,--color",
     );
-    let pathless = !help_of(Topic::Of(Verb::State)).contains_str(b"PATH");
+    let pathless = !help_text_of_topic(Topic::Of(Verb::State)).contains_str(b"PATH");
     let by_stat_elsewhere = [
         Verb::Report,
         Verb::Plan,
@@ -40,7 +40,7 @@ fn help_texts_name_the_options(rt: HostRuntime) {
         Verb::Clean,
     ]
     .iter()
-    .any(|verb| help_of(Topic::Of(*verb)).contains_str(b"--by-stat"));
+    .any(|verb| help_text_of_topic(Topic::Of(*verb)).contains_str(b"--by-stat"));
     let files = names_all(Topic::Of(Verb::Files), FILES);
     let clean = names_all(
         Topic::Of(Verb::Clean),
@@ -57,5 +57,5 @@ fn help_texts_name_the_options(rt: HostRuntime) {
 
 #[test]
 fn the_version_is_a_line(rt: HostRuntime) {
-    assert!(rt; version().starts_with(b"tizhagor") && version().ends_with(b"\n"));
+    assert!(rt; version_line().starts_with(b"tizhagor") && version_line().ends_with(b"\n"));
 }

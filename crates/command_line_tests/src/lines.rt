@@ -1,6 +1,9 @@
 //! How answers are written.
 use bstr::ByteSlice;
-use command_line::{Color, Form, LineEnd, Style, Wording, rendered, rendered_paths, styled};
+use command_line::{
+    Color, Form, LineEnd, Style, Wording, plan_text_with_line_ends, restyle_report_text,
+    style_for_output,
+};
 use std::alloc::Global;
 
 /// Rows, parted by `|`: the style (`w` or `l`, `f` or `n`, `c` or `-`), a text of a report, and
@@ -41,7 +44,7 @@ fn style_of(word: &[u8]) -> Style {
 }
 
 fn is_written(alloc: Global, style: Style, text: &[u8], want: &[u8]) -> bool {
-    match rendered(alloc, style, text) {
+    match restyle_report_text(alloc, style, text) {
         Ok(out) => out.as_bytes() == want,
         Err(_) => false,
     }
@@ -54,7 +57,7 @@ fn holds(alloc: Global, row: &[u8]) -> bool {
 }
 
 fn are_paths(alloc: Global, end: LineEnd, want: &[u8]) -> bool {
-    match rendered_paths(alloc, end, b"# a\nb\\0a c\n") {
+    match plan_text_with_line_ends(alloc, end, b"# a\nb\\0a c\n") {
         Ok(out) => out.as_bytes() == want,
         Err(_) => false,
     }
@@ -85,10 +88,10 @@ fn paths_of_a_plan_stand_alone(rt: HostRuntime) {
 
 #[test]
 fn colours_are_shown_where_they_are_taken(rt: HostRuntime) {
-    let shown = styled(form(LineEnd::Feed, Color::Auto), true).is_colored;
-    let hidden = styled(form(LineEnd::Feed, Color::Auto), false).is_colored;
-    let ended = styled(form(LineEnd::Nul, Color::Auto), true).is_colored;
-    let forced = styled(form(LineEnd::Nul, Color::Always), false).is_colored;
-    let barred = styled(form(LineEnd::Feed, Color::Never), true).is_colored;
+    let shown = style_for_output(form(LineEnd::Feed, Color::Auto), true).is_colored;
+    let hidden = style_for_output(form(LineEnd::Feed, Color::Auto), false).is_colored;
+    let ended = style_for_output(form(LineEnd::Nul, Color::Auto), true).is_colored;
+    let forced = style_for_output(form(LineEnd::Nul, Color::Always), false).is_colored;
+    let barred = style_for_output(form(LineEnd::Feed, Color::Never), true).is_colored;
     assert!(rt; shown & !hidden & !ended & forced & !barred);
 }

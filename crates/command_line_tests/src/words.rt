@@ -3,7 +3,7 @@ use bstr::ByteSlice;
 use clean_plan::{Finding, What};
 use command_line::{
     Color, Command, Force, Form, LineEnd, Misuse, Request, RulesGiven, Topic, Verb, Wording,
-    request_of, said,
+    message_of_misuse, parse_request_words,
 };
 use dir_classify::{CollapsedEntriesEmissionMode, EmissionMode, ForDeletionMode};
 use git_clean::Cleaning;
@@ -508,7 +508,7 @@ fn is_so(request: &Request, want: &[u8]) -> bool {
 
 /// Whether the words ask for all that is wanted.
 fn are_wanted(words: &[Bytes], alloc: Global, wants: &[u8]) -> bool {
-    match request_of(alloc, words) {
+    match parse_request_words(alloc, words) {
         Ok(request) => wants
             .split(|byte| *byte == b';')
             .all(|want| is_so(&request, want)),
@@ -526,7 +526,7 @@ fn asks(alloc: Global, row: &[u8]) -> bool {
 
 /// Whether this line is said first of a misuse, and then the usage.
 fn is_said(alloc: Global, misuse: &Misuse, want: &[u8]) -> bool {
-    match said(alloc, misuse) {
+    match message_of_misuse(alloc, misuse) {
         Ok(text) => {
             let (line, usage) = text.as_bytes().split_once_str(b"\n").unwrap_or((b"", b""));
             line == want && usage.starts_with(b"usage: tizhagor ")
@@ -536,7 +536,7 @@ fn is_said(alloc: Global, misuse: &Misuse, want: &[u8]) -> bool {
 }
 
 fn are_wrong(words: &[Bytes], alloc: Global, want: &[u8]) -> bool {
-    match request_of(alloc, words) {
+    match parse_request_words(alloc, words) {
         Ok(_) => false,
         Err(misuse) => is_said(alloc, &misuse, want),
     }

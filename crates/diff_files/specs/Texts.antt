@@ -10,13 +10,13 @@ use Rattle.diff_files.specs.declared.error.Unsupported.{Unsupported}
 use Rattle.diff_files.specs.declared.error.Unsupported.TheVariants as forms
 
 -- a form that is not answered, which an entry has
-abbrev pub refused_at : Unsupported → IndexEntry → Unanswered
-refused_at form e = record { form = form; path = e.path }
+abbrev pub unanswered_form_of_entry : Unsupported → IndexEntry → Unanswered
+unanswered_form_of_entry form e = record { form = form; path = e.path }
 
 -- the error of a read that failed
-abbrev pub of_read : ReadError → DiffError
-of_read reads.Fault = errors.Fault
-of_read reads.OutOfMemory = errors.OutOfMemory
+abbrev pub diff_error_of_read_error : ReadError → DiffError
+diff_error_of_read_error reads.Fault = errors.Fault
+diff_error_of_read_error reads.OutOfMemory = errors.OutOfMemory
 
 -- what is told of a form that is not answered, before the path
 abbrev pub unsupported_text : Unsupported → List ℕ

@@ -1,19 +1,22 @@
 //! How the paths of an index differ from a work tree.
 ghost use Rattle.std.specs.Prelude.{◌≡◌, [], None, Ok, IsErrOf, IfOk, IfErr};
-ghost use Rattle.worktree_fs.specs.Kept.{Asks};
+ghost use Rattle.worktree_fs.specs.Kept.{KeepsTreeAndListCounts};
 ghost use Rattle.diff_files.specs.declared.error.DiffError.TheVariants.{Fault as fault};
 ghost use Rattle.diff_files.specs.Differences as words;
-ghost use Rattle.diff_files.specs.KeptStats.{AsksStats, Fails, KeepsFaultCounts, TreeAndStats, Tells};
+ghost use Rattle.diff_files.specs.KeptStats.{KeepsToldStats, CountsFaultInEither, KeepsFaultCounts, TreeAndStats, Tells};
 ghost use Rattle.diff_files.specs.Lines.{rows_text};
-ghost use Rattle.diff_files.specs.Rows.{rows_from};
+ghost use Rattle.diff_files.specs.Rows.{rows_of_remaining_entries};
 
 use crate::comparison::Comparison;
-use crate::error::{DiffError, Unsupported, refused_at};
-use crate::line::add_rows;
-use crate::parts::parts_of;
-use crate::row::{Row, add_parts};
+use crate::error::{DiffError, Unsupported, unanswered_form_of_entry};
+use crate::line::append_row_lines;
+use crate::parts::change_parts_of_entry;
+use crate::row::{Row, push_rows_of_parts};
 use crate::stats::Stats;
-use crate::taken::{first_sparse, is_at, is_taken, unmerged_path};
+use crate::taken::{
+    first_sparse_directory_entry, has_last_unmerged_path, is_included_or_has_last_path,
+    path_if_unmerged,
+};
 use git_index::Detail;
 use gitbase_core::{Bytes, IndexEntry, OutOfMemory, State};
 use glob_rules::pathspec::Search;
@@ -27,7 +30,7 @@ pub struct Differences {
 }
 
 /// The changes of entries, in their order.
-fn changes_of<'a, W: Worktree, S: Stats>(
+fn rows_of_entries<'a, W: Worktree, S: Stats>(
     alloc: Global,
     worktree: &mut W,
     stats: &mut S,
@@ -38,17 +41,17 @@ fn changes_of<'a, W: Worktree, S: Stats>(
     specs: &Search,
 ) -> Result<Vec<Row<'a>>, DiffError>
     ensures gives { (o : TreeAndStats) → Tells (W.told worktree.old) (S.told stats.old) o
-        → IfOk result (λ rows. rows_from o root.now comparison.now specs.now [] None entries.now
-        details.now ≡ Ok rows.items) }
+        → IfOk result (λ rows. rows_of_remaining_entries o root.now comparison.now specs.now [] None
+        entries.now details.now ≡ Ok rows.items) }
     ensures refused { (o : TreeAndStats) → Tells (W.told worktree.old) (S.told stats.old) o
-        → IfErr result (words.RefusesBy (rows_from o root.now comparison.now specs.now [] None
-        entries.now details.now)) }
+        → IfErr result (words.IsUnsupportedAsDefined (rows_of_remaining_entries o root.now
+        comparison.now specs.now [] None entries.now details.now)) }
     ensures cause { IsErrOf result fault
-        → Fails W.Worktree S.Stats worktree.old worktree.new stats.old stats.new }
-    ensures unfaulted { words.UnlessFault result
+        → CountsFaultInEither W.Worktree S.Stats worktree.old worktree.new stats.old stats.new }
+    ensures unfaulted { words.HoldsUnlessFault result
         (KeepsFaultCounts W.Worktree S.Stats worktree.old worktree.new stats.old stats.new) }
-    ensures worktree { Asks W.Worktree worktree.old worktree.new }
-    ensures stats { AsksStats S.Stats stats.old stats.new }
+    ensures worktree { KeepsTreeAndListCounts W.Worktree worktree.old worktree.new }
+    ensures stats { KeepsToldStats S.Stats stats.old stats.new }
 {
     let mut rows = Vec::new(alloc);
     let mut known = Bytes::new(alloc);
@@ -56,28 +59,32 @@ fn changes_of<'a, W: Worktree, S: Stats>(
     let mut left = details;
     for entry in entries {
         let Some((detail, rest)) = left.split_first() else {
-            let refused = refused_at(alloc, Unsupported::Details, entry)?;
+            let refused = unanswered_form_of_entry(alloc, Unsupported::Details, entry)?;
             return Err(DiffError::Unsupported(refused));
         };
         left = rest;
-        if is_taken(specs, last, entry) {
-            let first = !is_at(last, entry);
-            let parts = parts_of(
+        if is_included_or_has_last_path(specs, last, entry) {
+            let first = !has_last_unmerged_path(last, entry);
+            let parts = change_parts_of_entry(
                 alloc, worktree, stats, root, comparison, &mut known, first, entry, detail,
             )?;
-            add_parts(alloc, &mut rows, entry, parts)?;
-            last = unmerged_path(entry);
+            push_rows_of_parts(alloc, &mut rows, entry, parts)?;
+            last = path_if_unmerged(entry);
         }
     }
     Ok(rows)
 }
 
 /// The lines of changes.
-fn text_of(alloc: Global, comparison: &Comparison, rows: &[Row<'_>]) -> Result<Bytes, OutOfMemory>
+fn text_of_rows(
+    alloc: Global,
+    comparison: &Comparison,
+    rows: &[Row<'_>],
+) -> Result<Bytes, OutOfMemory>
     ensures { IfOk result (λ text. text ≡ rows_text comparison.now rows.now) }
 {
     let mut text = Vec::new(alloc);
-    add_rows(&mut text, comparison, rows)?;
+    append_row_lines(&mut text, comparison, rows)?;
     Ok(Bytes::from_vec(text))
 }
 
@@ -111,24 +118,24 @@ pub fn changed_rows<'a, W: Worktree, S: Stats>(
     specs: &Search,
 ) -> Result<Vec<Row<'a>>, DiffError>
     ensures gives { (o : TreeAndStats) → Tells (W.told worktree.old) (S.told stats.old) o
-        → IfOk result (λ rows. words.changes_in o root.now index.now details.now comparison.now
-        specs.now ≡ Ok rows.items) }
+        → IfOk result (λ rows. words.rows_of_index_changes o root.now index.now details.now
+        comparison.now specs.now ≡ Ok rows.items) }
     ensures refused { (o : TreeAndStats) → Tells (W.told worktree.old) (S.told stats.old) o
-        → IfErr result (words.RefusesBy (words.changes_in o root.now index.now details.now
-        comparison.now specs.now)) }
+        → IfErr result (words.IsUnsupportedAsDefined (words.rows_of_index_changes o root.now
+        index.now details.now comparison.now specs.now)) }
     ensures cause { IsErrOf result fault
-        → Fails W.Worktree S.Stats worktree.old worktree.new stats.old stats.new }
-    ensures unfaulted { words.UnlessFault result
+        → CountsFaultInEither W.Worktree S.Stats worktree.old worktree.new stats.old stats.new }
+    ensures unfaulted { words.HoldsUnlessFault result
         (KeepsFaultCounts W.Worktree S.Stats worktree.old worktree.new stats.old stats.new) }
-    ensures worktree { Asks W.Worktree worktree.old worktree.new }
-    ensures stats { AsksStats S.Stats stats.old stats.new }
+    ensures worktree { KeepsTreeAndListCounts W.Worktree worktree.old worktree.new }
+    ensures stats { KeepsToldStats S.Stats stats.old stats.new }
 {
     let entries = index.entries();
-    if let Some(entry) = first_sparse(entries) {
-        let refused = refused_at(alloc, Unsupported::SparseIndex, entry)?;
+    if let Some(entry) = first_sparse_directory_entry(entries) {
+        let refused = unanswered_form_of_entry(alloc, Unsupported::SparseIndex, entry)?;
         return Err(DiffError::Unsupported(refused));
     }
-    changes_of(
+    rows_of_entries(
         alloc, worktree, stats, root, entries, details, comparison, specs,
     )
 }
@@ -155,6 +162,6 @@ pub fn diff_files<W: Worktree, S: Stats>(
     let rows = changed_rows(
         alloc, worktree, stats, root, index, details, comparison, specs,
     )?;
-    let out = text_of(alloc, comparison, &rows)?;
+    let out = text_of_rows(alloc, comparison, &rows)?;
     Ok(Differences { out })
 }

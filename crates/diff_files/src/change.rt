@@ -1,6 +1,6 @@
 //! How a path of the index changed.
 ghost use Rattle.std.specs.Prelude.{◌≡◌};
-ghost use Rattle.diff_files.specs.Rows.{is_same};
+ghost use Rattle.diff_files.specs.Rows.{is_unchanged};
 
 /// How a path of the index changed in the work tree. Each `mode` is the one that git has for what
 /// stands there, as 0o100644 for a file.
@@ -21,8 +21,8 @@ pub enum PathChange {
 }
 
 /// Whether a path did not change.
-pub fn is_same(change: PathChange) -> bool
-    ensures { result ≡ is_same change }
+pub fn is_unchanged(change: PathChange) -> bool
+    ensures { result ≡ is_unchanged change }
 {
     match change {
         PathChange::Same => true,

@@ -72,21 +72,21 @@ impl From<OutOfMemory> for DiffError {
 }
 
 /// That a form is not answered which an entry has.
-pub fn refused_at(
+pub fn unanswered_form_of_entry(
     alloc: Global,
     form: Unsupported,
     entry: &IndexEntry,
 ) -> Result<Unanswered, OutOfMemory>
-    ensures { IfOk result (λ refused. refused ≡ words.refused_at form entry.now) }
+    ensures { IfOk result (λ refused. refused ≡ words.unanswered_form_of_entry form entry.now) }
 {
     let path = PathText::from_bytes(alloc, entry.path.as_bytes())?;
     Ok(Unanswered { form, path })
 }
 
 impl From<ReadError> for DiffError {
-    ghost use Rattle.diff_files.specs.Texts.{of_read};
+    ghost use Rattle.diff_files.specs.Texts.{diff_error_of_read_error};
 
-    ghost from_gives = { λ refused e. e ≡ of_read refused };
+    ghost from_gives = { λ refused e. e ≡ diff_error_of_read_error refused };
 
     fn from(refused: ReadError) -> DiffError {
         match refused {

@@ -3,7 +3,7 @@ ghost use Rattle.std.specs.Prelude.{◌≡◌, ◌==◌, not};
 ghost use Rattle.diff_files.specs.Fields as fields;
 
 use crate::comparison::Comparison;
-use crate::modes::{executable_bit, is_link, is_regular};
+use crate::modes::{is_regular_file_mode, is_symlink_mode, owner_executable_bit};
 use crate::stats::node_stat::NodeStat;
 use git_index::{Detail, Stat};
 use gitbase_core::IndexEntry;
@@ -23,16 +23,16 @@ fn differs_in_ctime(comparison: &Comparison, seen: &Stat, at: &NodeStat) -> bool
     comparison.trust_ctime & comparison.check_stat & (seen.ctime.seconds != at.ctime)
 }
 
-fn differs_in_file(comparison: &Comparison, seen: &Stat, at: &NodeStat) -> bool
-    ensures { result ≡ fields.differs_in_file comparison.now seen.now at.now }
+fn differs_in_owner_or_inode(comparison: &Comparison, seen: &Stat, at: &NodeStat) -> bool
+    ensures { result ≡ fields.differs_in_owner_or_inode comparison.now seen.now at.now }
 {
     let owner = (seen.uid != at.uid) | (seen.gid != at.gid);
     comparison.check_stat & (owner | (seen.ino as u64 != at.ino % LIMIT))
 }
 
 /// Whether what the index saw of a file is other than what is told of it.
-fn differs(comparison: &Comparison, seen: &Stat, at: &NodeStat) -> bool
-    ensures { result ≡ fields.differs comparison.now seen.now at.now }
+fn differs_in_stat_fields(comparison: &Comparison, seen: &Stat, at: &NodeStat) -> bool
+    ensures { result ≡ fields.differs_in_stat_fields comparison.now seen.now at.now }
 {
     if seen.mtime.seconds != at.mtime {
         return true;
@@ -40,29 +40,30 @@ fn differs(comparison: &Comparison, seen: &Stat, at: &NodeStat) -> bool
     if seen.size as u64 != at.size % LIMIT {
         return true;
     }
-    differs_in_ctime(comparison, seen, at) | differs_in_file(comparison, seen, at)
+    differs_in_ctime(comparison, seen, at) | differs_in_owner_or_inode(comparison, seen, at)
 }
 
-fn differs_from_file(comparison: &Comparison, old: u32, mode: u32) -> bool
-    ensures { result ≡ fields.differs_from_file comparison.now old mode }
+fn differs_from_regular_file_mode(comparison: &Comparison, old: u32, mode: u32) -> bool
+    ensures { result ≡ fields.differs_from_regular_file_mode comparison.now old mode }
 {
-    !is_regular(mode) | (comparison.file_mode & (executable_bit(old) != executable_bit(mode)))
+    !is_regular_file_mode(mode)
+        | (comparison.file_mode & (owner_executable_bit(old) != owner_executable_bit(mode)))
 }
 
-fn differs_from_link(comparison: &Comparison, mode: u32) -> bool
-    ensures { result ≡ fields.differs_from_link comparison.now mode }
+fn differs_from_symlink_mode(comparison: &Comparison, mode: u32) -> bool
+    ensures { result ≡ fields.differs_from_symlink_mode comparison.now mode }
 {
-    !is_link(mode) & (comparison.symlinks | !is_regular(mode))
+    !is_symlink_mode(mode) & (comparison.symlinks | !is_regular_file_mode(mode))
 }
 
 /// Whether a node is not what the mode of an entry says.
-pub fn differs_in_mode(comparison: &Comparison, old: u32, mode: u32) -> bool
-    ensures { result ≡ fields.differs_in_mode comparison.now old mode }
+pub fn differs_from_entry_mode(comparison: &Comparison, old: u32, mode: u32) -> bool
+    ensures { result ≡ fields.differs_from_entry_mode comparison.now old mode }
 {
-    if is_link(old) {
-        return differs_from_link(comparison, mode);
+    if is_symlink_mode(old) {
+        return differs_from_symlink_mode(comparison, mode);
     }
-    differs_from_file(comparison, old, mode)
+    differs_from_regular_file_mode(comparison, old, mode)
 }
 
 /// Whether git wrote down that a file differs, by a size of 0.
@@ -77,19 +78,20 @@ fn is_smudged(entry: &IndexEntry, detail: &Detail) -> bool
 
 /// Whether what stands at the path of a file or a link differs from its entry, without a look at
 /// its bytes.
-#[tactic(auto, unfolding(crate::specs::Fields::is_changed))]
-pub fn is_changed(
+#[tactic(auto, unfolding(crate::specs::Fields::is_changed_by_mode_or_stat))]
+pub fn is_changed_by_mode_or_stat(
     comparison: &Comparison,
     entry: &IndexEntry,
     detail: &Detail,
     at: &NodeStat,
 ) -> bool
-    ensures { result ≡ fields.is_changed comparison.now entry.now detail.now at.now }
+    ensures { result ≡ fields.is_changed_by_mode_or_stat comparison.now entry.now detail.now
+        at.now }
 {
-    if differs_in_mode(comparison, entry.mode.bits(), at.mode) {
+    if differs_from_entry_mode(comparison, entry.mode.bits(), at.mode) {
         return true;
     }
-    differs(comparison, &detail.stat, at) | is_smudged(entry, detail)
+    differs_in_stat_fields(comparison, &detail.stat, at) | is_smudged(entry, detail)
 }
 
 /// Whether a file may have changed unseen: the index was not written later than it.

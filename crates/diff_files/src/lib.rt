@@ -23,7 +23,9 @@ pub use answer::{Differences, changed_rows, diff_files};
 pub use change::PathChange;
 pub use comparison::{Comparison, Form, Submodules};
 pub use error::{DiffError, Unanswered, Unsupported};
-pub use path_state::{is_skipped_in, presence_of, standing_of};
+pub use path_state::{
+    change_for_ls_files_deleted, change_for_ls_files_modified, is_effectively_skipped_below_root,
+};
 pub use row::Row;
 pub use stats::Stats;
 pub use stats::disk::DiskStats;

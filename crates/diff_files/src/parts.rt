@@ -1,14 +1,14 @@
 //! The changes of one entry.
 ghost use Rattle.std.specs.Prelude.{◌≡◌, IfOk, IsErrOf};
-ghost use Rattle.worktree_fs.specs.Answers.{UnlessFault};
-ghost use Rattle.worktree_fs.specs.Kept.{Asks};
-ghost use Rattle.diff_files.specs.KeptStats.{AsksStats, Fails, KeepsFaultCounts, TreeAndStats, Tells};
+ghost use Rattle.worktree_fs.specs.Answers.{HoldsUnlessFault};
+ghost use Rattle.worktree_fs.specs.Kept.{KeepsTreeAndListCounts};
+ghost use Rattle.diff_files.specs.KeptStats.{KeepsToldStats, CountsFaultInEither, KeepsFaultCounts, TreeAndStats, Tells};
 ghost use Rattle.diff_files.specs.Rows as rows;
-ghost use Rattle.diff_files.specs.There.{IsKnown};
+ghost use Rattle.diff_files.specs.There.{LeadsKnownPathThroughDirectories};
 
 use crate::change::PathChange;
 use crate::comparison::Comparison;
-use crate::entry::{compared, unmerged};
+use crate::entry::{judge_merged_or_ours_entry, judge_unmerged_entry};
 use crate::error::Unsupported;
 use crate::racy::resolve_judged_change;
 use crate::stats::Stats;
@@ -25,11 +25,11 @@ pub struct Parts {
 }
 
 /// Both, or the first form that is not answered.
-fn both(
+fn parts_unless_unsupported(
     unmerged: Result<PathChange, Unsupported>,
     change: Result<PathChange, Unsupported>,
 ) -> Result<Parts, Unsupported>
-    ensures { result ≡ rows.both unmerged change }
+    ensures { result ≡ rows.parts_unless_unsupported unmerged change }
 {
     match (unmerged, change) {
         (Err(form), _) => Err(form),
@@ -40,7 +40,7 @@ fn both(
 
 /// The changes of one entry, or why they are not answered; `first` says whether it is the first of
 /// its path.
-pub fn parts_of<W: Worktree, S: Stats>(
+pub fn change_parts_of_entry<W: Worktree, S: Stats>(
     alloc: Global,
     worktree: &mut W,
     stats: &mut S,
@@ -51,21 +51,21 @@ pub fn parts_of<W: Worktree, S: Stats>(
     entry: &IndexEntry,
     detail: &Detail,
 ) -> Result<Result<Parts, Unsupported>, ReadError>
-    requires known { IsKnown (S.told stats.old) root.now known.old }
+    requires known { LeadsKnownPathThroughDirectories (S.told stats.old) root.now known.old }
     ensures parts { (o : TreeAndStats) → Tells (W.told worktree.old) (S.told stats.old) o
         → IfOk result (λ parts. parts
-        ≡ rows.parts_of o root.now comparison.now first entry.now detail.now) }
-    ensures known { IsKnown (S.told stats.old) root.now known.new }
-    ensures worktree { Asks W.Worktree worktree.old worktree.new }
-    ensures stats { AsksStats S.Stats stats.old stats.new }
+        ≡ rows.change_parts_of_entry o root.now comparison.now first entry.now detail.now) }
+    ensures known { LeadsKnownPathThroughDirectories (S.told stats.old) root.now known.new }
+    ensures worktree { KeepsTreeAndListCounts W.Worktree worktree.old worktree.new }
+    ensures stats { KeepsToldStats S.Stats stats.old stats.new }
     ensures cause { IsErrOf result ReadError.Fault
-        → Fails W.Worktree S.Stats worktree.old worktree.new stats.old stats.new }
-    ensures unfaulted { UnlessFault result
+        → CountsFaultInEither W.Worktree S.Stats worktree.old worktree.new stats.old stats.new }
+    ensures unfaulted { HoldsUnlessFault result
         (KeepsFaultCounts W.Worktree S.Stats worktree.old worktree.new stats.old stats.new) }
 {
-    let told = unmerged(alloc, stats, root, comparison, known, first, entry)?;
-    let judged = compared(alloc, stats, root, comparison, known, entry, detail)?;
+    let told = judge_unmerged_entry(alloc, stats, root, comparison, known, first, entry)?;
+    let judged = judge_merged_or_ours_entry(alloc, stats, root, comparison, known, entry, detail)?;
     let told = resolve_judged_change(alloc, worktree, root, entry, told)?;
     let change = resolve_judged_change(alloc, worktree, root, entry, judged)?;
-    Ok(both(told, change))
+    Ok(parts_unless_unsupported(told, change))
 }

@@ -2,8 +2,8 @@
 ghost use Rattle.std.specs.Prelude.{◌≡◌, ◌++◌, OnOk};
 ghost use Rattle.diff_files.specs.Rows as rows;
 
-use crate::change::{PathChange, is_same};
-use crate::error::{DiffError, Unsupported, refused_at};
+use crate::change::{PathChange, is_unchanged};
+use crate::error::{DiffError, Unsupported, unanswered_form_of_entry};
 use crate::parts::Parts;
 use gitbase_core::{IndexEntry, OutOfMemory};
 use std::alloc::Global;
@@ -21,7 +21,7 @@ pub struct Row<'a> {
 impl<'a> Model for Row<'a> {
     ghost use Rattle.diff_files.specs.Rows as specs;
 
-    ghost Value = { specs.Row };
+    ghost Value = { specs.ChangeRow };
 
     ghost view = { λ row. record { entry = row.entry.now; change = row.change } };
 }
@@ -43,14 +43,15 @@ impl<'a> Row<'a> {
 }
 
 /// Adds the row of a change; what did not change has none.
-fn add_row<'a>(
+fn push_row_if_changed<'a>(
     list: &mut Vec<Row<'a>>,
     entry: &'a IndexEntry,
     change: PathChange,
 ) -> Result<(), OutOfMemory>
-    ensures { OnOk result (list.new.items ≡ list.old.items ++ rows.row_if entry.now change) }
+    ensures { OnOk result (list.new.items ≡ list.old.items ++ rows.row_unless_unchanged entry.now
+        change) }
 {
-    if is_same(change) {
+    if is_unchanged(change) {
         return Ok(());
     }
     list.push(Row { entry, change })?;
@@ -58,20 +59,20 @@ fn add_row<'a>(
 }
 
 /// Adds the rows of an entry, unless a form is not answered.
-pub fn add_parts<'a>(
+pub fn push_rows_of_parts<'a>(
     alloc: Global,
     list: &mut Vec<Row<'a>>,
     entry: &'a IndexEntry,
     parts: Result<Parts, Unsupported>,
 ) -> Result<(), DiffError>
-    ensures { rows.AddsParts entry.now parts list.old.items list.new.items result }
+    ensures { rows.AppendsRowsOfParts entry.now parts list.old.items list.new.items result }
 {
     match parts {
         Ok(parts) => {
-            add_row(list, entry, parts.unmerged)?;
-            add_row(list, entry, parts.change)?;
+            push_row_if_changed(list, entry, parts.unmerged)?;
+            push_row_if_changed(list, entry, parts.change)?;
             Ok(())
         }
-        Err(form) => Err(DiffError::Unsupported(refused_at(alloc, form, entry)?)),
+        Err(form) => Err(DiffError::Unsupported(unanswered_form_of_entry(alloc, form, entry)?)),
     }
 }

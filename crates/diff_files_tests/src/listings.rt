@@ -6,7 +6,7 @@ use crate::tree::{index_of, meant, number, tree_of};
 use crate::words::comparison_of;
 use bstr::ByteSlice;
 use diff_files::Comparison;
-use ls_files::{ChangeQuery, ChangedError, Listed, list_changed};
+use ls_files::{ChangeQuery, ChangedError, Listed, list_deleted_and_modified};
 use std::alloc::Global;
 use test_cases::split_at_byte;
 
@@ -45,7 +45,7 @@ fn answered_in(
         named: &named,
         specs: &specs,
     };
-    Some(list_changed(alloc, &mut tree, &mut stats, &query, &index, &details, b""))
+    Some(list_deleted_and_modified(alloc, &mut tree, &mut stats, &query, &index, &details, b""))
 }
 
 /// Whether a text is what a row has.

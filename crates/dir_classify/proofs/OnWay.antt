@@ -2,25 +2,25 @@
 use Rattle.std.proofs.Common.{◌≡◌, ◌∙◌, ap, sym, ℕ, List, Bool, true, false, Option, Some, None, Ok, Err, refl, inl, inr, arith}
 use Rattle.std.specs.Prelude.{◌⊎◌, ◌&&◌}
 use Rattle.gitbase_core.specs.declared.find.Find.{Ghosts as FindOf}
-use Rattle.worktree_fs.specs.Causes.{Increased, NotIncreased}
-use Rattle.worktree_fs.specs.Kept.{Asks}
-use Rattle.worktree_fs.specs.Paths.{full_path}
+use Rattle.worktree_fs.specs.Causes.{CountIncreasedOrSaturated, CountNotIncreased}
+use Rattle.worktree_fs.specs.Kept.{KeepsTreeAndListCounts}
+use Rattle.worktree_fs.specs.Paths.{root_joined_with_relative}
 use Rattle.worktree_fs.specs.Tree.{Names}
 use Rattle.worktree_fs.specs.declared.worktree.Worktree.{Ghosts as WorktreeOf}
-use Rattle.worktree_stack.specs.Reading.{Sources}
-use Rattle.worktree_stack.specs.Stacked.{Stacked}
+use Rattle.worktree_stack.specs.Reading.{TreeAndObjects}
+use Rattle.worktree_stack.specs.Stacked.{StackModel}
 use Rattle.dir_classify.specs.declared.classify.Outcome.{Outcome}
 use Rattle.dir_classify.specs.declared.entry.Kind.{Kind}
 use Rattle.dir_classify.specs.declared.error.Error.{Error}
-use Rattle.dir_classify.specs.Class.{class, asks}
-use Rattle.dir_classify.specs.Classes.{Judges}
-use Rattle.dir_classify.specs.Evidence.{Evidence}
-use Rattle.dir_classify.specs.Excludes.{made_with, TellsIf}
-use Rattle.dir_classify.specs.Faults.{AreCounted, IsClassedWith, kind_read, one_if, read_as}
-use Rattle.dir_classify.specs.Kept.{Unasked}
-use Rattle.dir_classify.specs.Layers.{Setting, evidence, kind_at, on_disk}
-use Rattle.dir_classify.specs.Reads.{most_sought}
-use Rattle.dir_classify.specs.Question.{Question, about_path, about_way}
+use Rattle.dir_classify.specs.Class.{class, asks_ignore_rules}
+use Rattle.dir_classify.specs.Classes.{AnswersClassQuestion}
+use Rattle.dir_classify.specs.Evidence.{PathEvidence}
+use Rattle.dir_classify.specs.Excludes.{setup_of_optional_stack, TellsTreeAndObjects}
+use Rattle.dir_classify.specs.Faults.{CountsFaultsAtLeast, IsOutcomeWithRulesReadOrUnasked, kind_unless_failed, count_of_flag, evidence_as_read}
+use Rattle.dir_classify.specs.Kept.{LeavesRulesUnasked}
+use Rattle.dir_classify.specs.Layers.{WalkSetting, evidence_from_setting_and_sources, kind_of_node_at, kind_on_disk_if_asked}
+use Rattle.dir_classify.specs.Reads.{most_reads_to_classify_path}
+use Rattle.dir_classify.specs.Question.{ClassQuestion, question_about_path, question_about_path_on_way}
 use Rattle.dir_classify.proofs.Classed.{asked-kind, classed-kind}
 use Rattle.dir_classify.proofs.Keeping.{asks-then, at-most-later, increased-later, quiet-first, quiet-second, tells-then, unasked-later}
 use Rattle.dir_classify.proofs.Refusals.{OnAccess-weaker, OnFault-weaker}
@@ -28,83 +28,83 @@ use Rattle.dir_classify.proofs.Stopped.{stopped-later}
 use Rattle.dir_classify.proofs.Upgrades.{rose-or}
 
 -- nothing reads as nothing
-none-read : (failed : Bool) → kind_read failed None ≡ None
+none-read : (failed : Bool) → kind_unless_failed failed None ≡ None
 none-read true = refl
 none-read false = refl
 
-module _ {W F : Type 0} (w : WorktreeOf W) (f : FindOf F) (w0 w1 w2 : W) (o0 o1 : F) (old new : Option Stacked) (given : Setting) (path full : List ℕ) (kind : Option Kind)
-    (full_is : full ≡ full_path given.root path) (first : Asks w w0 w1) (unread : w.reads w1 ≡ w.reads w0)
-    (exact : (t : Names) → w.told w0 ≡ Some t → NotIncreased (w.faults w0) (w.faults w1) → kind ≡ kind_at t full false)
-    (swallowed : (t : Names) → w.told w0 ≡ Some t → (kind ≡ kind_at t full false) ⊎ (kind ≡ None)) where
-  abbrev first_known : Question
-  first_known = about_path given.options path kind false
+module _ {W F : Type 0} (w : WorktreeOf W) (f : FindOf F) (w0 w1 w2 : W) (o0 o1 : F) (old new : Option StackModel) (given : WalkSetting) (path full : List ℕ) (kind : Option Kind)
+    (full_is : full ≡ root_joined_with_relative given.root path) (first : KeepsTreeAndListCounts w w0 w1) (unread : w.reads w1 ≡ w.reads w0)
+    (exact : (t : Names) → w.told w0 ≡ Some t → CountNotIncreased (w.faults w0) (w.faults w1) → kind ≡ kind_of_node_at t full false)
+    (swallowed : (t : Names) → w.told w0 ≡ Some t → (kind ≡ kind_of_node_at t full false) ⊎ (kind ≡ None)) where
+  abbrev first_known : ClassQuestion
+  first_known = question_about_path given.options path kind false
 
-  abbrev any_so : Question
-  any_so = about_way given.options path
+  abbrev any_so : ClassQuestion
+  any_so = question_about_path_on_way given.options path
 
   abbrev seen : Names → Option Kind
-  seen t = on_disk given t path true
+  seen t = kind_on_disk_if_asked given t path true
 
-  tells-now : (s : Sources) → TellsIf (w.told w0) (f.holds o0) (made_with old) s → TellsIf (w.told w1) (f.holds o0) (made_with old) s
-  tells-now s tells = tells-then (w.told w0) (w.told w1) (f.holds o0) (made_with old) s first.tree tells
+  tells-now : (s : TreeAndObjects) → TellsTreeAndObjects (w.told w0) (f.holds o0) (setup_of_optional_stack old) s → TellsTreeAndObjects (w.told w1) (f.holds o0) (setup_of_optional_stack old) s
+  tells-now s tells = tells-then (w.told w0) (w.told w1) (f.holds o0) (setup_of_optional_stack old) s first.tree tells
 
-  disk_is : (t : Names) → kind_at t full false ≡ seen t
-  disk_is t = ap (λ (p : List ℕ). kind_at t p false) full_is
+  disk_is : (t : Names) → kind_of_node_at t full false ≡ seen t
+  disk_is t = ap (λ (p : List ℕ). kind_of_node_at t p false) full_is
 
-  exactly : (s : Sources) → w.told w0 ≡ Some s.tree → NotIncreased (w.faults w0) (w.faults w1) → kind ≡ seen s.tree
+  exactly : (s : TreeAndObjects) → w.told w0 ≡ Some s.tree → CountNotIncreased (w.faults w0) (w.faults w1) → kind ≡ seen s.tree
   exactly s told quiet = exact s.tree told quiet ∙ disk_is s.tree
 
   -- what it asks and is, by the kind that was asked first
-  asks-by : (s : Sources) (d : Option Kind) → kind ≡ d → first_known.asks None (evidence given (made_with old) s) ≡ any_so.asks d (evidence given (made_with old) s)
-  asks-by s d is = ap (λ (k : Option Kind). asks given.options (evidence given (made_with old) s) path k None) is
+  asks-by : (s : TreeAndObjects) (d : Option Kind) → kind ≡ d → first_known.asks None (evidence_from_setting_and_sources given (setup_of_optional_stack old) s) ≡ any_so.asks d (evidence_from_setting_and_sources given (setup_of_optional_stack old) s)
+  asks-by s d is = ap (λ (k : Option Kind). asks_ignore_rules given.options (evidence_from_setting_and_sources given (setup_of_optional_stack old) s) path k None) is
 
-  seeks-by : (s : Sources) (d : Option Kind) → kind ≡ d → first_known.seeks None (evidence given (made_with old) s) ≡ any_so.seeks d (evidence given (made_with old) s)
-  seeks-by s d is = ap (λ (k : Option Kind). any_so.seeks k (evidence given (made_with old) s)) is
+  seeks-by : (s : TreeAndObjects) (d : Option Kind) → kind ≡ d → first_known.seeks None (evidence_from_setting_and_sources given (setup_of_optional_stack old) s) ≡ any_so.seeks d (evidence_from_setting_and_sources given (setup_of_optional_stack old) s)
+  seeks-by s d is = ap (λ (k : Option Kind). any_so.seeks k (evidence_from_setting_and_sources given (setup_of_optional_stack old) s)) is
 
-  class-by : (ev : Evidence) (d : Option Kind) → kind ≡ d → first_known.judge None ev ≡ any_so.judge d ev
+  class-by : (ev : PathEvidence) (d : Option Kind) → kind ≡ d → first_known.judge None ev ≡ any_so.judge d ev
   class-by ev d is = ap (λ (k : Option Kind). class given.options ev path k None) is
 
   -- by the kind that was read
-  read-by : (s : Sources) → w.told w0 ≡ Some s.tree → (failed : Bool) × AreCounted (w.faults w0) (w.faults w1) (one_if failed) × (kind ≡ kind_read failed (seen s.tree))
+  read-by : (s : TreeAndObjects) → w.told w0 ≡ Some s.tree → (failed : Bool) × CountsFaultsAtLeast (w.faults w0) (w.faults w1) (count_of_flag failed) × (kind ≡ kind_unless_failed failed (seen s.tree))
   read-by s told = go (swallowed s.tree told) (rose-or (w.faults w0) (w.faults w1))
     where
       Read : Type 0
-      Read = (failed : Bool) × AreCounted (w.faults w0) (w.faults w1) (one_if failed) × (kind ≡ kind_read failed (seen s.tree))
+      Read = (failed : Bool) × CountsFaultsAtLeast (w.faults w0) (w.faults w1) (count_of_flag failed) × (kind ≡ kind_unless_failed failed (seen s.tree))
 
-      exact_kind : kind ≡ kind_at s.tree full false → Read
+      exact_kind : kind ≡ kind_of_node_at s.tree full false → Read
       exact_kind is = (false, (let more = first.faults in omega (arith, more)), is ∙ disk_is s.tree)
 
-      go : (kind ≡ kind_at s.tree full false) ⊎ (kind ≡ None) → NotIncreased (w.faults w0) (w.faults w1) ⊎ Increased (w.faults w0) (w.faults w1) → Read
+      go : (kind ≡ kind_of_node_at s.tree full false) ⊎ (kind ≡ None) → CountNotIncreased (w.faults w0) (w.faults w1) ⊎ CountIncreasedOrSaturated (w.faults w0) (w.faults w1) → Read
       go (inl is) said = exact_kind is
       go (inr is) (inl quiet) = exact_kind (exact s.tree told quiet)
       go (inr is) (inr rose) = (true, rose, is)
 
-  classed-read : (s : Sources) (c : Outcome) → w.told w0 ≡ Some s.tree
-      → IsClassedWith (w.faults w1) (w.faults w2) first_known (evidence given (made_with old) s) None (Unasked (most_sought given.options) (w.reads w1) (w.reads w2) o0 o1 old new) c
-      → IsClassedWith (w.faults w0) (w.faults w2) any_so (evidence given (made_with old) s) (seen s.tree) (Unasked (most_sought given.options) (w.reads w0) (w.reads w2) o0 o1 old new) c
+  classed-read : (s : TreeAndObjects) (c : Outcome) → w.told w0 ≡ Some s.tree
+      → IsOutcomeWithRulesReadOrUnasked (w.faults w1) (w.faults w2) first_known (evidence_from_setting_and_sources given (setup_of_optional_stack old) s) None (LeavesRulesUnasked (most_reads_to_classify_path given.options) (w.reads w1) (w.reads w2) o0 o1 old new) c
+      → IsOutcomeWithRulesReadOrUnasked (w.faults w0) (w.faults w2) any_so (evidence_from_setting_and_sources given (setup_of_optional_stack old) s) (seen s.tree) (LeavesRulesUnasked (most_reads_to_classify_path given.options) (w.reads w0) (w.reads w2) o0 o1 old new) c
   classed-read s c told classed =
-      let ev = evidence given (made_with old) s in
+      let ev = evidence_from_setting_and_sources given (setup_of_optional_stack old) s in
       let by = read-by s told in
       classed-kind (w.faults w0) (w.faults w1) (w.faults w2) first_known any_so ev None (seen s.tree) by.0 c
-      (unasked-later (most_sought given.options) (w.reads w0) (w.reads w1) (w.reads w2) o0 o1 old new unread) by.1 refl
-      (λ failed. ap (λ (d : Option Kind). first_known.judge d (read_as failed ev)) (none-read failed.kind) ∙ class-by (read_as failed ev) (kind_read by.0 (seen s.tree)) by.2)
-      (λ b. ap (λ (d : Option Kind). first_known.asks d ev) (none-read b) ∙ asks-by s (kind_read by.0 (seen s.tree)) by.2) classed
+      (unasked-later (most_reads_to_classify_path given.options) (w.reads w0) (w.reads w1) (w.reads w2) o0 o1 old new unread) by.1 refl
+      (λ failed. ap (λ (d : Option Kind). first_known.judge d (evidence_as_read failed ev)) (none-read failed.kind) ∙ class-by (evidence_as_read failed ev) (kind_unless_failed by.0 (seen s.tree)) by.2)
+      (λ b. ap (λ (d : Option Kind). first_known.asks d ev) (none-read b) ∙ asks-by s (kind_unless_failed by.0 (seen s.tree)) by.2) classed
 
-  pub on-way : (c : Outcome) → Judges w f w1 w2 o0 o1 old new given (about_path given.options path kind false) (Ok c)
-      → Judges w f w0 w2 o0 o1 old new given (about_way given.options path) (Ok c)
+  pub on-way : (c : Outcome) → AnswersClassQuestion w f w1 w2 o0 o1 old new given (question_about_path given.options path kind false) (Ok c)
+      → AnswersClassQuestion w f w0 w2 o0 o1 old new given (question_about_path_on_way given.options path) (Ok c)
   on-way c later =
-      let before = λ (quiet : NotIncreased (w.faults w0) (w.faults w2)). quiet-first (w.faults w0) (w.faults w1) (w.faults w2) first.faults later.keeps.faults quiet in
-      let after = λ (quiet : NotIncreased (w.faults w0) (w.faults w2)). quiet-second (w.faults w0) (w.faults w1) (w.faults w2) first.faults later.keeps.faults quiet in
+      let before = λ (quiet : CountNotIncreased (w.faults w0) (w.faults w2)). quiet-first (w.faults w0) (w.faults w1) (w.faults w2) first.faults later.keeps.faults quiet in
+      let after = λ (quiet : CountNotIncreased (w.faults w0) (w.faults w2)). quiet-second (w.faults w0) (w.faults w1) (w.faults w2) first.faults later.keeps.faults quiet in
       record {
         class = λ s tells step quiet.
-            later.class s (tells-now s tells) step (after quiet) ∙ class-by (evidence given (made_with old) s) (seen s.tree) (exactly s tells.tree_is (before quiet));
+            later.class s (tells-now s tells) step (after quiet) ∙ class-by (evidence_from_setting_and_sources given (setup_of_optional_stack old) s) (seen s.tree) (exactly s tells.tree_is (before quiet));
         read = λ s tells step quiet.
-            ap (λ b. b && (evidence given (made_with old) s).is_unread path) (sym (asks-by s (seen s.tree) (exactly s tells.tree_is (before quiet))))
+            ap (λ b. b && (evidence_from_setting_and_sources given (setup_of_optional_stack old) s).is_unread path) (sym (asks-by s (seen s.tree) (exactly s tells.tree_is (before quiet))))
             ∙ later.read s (tells-now s tells) step (after quiet);
         swallowed = λ s tells step. classed-read s c tells.tree_is (later.swallowed s (tells-now s tells) step);
         unruled = λ s told quiet no.
             let is = exactly s told (before quiet) in
-            later.unruled s (first.tree ∙ told) (after quiet) (asks-by s (seen s.tree) is ∙ no) ∙ class-by (evidence given (made_with old) s) (seen s.tree) is;
+            later.unruled s (first.tree ∙ told) (after quiet) (asks-by s (seen s.tree) is ∙ no) ∙ class-by (evidence_from_setting_and_sources given (setup_of_optional_stack old) s) (seen s.tree) is;
         about = tt;
         refused = λ s tells. tt;
         asked = λ s told. tt;
@@ -114,16 +114,16 @@ module _ {W F : Type 0} (w : WorktreeOf W) (f : FindOf F) (w0 w1 w2 : W) (o0 o1 
         store = later.store;
         unmapped = later.unmapped;
         rules = record { made = later.rules.made; in_step = λ s tells step. later.rules.in_step s (tells-now s tells) step };
-        reads = at-most-later (most_sought given.options) path (w.reads w0) (w.reads w1) (w.reads w2) o0 o1 old new (Ok c) unread later.reads;
+        reads = at-most-later (most_reads_to_classify_path given.options) path (w.reads w0) (w.reads w1) (w.reads w2) o0 o1 old new (Ok c) unread later.reads;
         unsought = λ s tells step quiet no.
             at-most-later 0 path (w.reads w0) (w.reads w1) (w.reads w2) o0 o1 old new (Ok c) unread
             (later.unsought s (tells-now s tells) step (after quiet) (seeks-by s (seen s.tree) (exactly s tells.tree_is (before quiet)) ∙ no));
         sought = λ no. at-most-later 0 path (w.reads w0) (w.reads w1) (w.reads w2) o0 o1 old new (Ok c) unread (later.sought no);
         early = tt;
-        spared = λ s never. unasked-later (most_sought given.options) (w.reads w0) (w.reads w1) (w.reads w2) o0 o1 old new unread (later.spared s (λ k. never kind));
+        spared = λ s never. unasked-later (most_reads_to_classify_path given.options) (w.reads w0) (w.reads w1) (w.reads w2) o0 o1 old new unread (later.spared s (λ k. never kind));
         memory = λ s never. tt;
         unasked = λ s told quiet no.
-            unasked-later (most_sought given.options) (w.reads w0) (w.reads w1) (w.reads w2) o0 o1 old new unread
+            unasked-later (most_reads_to_classify_path given.options) (w.reads w0) (w.reads w1) (w.reads w2) o0 o1 old new unread
             (later.unasked s (first.tree ∙ told) (after quiet) (asks-by s (seen s.tree) (exactly s told (before quiet)) ∙ no));
         unread = λ s told quiet no none_sought.
             let is = exactly s told (before quiet) in
@@ -132,11 +132,11 @@ module _ {W F : Type 0} (w : WorktreeOf W) (f : FindOf F) (w0 w1 w2 : W) (o0 o1 
         certain = λ s no. absurd (cc no);
       }
 
-  pub on-way-refused : (e : Error) → Judges w f w1 w2 o0 o1 old new given (about_path given.options path kind false) (Err e)
-      → Judges w f w0 w2 o0 o1 old new given (about_way given.options path) (Err e)
+  pub on-way-refused : (e : Error) → AnswersClassQuestion w f w1 w2 o0 o1 old new given (question_about_path given.options path kind false) (Err e)
+      → AnswersClassQuestion w f w0 w2 o0 o1 old new given (question_about_path_on_way given.options path) (Err e)
   on-way-refused e later =
-      let before = λ (quiet : NotIncreased (w.faults w0) (w.faults w2)). quiet-first (w.faults w0) (w.faults w1) (w.faults w2) first.faults later.keeps.faults quiet in
-      let after = λ (quiet : NotIncreased (w.faults w0) (w.faults w2)). quiet-second (w.faults w0) (w.faults w1) (w.faults w2) first.faults later.keeps.faults quiet in
+      let before = λ (quiet : CountNotIncreased (w.faults w0) (w.faults w2)). quiet-first (w.faults w0) (w.faults w1) (w.faults w2) first.faults later.keeps.faults quiet in
+      let after = λ (quiet : CountNotIncreased (w.faults w0) (w.faults w2)). quiet-second (w.faults w0) (w.faults w1) (w.faults w2) first.faults later.keeps.faults quiet in
       record {
         class = λ s tells step quiet. tt;
         read = λ s tells step quiet. tt;
@@ -145,28 +145,28 @@ module _ {W F : Type 0} (w : WorktreeOf W) (f : FindOf F) (w0 w1 w2 : W) (o0 o1 
         about = later.about;
         refused = λ s tells. later.refused s (tells-now s tells);
         asked = λ s told.
-            let ev = evidence given (made_with old) s in
+            let ev = evidence_from_setting_and_sources given (setup_of_optional_stack old) s in
             let by = read-by s told in
             asked-kind (w.faults w0) (w.faults w1) (w.faults w2) (λ k. first_known.asks k ev) (λ k. any_so.asks k ev) None (seen s.tree) by.0 e by.1 later.keeps.faults
-            (λ b. ap (λ (d : Option Kind). first_known.asks d ev) (none-read b) ∙ asks-by s (kind_read by.0 (seen s.tree)) by.2) (later.asked s (first.tree ∙ told));
+            (λ b. ap (λ (d : Option Kind). first_known.asks d ev) (none-read b) ∙ asks-by s (kind_unless_failed by.0 (seen s.tree)) by.2) (later.asked s (first.tree ∙ told));
         stopped = stopped-later (w.told w0) (w.told w1) (f.holds o0) (f.holds o0) (w.faults w0) (w.faults w1) (w.faults w2) (f.faults o0) (f.faults o0) (f.faults o1) path old new e first.tree refl first.faults (omega arith) later.stopped;
         cause =
-            OnFault-weaker (Increased (w.faults w1) (w.faults w2)) (Increased (f.faults o0) (f.faults o1)) (Increased (w.faults w0) (w.faults w2)) (Increased (f.faults o0) (f.faults o1)) e
+            OnFault-weaker (CountIncreasedOrSaturated (w.faults w1) (w.faults w2)) (CountIncreasedOrSaturated (f.faults o0) (f.faults o1)) (CountIncreasedOrSaturated (w.faults w0) (w.faults w2)) (CountIncreasedOrSaturated (f.faults o0) (f.faults o1)) e
             (increased-later (w.faults w0) (w.faults w1) (w.faults w2) first.faults) (λ x. x) later.cause;
         keeps = asks-then w w0 w1 w2 first later.keeps;
         store = later.store;
         unmapped = later.unmapped;
         rules = record { made = later.rules.made; in_step = λ s tells step. later.rules.in_step s (tells-now s tells) step };
-        reads = at-most-later (most_sought given.options) path (w.reads w0) (w.reads w1) (w.reads w2) o0 o1 old new (Err e) unread later.reads;
+        reads = at-most-later (most_reads_to_classify_path given.options) path (w.reads w0) (w.reads w1) (w.reads w2) o0 o1 old new (Err e) unread later.reads;
         unsought = λ s tells step quiet no.
             at-most-later 0 path (w.reads w0) (w.reads w1) (w.reads w2) o0 o1 old new (Err e) unread
             (later.unsought s (tells-now s tells) step (after quiet) (seeks-by s (seen s.tree) (exactly s tells.tree_is (before quiet)) ∙ no));
         sought = tt;
         early = OnAccess-weaker _ _ e (at-most-later 0 path (w.reads w0) (w.reads w1) (w.reads w2) o0 o1 old new (Err e) unread) later.early;
-        spared = λ s never. unasked-later (most_sought given.options) (w.reads w0) (w.reads w1) (w.reads w2) o0 o1 old new unread (later.spared s (λ k. never kind));
+        spared = λ s never. unasked-later (most_reads_to_classify_path given.options) (w.reads w0) (w.reads w1) (w.reads w2) o0 o1 old new unread (later.spared s (λ k. never kind));
         memory = λ s never. later.memory s (λ k. never kind);
         unasked = λ s told quiet no.
-            unasked-later (most_sought given.options) (w.reads w0) (w.reads w1) (w.reads w2) o0 o1 old new unread
+            unasked-later (most_reads_to_classify_path given.options) (w.reads w0) (w.reads w1) (w.reads w2) o0 o1 old new unread
             (later.unasked s (first.tree ∙ told) (after quiet) (asks-by s (seen s.tree) (exactly s told (before quiet)) ∙ no));
         unread = λ s told quiet no none_sought.
             let is = exactly s told (before quiet) in

@@ -3,8 +3,8 @@ use Rattle.std.proofs.Common.{◌≡◌, ◌∙◌, ap, ℕ, List, [], ◌∷◌
 use Rattle.std.specs.Prelude.{is_some, Err, IsSomeAnd, ◌⊎◌}
 use Rattle.std.specs.List.{list_all}
 use Rattle.gitbase_core.specs.Path.{components}
-use Rattle.worktree_fs.specs.Paths.{spelled, fronts, all_but_last}
-use Rattle.worktree_stack.specs.Reading.{Sources, Refusal, Tells, reading, is_read}
+use Rattle.worktree_fs.specs.Paths.{slash_joined_components, all_prefixes_shortest_first, all_but_last}
+use Rattle.worktree_stack.specs.Reading.{TreeAndObjects, RulesRefusal, Tells, rules_texts_of_directory, is_read_without_refusal}
 use Rattle.worktree_stack.specs.Setup.{StackSetup}
 use Rattle.worktree_stack.specs.declared.error.AtPathError.{AtPathError}
 use Rattle.worktree_stack.specs.declared.error.AtPathError.TheVariants as inner
@@ -15,12 +15,12 @@ use Rattle.dir_classify.specs.declared.error.Error.{Error}
 use Rattle.dir_classify.specs.declared.error.Error.TheVariants as errors
 use Rattle.dir_classify.specs.declared.error.MetadataWhy.TheVariants as metadata
 use Rattle.dir_classify.specs.declared.error.ReadWhy.TheVariants as reads
-use Rattle.dir_classify.specs.Layers.{is_unread_in}
-use Rattle.dir_classify.specs.Refused.{IsAbout, Refuses, OnAccess, OnFault}
+use Rattle.dir_classify.specs.Layers.{is_some_rules_file_unread}
+use Rattle.dir_classify.specs.Refused.{IsClassErrorAboutPath, IsErrorOfUnreadableRules, HoldsIfExcludesError, HoldsIfFaultError}
 
 -- ---- a refused question
 
-pub on-access : (P : Type 0) → P → (e : Error) → OnAccess P e
+pub on-access : (P : Type 0) → P → (e : Error) → HoldsIfExcludesError P e
 on-access P p errors.Interrupted = tt
 on-access P p (errors.WorktreeRootIsFile root) = tt
 on-access P p (errors.NormalizeRoot root) = tt
@@ -37,7 +37,7 @@ some-of Q None e = absurd e
 some-of Q (Some x) e = refl
 
 -- rules were given, as a rules file was refused
-pub on-access-by : (made : Option StackSetup) (path : List ℕ) (P : Type 0) → (is_some made ≡ true → P) → (e : Error) → IsAbout made path e → OnAccess P e
+pub on-access-by : (made : Option StackSetup) (path : List ℕ) (P : Type 0) → (is_some made ≡ true → P) → (e : Error) → IsClassErrorAboutPath made path e → HoldsIfExcludesError P e
 on-access-by made path P p errors.Interrupted about = tt
 on-access-by made path P p (errors.WorktreeRootIsFile root) about = tt
 on-access-by made path P p (errors.NormalizeRoot root) about = tt
@@ -51,7 +51,7 @@ on-access-by made path P p errors.OutOfMemory about = tt
 
 -- ---- a refusal, handed on
 
-pub lookup-weaker : (P Q P' Q' : Type 0) (e : AtPathError) → (P → P') → (Q → Q') → lookups.OnFault P Q e → lookups.OnFault P' Q' e
+pub lookup-weaker : (P Q P' Q' : Type 0) (e : AtPathError) → (P → P') → (Q → Q') → lookups.HoldsOnFaultError P Q e → lookups.HoldsOnFaultError P' Q' e
 lookup-weaker P Q P' Q' inner.NotNormal f g h = tt
 lookup-weaker P Q P' Q' (inner.Component why) f g h = tt
 lookup-weaker P Q P' Q' (inner.Collision path) f g h = tt
@@ -65,7 +65,7 @@ lookup-weaker P Q P' Q' (inner.Blob id blob_whys.NotABlob) f g h = tt
 lookup-weaker P Q P' Q' (inner.Blob id blob_whys.Fault) f g h = g h
 lookup-weaker P Q P' Q' inner.OutOfMemory f g h = tt
 
-pub OnFault-weaker : (P Q P' Q' : Type 0) (e : Error) → (P → P') → (Q → Q') → OnFault P Q e → OnFault P' Q' e
+pub OnFault-weaker : (P Q P' Q' : Type 0) (e : Error) → (P → P') → (Q → Q') → HoldsIfFaultError P Q e → HoldsIfFaultError P' Q' e
 OnFault-weaker P Q P' Q' errors.Interrupted f g h = tt
 OnFault-weaker P Q P' Q' (errors.WorktreeRootIsFile path) f g h = tt
 OnFault-weaker P Q P' Q' (errors.NormalizeRoot root) f g h = tt
@@ -80,7 +80,7 @@ OnFault-weaker P Q P' Q' (errors.SymlinkMetadata path metadata.Fault) f g h = f 
 OnFault-weaker P Q P' Q' (errors.TooDeep path) f g h = tt
 OnFault-weaker P Q P' Q' errors.OutOfMemory f g h = tt
 
-pub OnAccess-weaker : (P Q : Type 0) (e : Error) → (P → Q) → OnAccess P e → OnAccess Q e
+pub OnAccess-weaker : (P Q : Type 0) (e : Error) → (P → Q) → HoldsIfExcludesError P e → HoldsIfExcludesError Q e
 OnAccess-weaker P Q errors.Interrupted f h = tt
 OnAccess-weaker P Q (errors.WorktreeRootIsFile root) f h = tt
 OnAccess-weaker P Q (errors.NormalizeRoot root) f h = tt
@@ -109,30 +109,30 @@ head_is : {X : Type 0} {x y : X} {xs ys : List X} → x ∷ xs ≡ y ∷ ys → 
 head_is e = cc
 
 -- a test that a front fails is failed by the fronts together
-all-front : (p : List (List ℕ) → Bool) (names front rest : List (List ℕ)) → names ≡ front ++ rest → p front ≡ false → list_all p (fronts names) ≡ false
+all-front : (p : List (List ℕ) → Bool) (names front rest : List (List ℕ)) → names ≡ front ++ rest → p front ≡ false → list_all p (all_prefixes_shortest_first names) ≡ false
 all-front p [] [] rest e fails = ap (λ b. b && true) fails
-all-front p (name ∷ names) [] rest e fails = ap (λ b. b && list_all p (map (λ f. name ∷ f) (fronts names))) fails
+all-front p (name ∷ names) [] rest e fails = ap (λ b. b && list_all p (map (λ f. name ∷ f) (all_prefixes_shortest_first names))) fails
 all-front p [] (x ∷ front) rest e fails = absurd (cc e)
 all-front p (name ∷ names) (x ∷ front) rest e fails =
-    and-right (p []) (list_all p (map (λ f. name ∷ f) (fronts names)))
-    (all-map p (λ f. name ∷ f) (fronts names) ∙ all-front (λ f. p (name ∷ f)) names front rest (tail_is e) (ap (λ (n : List ℕ). p (n ∷ front)) (head_is e) ∙ fails))
+    and-right (p []) (list_all p (map (λ f. name ∷ f) (all_prefixes_shortest_first names)))
+    (all-map p (λ f. name ∷ f) (all_prefixes_shortest_first names) ∙ all-front (λ f. p (name ∷ f)) names front rest (tail_is e) (ap (λ (n : List ℕ). p (n ∷ front)) (head_is e) ∙ fails))
 
 -- the rules of a directory above a path are refused
-pub unread-ancestor : (s : Sources) (rules : StackSetup) (path : List ℕ) (refusal : Refusal) (Holds : List ℕ → Type 0) → lookups.OfAncestor (components path) Holds
-    → ((d : List ℕ) → Holds d → reading rules s d ≡ Err refusal) → is_unread_in (Some rules) s path ≡ true
-unfolding is_unread_in
+pub unread-ancestor : (s : TreeAndObjects) (rules : StackSetup) (path : List ℕ) (refusal : RulesRefusal) (Holds : List ℕ → Type 0) → lookups.HoldsOfSomeAncestor (components path) Holds
+    → ((d : List ℕ) → Holds d → rules_texts_of_directory rules s d ≡ Err refusal) → is_some_rules_file_unread (Some rules) s path ≡ true
+unfolding is_some_rules_file_unread
 unread-ancestor s rules path refusal Holds h is =
     ap not
-    (all-front (λ directory. is_read (reading rules s (spelled directory))) (all_but_last (components path)) h.ancestor h.rest h.above (ap is_read (is (spelled h.ancestor) h.holds)))
+    (all-front (λ directory. is_read_without_refusal (rules_texts_of_directory rules s (slash_joined_components directory))) (all_but_last (components path)) h.ancestor h.rest h.above (ap is_read_without_refusal (is (slash_joined_components h.ancestor) h.holds)))
 
-told-so : (s : Sources) → Tells (Some s.tree) (Some s.objects) s
+told-so : (s : TreeAndObjects) → Tells (Some s.tree) (Some s.objects) s
 told-so s = record { tree_is = refl; objects_are = refl }
 
 -- A lookup that is refused without a fault of the worktree is one of a path of which some rules cannot be read, unless the store
 -- failed.
-unread-lookup : (s : Sources) (rules : StackSetup) (path : List ℕ) (TreeFailed StoreFailed : Type 0) (e : AtPathError) → (TreeFailed → ⊥)
-    → lookups.RefusesIn s rules (components path) e → lookups.IsOnWayTo rules (components path) e → (e ≡ inner.OutOfMemory → ⊥) → lookups.OnFault TreeFailed StoreFailed e
-    → (is_unread_in (Some rules) s path ≡ true) ⊎ StoreFailed
+unread-lookup : (s : TreeAndObjects) (rules : StackSetup) (path : List ℕ) (TreeFailed StoreFailed : Type 0) (e : AtPathError) → (TreeFailed → ⊥)
+    → lookups.ExplainsLookupErrorInTree s rules (components path) e → lookups.IsErrorOnWayToPath rules (components path) e → (e ≡ inner.OutOfMemory → ⊥) → lookups.HoldsOnFaultError TreeFailed StoreFailed e
+    → (is_some_rules_file_unread (Some rules) s path ≡ true) ⊎ StoreFailed
 unread-lookup s rules path TreeFailed StoreFailed inner.NotNormal quiet refused about some cause = absurd refused
 unread-lookup s rules path TreeFailed StoreFailed (inner.Component why) quiet refused about some cause = absurd refused
 unread-lookup s rules path TreeFailed StoreFailed (inner.Collision p) quiet refused about some cause = absurd refused
@@ -151,15 +151,15 @@ unread-lookup s rules path TreeFailed StoreFailed (inner.Blob id blob_whys.NotAB
 unread-lookup s rules path TreeFailed StoreFailed (inner.Blob id blob_whys.Fault) quiet refused about some cause = inr cause
 unread-lookup s rules path TreeFailed StoreFailed inner.OutOfMemory quiet refused about some cause = absurd (some refl)
 
-pub unread-refused : (s : Sources) (made : Option StackSetup) (path : List ℕ) (TreeFailed StoreFailed : Type 0) (e : Error) → (TreeFailed → ⊥)
-    → IsAbout made path e → Refuses s made path e → OnFault TreeFailed StoreFailed e → OnAccess ((is_unread_in made s path ≡ true) ⊎ StoreFailed) e
+pub unread-refused : (s : TreeAndObjects) (made : Option StackSetup) (path : List ℕ) (TreeFailed StoreFailed : Type 0) (e : Error) → (TreeFailed → ⊥)
+    → IsClassErrorAboutPath made path e → IsErrorOfUnreadableRules s made path e → HoldsIfFaultError TreeFailed StoreFailed e → HoldsIfExcludesError ((is_some_rules_file_unread made s path ≡ true) ⊎ StoreFailed) e
 unread-refused s made path TreeFailed StoreFailed errors.Interrupted quiet about refused cause = tt
 unread-refused s made path TreeFailed StoreFailed (errors.WorktreeRootIsFile root) quiet about refused cause = tt
 unread-refused s made path TreeFailed StoreFailed (errors.NormalizeRoot root) quiet about refused cause = tt
 unread-refused s made path TreeFailed StoreFailed (errors.SymlinkInRoot root worktree_root index) quiet about refused cause = tt
 unread-refused s made path TreeFailed StoreFailed (errors.ExcludesAccess e) quiet about refused cause = go made about refused
   where
-    go : (k : Option StackSetup) → IsAbout k path (errors.ExcludesAccess e) → Refuses s k path (errors.ExcludesAccess e) → (is_unread_in k s path ≡ true) ⊎ StoreFailed
+    go : (k : Option StackSetup) → IsClassErrorAboutPath k path (errors.ExcludesAccess e) → IsErrorOfUnreadableRules s k path (errors.ExcludesAccess e) → (is_some_rules_file_unread k s path ≡ true) ⊎ StoreFailed
     go None a r = absurd a
     go (Some rules) a r = unread-lookup s rules path TreeFailed StoreFailed e quiet r a.on_way (λ is. absurd (a.some_memory is)) cause
 unread-refused s made path TreeFailed StoreFailed (errors.ReadDir directory why) quiet about refused cause = tt
@@ -169,7 +169,7 @@ unread-refused s made path TreeFailed StoreFailed (errors.TooDeep directory) qui
 unread-refused s made path TreeFailed StoreFailed errors.OutOfMemory quiet about refused cause = tt
 
 -- two things that hold where a class asked the rules
-pub OnAccess-both : (P Q R : Type 0) (e : Error) → (P → Q → R) → OnAccess P e → OnAccess Q e → OnAccess R e
+pub OnAccess-both : (P Q R : Type 0) (e : Error) → (P → Q → R) → HoldsIfExcludesError P e → HoldsIfExcludesError Q e → HoldsIfExcludesError R e
 OnAccess-both P Q R errors.Interrupted f p q = tt
 OnAccess-both P Q R (errors.WorktreeRootIsFile root) f p q = tt
 OnAccess-both P Q R (errors.NormalizeRoot root) f p q = tt

@@ -7,7 +7,7 @@ use Rattle.dir_classify.specs.declared.options.CollapsedEntriesEmissionMode.{Col
 use Rattle.dir_classify.specs.declared.options.ForDeletionMode.{ForDeletionMode}
 use Rattle.dir_classify.specs.declared.options.ForDeletionMode.TheVariants.{IgnoredDirectoriesCanHideNestedRepositories, FindNonBareRepositoriesInIgnoredDirectories, FindRepositoriesInIgnoredDirectories}
 
-pub record Chosen : Type 0 where
+pub record WalkOptions : Type 0 where
   pub precompose_unicode : Bool
   pub ignore_case : Bool
   pub recurse_repositories : Bool
@@ -24,12 +24,12 @@ pub record Chosen : Type 0 where
   pub worktrees : List (List ℕ)
 
 -- the paths of a set that may not be given
-abbrev pub paths_in : Option (List (List ℕ)) → List (List ℕ)
-paths_in None = []
-paths_in (Some paths) = paths
+abbrev pub paths_of_optional_set : Option (List (List ℕ)) → List (List ℕ)
+paths_of_optional_set None = []
+paths_of_optional_set (Some paths) = paths
 
-unfoldable pub chosen : Options → Chosen
-chosen o =
+unfoldable pub walk_options_of : Options → WalkOptions
+walk_options_of o =
     record {
       precompose_unicode = o.precompose_unicode;
       ignore_case = o.ignore_case;
@@ -43,41 +43,41 @@ chosen o =
       emit_empty_directories = o.emit_empty_directories;
       emit_collapsed = o.emit_collapsed;
       symlinks_to_directories_are_ignored_like_directories = o.symlinks_to_directories_are_ignored_like_directories;
-      worktrees = paths_in (option_map (λ set. set.now.keys) o.worktree_relative_worktree_dirs);
+      worktrees = paths_of_optional_set (option_map (λ set. set.now.keys) o.worktree_relative_worktree_dirs);
     }
 
 -- ---- modes
 
 -- a directory may be emitted in place of what lies in it
-abbrev pub collapses : EmissionMode → Bool
-collapses Matching = false
-collapses CollapseDirectory = true
+abbrev pub is_collapsing_mode : EmissionMode → Bool
+is_collapsing_mode Matching = false
+is_collapsing_mode CollapseDirectory = true
 
-abbrev pub collapses_if : Option EmissionMode → Bool
-collapses_if None = false
-collapses_if (Some mode) = collapses mode
+abbrev pub collapses_directories_if_some : Option EmissionMode → Bool
+collapses_directories_if_some None = false
+collapses_directories_if_some (Some mode) = is_collapsing_mode mode
 
 -- directories are folded, if they can be: untracked ones, or ignored ones
-abbrev pub is_folding : Chosen → Bool
-is_folding o = collapses o.emit_untracked || collapses_if o.emit_ignored
+abbrev pub folds_untracked_or_ignored : WalkOptions → Bool
+folds_untracked_or_ignored o = is_collapsing_mode o.emit_untracked || collapses_directories_if_some o.emit_ignored
 
 -- deletion looks for repositories in ignored directories
-abbrev pub finds_repositories : Option ForDeletionMode → Bool
-finds_repositories None = false
-finds_repositories (Some IgnoredDirectoriesCanHideNestedRepositories) = false
-finds_repositories (Some FindNonBareRepositoriesInIgnoredDirectories) = true
-finds_repositories (Some FindRepositoriesInIgnoredDirectories) = true
+abbrev pub finds_repositories_in_ignored : Option ForDeletionMode → Bool
+finds_repositories_in_ignored None = false
+finds_repositories_in_ignored (Some IgnoredDirectoriesCanHideNestedRepositories) = false
+finds_repositories_in_ignored (Some FindNonBareRepositoriesInIgnoredDirectories) = true
+finds_repositories_in_ignored (Some FindRepositoriesInIgnoredDirectories) = true
 
 -- and for bare ones too
-abbrev pub finds_bare_repositories : Option ForDeletionMode → Bool
-finds_bare_repositories None = false
-finds_bare_repositories (Some IgnoredDirectoriesCanHideNestedRepositories) = false
-finds_bare_repositories (Some FindNonBareRepositoriesInIgnoredDirectories) = false
-finds_bare_repositories (Some FindRepositoriesInIgnoredDirectories) = true
+abbrev pub finds_bare_repositories_in_ignored : Option ForDeletionMode → Bool
+finds_bare_repositories_in_ignored None = false
+finds_bare_repositories_in_ignored (Some IgnoredDirectoriesCanHideNestedRepositories) = false
+finds_bare_repositories_in_ignored (Some FindNonBareRepositoriesInIgnoredDirectories) = false
+finds_bare_repositories_in_ignored (Some FindRepositoriesInIgnoredDirectories) = true
 
 -- deletion does not look into ignored directories, which may hide repositories
-abbrev pub may_hide_repositories : Option ForDeletionMode → Bool
-may_hide_repositories None = false
-may_hide_repositories (Some IgnoredDirectoriesCanHideNestedRepositories) = true
-may_hide_repositories (Some FindNonBareRepositoriesInIgnoredDirectories) = false
-may_hide_repositories (Some FindRepositoriesInIgnoredDirectories) = false
+abbrev pub ignored_may_hide_repositories : Option ForDeletionMode → Bool
+ignored_may_hide_repositories None = false
+ignored_may_hide_repositories (Some IgnoredDirectoriesCanHideNestedRepositories) = true
+ignored_may_hide_repositories (Some FindNonBareRepositoriesInIgnoredDirectories) = false
+ignored_may_hide_repositories (Some FindRepositoriesInIgnoredDirectories) = false

@@ -3,7 +3,7 @@ use Rattle.std.specs.Prelude.{◌≡◌}
 use Rattle.dir_classify.specs.declared.context.Context.{Context}
 
 -- The interrupt is as it was; the loans are the same, and what is lent to be read only too.
-pub record KeepsContext {W F I M : Type 0} (old new : Context W F I M) : Type 0 where
+pub record KeepsContextLoans {W F I M : Type 0} (old new : Context W F I M) : Type 0 where
   pub interrupt : new.interrupt.now ≡ old.interrupt.now
   pub same_worktree : new.worktree.ghost_name ≡ old.worktree.ghost_name
   pub same_objects : new.objects.ghost_name ≡ old.objects.ghost_name

@@ -9,19 +9,19 @@ use Rattle.dir_classify.specs.declared.excludes.Ruling.{Ruling}
 use Rattle.dir_classify.specs.declared.index.InIndex.{InIndex}
 
 -- no rule decided
-abbrev pub no_ruling : Ruling
-no_ruling = record { kind = None; origin = None }
+abbrev pub ruling_without_rule : Ruling
+ruling_without_rule = record { kind = None; origin = None }
 
 -- Whether a path, links followed, leads to a repository, and whether it leads to the git directory of the worktree itself.
-pub record GitAt : Type 0 where
+pub record RepositoryTestResult : Type 0 where
   pub is_git : Bool
   pub is_own : Bool
 
 -- it leads to a repository of its own
-abbrev pub is_foreign : GitAt → Bool
-is_foreign at = at.is_git && not at.is_own
+abbrev pub is_foreign_repository : RepositoryTestResult → Bool
+is_foreign_repository at = at.is_git && not at.is_own
 
-pub record Evidence : Type 0 where
+pub record PathEvidence : Type 0 where
   -- what the index says of a path
   pub in_index : List ℕ → InIndex
   -- whether a path spec may match a path or something beneath it, by what is known of whether it is a directory
@@ -39,15 +39,15 @@ pub record Evidence : Type 0 where
   -- the kind of the node at a path, a link there followed
   pub followed : List ℕ → Option Kind
   -- what a path leads to, and what `.git` in it leads to
-  pub repository_at : List ℕ → GitAt
-  pub repository_in : List ℕ → GitAt
+  pub repository_at : List ℕ → RepositoryTestResult
+  pub repository_in : List ℕ → RepositoryTestResult
   -- in deletion, the directory that must not go, as it is the current one
   pub blocked : Option (List ℕ)
 
 -- a directory is the one that must not go
-abbrev pub is_at : Option (List ℕ) → List ℕ → Bool
-is_at None path = false
-is_at (Some blocked) path = bytes_eq path blocked
+abbrev pub is_optional_path_equal : Option (List ℕ) → List ℕ → Bool
+is_optional_path_equal None path = false
+is_optional_path_equal (Some blocked) path = bytes_eq path blocked
 
-abbrev pub is_blocked : Evidence → List ℕ → Bool
-is_blocked ev path = is_at ev.blocked path
+abbrev pub is_protected_current_directory : PathEvidence → List ℕ → Bool
+is_protected_current_directory ev path = is_optional_path_equal ev.blocked path

@@ -15,80 +15,80 @@ use Rattle.dir_classify.specs.declared.entry.PathspecMatch.TheVariants.{Always, 
 use Rattle.dir_classify.specs.declared.entry.Kind.TheVariants.{Untrackable, File, Symlink, Directory, Repository}
 
 -- whether a node of this kind holds names
-abbrev pub is_directory_kind : Kind → Bool
-is_directory_kind Directory = true
-is_directory_kind Repository = true
-is_directory_kind Untrackable = false
-is_directory_kind File = false
-is_directory_kind Symlink = false
+abbrev pub is_directory_or_repository : Kind → Bool
+is_directory_or_repository Directory = true
+is_directory_or_repository Repository = true
+is_directory_or_repository Untrackable = false
+is_directory_or_repository File = false
+is_directory_or_repository Symlink = false
 
 -- the same of a kind that may be none: none then
 abbrev pub is_dir : Option Kind → Option Bool
 is_dir None = None
-is_dir (Some kind) = Some (is_directory_kind kind)
+is_dir (Some kind) = Some (is_directory_or_repository kind)
 
 -- whether a node that may be there holds names
-abbrev pub holds_names : Option Kind → Bool
-holds_names None = false
-holds_names (Some kind) = is_directory_kind kind
+abbrev pub is_some_directory_kind : Option Kind → Bool
+is_some_directory_kind None = false
+is_some_directory_kind (Some kind) = is_directory_or_repository kind
 
 -- whether two such answers are the same, no answer being one too
-abbrev pub answers_alike : Option Bool → Option Bool → Bool
-answers_alike None None = true
-answers_alike None (Some b) = false
-answers_alike (Some a) None = false
-answers_alike (Some true) (Some b) = b
-answers_alike (Some false) (Some b) = not b
+abbrev pub equals_optional_boolean : Option Bool → Option Bool → Bool
+equals_optional_boolean None None = true
+equals_optional_boolean None (Some b) = false
+equals_optional_boolean (Some a) None = false
+equals_optional_boolean (Some true) (Some b) = b
+equals_optional_boolean (Some false) (Some b) = not b
 
 -- the kind of a node on disk, before anyone asks whether a directory is a repository
-abbrev pub from_node : NodeKind → Kind
-from_node nodes.File = File
-from_node nodes.Symlink = Symlink
-from_node nodes.Directory = Directory
-from_node nodes.Untrackable = Untrackable
+abbrev pub from_node_kind : NodeKind → Kind
+from_node_kind nodes.File = File
+from_node_kind nodes.Symlink = Symlink
+from_node_kind nodes.Directory = Directory
+from_node_kind nodes.Untrackable = Untrackable
 
 -- the kind of an entry in the index
-abbrev pub from_entry : EntryKind → Kind
-from_entry entries.Repository = Repository
-from_entry entries.File = File
-from_entry entries.Symlink = Symlink
-from_entry entries.Directory = Directory
+abbrev pub from_index_entry_kind : EntryKind → Kind
+from_index_entry_kind entries.Repository = Repository
+from_index_entry_kind entries.File = File
+from_index_entry_kind entries.Symlink = Symlink
+from_index_entry_kind entries.Directory = Directory
 
 -- ---- one kind
 
-abbrev pub is_directory : Option Kind → Bool
-is_directory (Some Directory) = true
-is_directory (Some Repository) = false
-is_directory (Some Untrackable) = false
-is_directory (Some File) = false
-is_directory (Some Symlink) = false
-is_directory None = false
+abbrev pub is_plain_directory_kind : Option Kind → Bool
+is_plain_directory_kind (Some Directory) = true
+is_plain_directory_kind (Some Repository) = false
+is_plain_directory_kind (Some Untrackable) = false
+is_plain_directory_kind (Some File) = false
+is_plain_directory_kind (Some Symlink) = false
+is_plain_directory_kind None = false
 
-abbrev pub is_repository : Option Kind → Bool
-is_repository (Some Repository) = true
-is_repository (Some Directory) = false
-is_repository (Some Untrackable) = false
-is_repository (Some File) = false
-is_repository (Some Symlink) = false
-is_repository None = false
+abbrev pub is_repository_kind : Option Kind → Bool
+is_repository_kind (Some Repository) = true
+is_repository_kind (Some Directory) = false
+is_repository_kind (Some Untrackable) = false
+is_repository_kind (Some File) = false
+is_repository_kind (Some Symlink) = false
+is_repository_kind None = false
 
-abbrev pub is_symlink : Option Kind → Bool
-is_symlink (Some Symlink) = true
-is_symlink (Some Directory) = false
-is_symlink (Some Repository) = false
-is_symlink (Some Untrackable) = false
-is_symlink (Some File) = false
-is_symlink None = false
+abbrev pub is_symlink_kind : Option Kind → Bool
+is_symlink_kind (Some Symlink) = true
+is_symlink_kind (Some Directory) = false
+is_symlink_kind (Some Repository) = false
+is_symlink_kind (Some Untrackable) = false
+is_symlink_kind (Some File) = false
+is_symlink_kind None = false
 
 -- ---- what sets a path apart
 
 -- it is named `.git`
-abbrev pub is_marked_dot_git : Option Property → Bool
-is_marked_dot_git (Some DotGit) = true
-is_marked_dot_git (Some EmptyDirectory) = false
-is_marked_dot_git (Some EmptyDirectoryAndCWD) = false
-is_marked_dot_git (Some TrackedExcluded) = false
-is_marked_dot_git None = false
+abbrev pub is_dot_git_property : Option Property → Bool
+is_dot_git_property (Some DotGit) = true
+is_dot_git_property (Some EmptyDirectory) = false
+is_dot_git_property (Some EmptyDirectoryAndCWD) = false
+is_dot_git_property (Some TrackedExcluded) = false
+is_dot_git_property None = false
 
 -- ---- how a path spec matches
 
@@ -99,5 +99,5 @@ from_match_kind specs.WildcardMatch = WildcardMatch
 from_match_kind specs.Verbatim = Verbatim
 
 -- an excluding spec matches as such
-abbrev pub from_match : Match → PathspecMatch
-from_match found = if found.excluded then Excluded else from_match_kind found.kind
+abbrev pub pathspec_match_from_match : Match → PathspecMatch
+pathspec_match_from_match found = if found.excluded then Excluded else from_match_kind found.kind

@@ -1,24 +1,24 @@
 //! The class of a path, and the classes on the way to a traversal root.
 ghost use Rattle.std.specs.Prelude.{◌≡◌, true, false, IfOk};
 ghost use Rattle.gitbase_core.specs.Path.{components};
-ghost use Rattle.worktree_fs.specs.Paths.{is_normal, spelled};
-ghost use Rattle.dir_classify.specs.Chosen.{chosen};
+ghost use Rattle.worktree_fs.specs.Paths.{is_relative_without_dots, slash_joined_components};
+ghost use Rattle.dir_classify.specs.Chosen.{walk_options_of};
 ghost use Rattle.dir_classify.specs.Class.{enters};
-ghost use Rattle.dir_classify.specs.Classes.{Classes, Judges};
-ghost use Rattle.dir_classify.specs.Contexts.{KeepsContext};
-ghost use Rattle.dir_classify.specs.Excludes.{made_with, tells_excludes};
-ghost use Rattle.dir_classify.specs.Layers.{setting_in, setting_of, IsLookupIf};
-ghost use Rattle.dir_classify.specs.Question.{about_way};
-ghost use Rattle.dir_classify.specs.Rooted.{Reaches, reached_by};
-ghost use Rattle.dir_classify.specs.Way.{goes_on, reached_so};
+ghost use Rattle.dir_classify.specs.Classes.{ClassifiesPath, AnswersClassQuestion};
+ghost use Rattle.dir_classify.specs.Contexts.{KeepsContextLoans};
+ghost use Rattle.dir_classify.specs.Excludes.{setup_of_optional_stack, has_excludes_if_given};
+ghost use Rattle.dir_classify.specs.Layers.{setting_of_context, setting_of_shared, IsLookupOfIndexIfGiven};
+ghost use Rattle.dir_classify.specs.Question.{question_about_path_on_way};
+ghost use Rattle.dir_classify.specs.Rooted.{ClassifiesWayToRoot, reached_of_root_outcome};
+ghost use Rattle.dir_classify.specs.Way.{way_continues_beneath, end_of_way_with_rules_read};
 
 use crate::context::{Context, Shared};
-use crate::entry::{Entry, Kind, PathspecMatch, Property, Status, is_repository};
+use crate::entry::{Entry, Kind, PathspecMatch, Property, Status, is_repository_kind};
 use crate::error::Error;
 use crate::options::Options;
-use crate::paths::full_path;
+use crate::paths::join_worktree_root;
 use crate::steps;
-pub use crate::steps::classify_in_directory;
+pub use crate::steps::classify_name_in_directory;
 use gitbase_core::{Find, PathText};
 use glob_rules::ignore::Origin;
 use glob_rules::pathspec::Matcher;
@@ -54,9 +54,9 @@ pub struct Outcome {
 
 impl From<&Entry> for Outcome {
     ghost use Rattle.std.specs.Prelude.{◌≡◌};
-    ghost use Rattle.dir_classify.specs.Entries.{class_in};
+    ghost use Rattle.dir_classify.specs.Entries.{outcome_of_entry};
 
-    ghost from_gives = { λ entry class. class ≡ class_in entry.now };
+    ghost from_gives = { λ entry class. class ≡ outcome_of_entry entry.now };
 
     fn from(entry: &Entry) -> Outcome {
         Outcome {
@@ -134,15 +134,17 @@ pub fn path<W: Worktree, F: Find, I: Interrupt, M: Matcher>(
     options: Options<'_>,
     ctx: &mut Context<'_, W, F, I, M>,
 ) -> Result<Outcome, Error>
-    requires normal { is_normal rela_path.now ≡ true }
-    requires spelled { rela_path.now ≡ spelled (components rela_path.now) }
-    requires lookup { IsLookupIf ctx.old.index.now ctx.old.ignore_case_index_lookup.now }
-    requires excludes { tells_excludes (made_with ctx.old.excludes.now) ≡ true }
-    ensures classes { Classes W.Worktree F.Find ctx.old.worktree.now ctx.new.worktree.now
+    requires normal { is_relative_without_dots rela_path.now ≡ true }
+    requires spelled { rela_path.now ≡ slash_joined_components (components rela_path.now) }
+    requires lookup { IsLookupOfIndexIfGiven ctx.old.index.now
+        ctx.old.ignore_case_index_lookup.now }
+    requires excludes { has_excludes_if_given (setup_of_optional_stack ctx.old.excludes.now)
+        ≡ true }
+    ensures classes { ClassifiesPath W.Worktree F.Find ctx.old.worktree.now ctx.new.worktree.now
         ctx.old.objects.now ctx.new.objects.now ctx.old.excludes.now ctx.new.excludes.now
-        (setting_in M.Matcher worktree_root.now options.entry ctx.old) rela_path.now disk_kind
-        ask_disk result }
-    ensures context { KeepsContext ctx.old ctx.new }
+        (setting_of_context M.Matcher worktree_root.now options.entry ctx.old) rela_path.now
+        disk_kind ask_disk result }
+    ensures context { KeepsContextLoans ctx.old ctx.new }
 {
     let shared = Shared {
         worktree_root,
@@ -153,9 +155,9 @@ pub fn path<W: Worktree, F: Find, I: Interrupt, M: Matcher>(
         current_dir: ctx.current_dir,
         options,
     };
-    let full = full_path(alloc, worktree_root, rela_path)?;
-    let all = shared.index.beneath(b"");
-    steps::classify_in_directory(
+    let full = join_worktree_root(alloc, worktree_root, rela_path)?;
+    let all = shared.index.entries_beneath_directory(b"");
+    steps::classify_name_in_directory(
         alloc,
         full.as_bytes(),
         rela_path,
@@ -191,16 +193,18 @@ pub fn root<W: Worktree, F: Find, I: Interrupt, M: Matcher>(
     options: Options<'_>,
     ctx: &mut Context<'_, W, F, I, M>,
 ) -> Result<RootOutcome, Error>
-    requires normal { is_normal worktree_relative_root.now ≡ true }
+    requires normal { is_relative_without_dots worktree_relative_root.now ≡ true }
     requires spelled { worktree_relative_root.now
-        ≡ spelled (components worktree_relative_root.now) }
-    requires lookup { IsLookupIf ctx.old.index.now ctx.old.ignore_case_index_lookup.now }
-    requires excludes { tells_excludes (made_with ctx.old.excludes.now) ≡ true }
-    ensures reaches { Reaches W.Worktree F.Find ctx.old.worktree.now ctx.new.worktree.now
-        ctx.old.objects.now ctx.new.objects.now ctx.old.excludes.now ctx.new.excludes.now
-        (setting_in M.Matcher worktree_root.now options.entry ctx.old) worktree_relative_root.now
-        result }
-    ensures context { KeepsContext ctx.old ctx.new }
+        ≡ slash_joined_components (components worktree_relative_root.now) }
+    requires lookup { IsLookupOfIndexIfGiven ctx.old.index.now
+        ctx.old.ignore_case_index_lookup.now }
+    requires excludes { has_excludes_if_given (setup_of_optional_stack ctx.old.excludes.now)
+        ≡ true }
+    ensures reaches { ClassifiesWayToRoot W.Worktree F.Find ctx.old.worktree.now
+        ctx.new.worktree.now ctx.old.objects.now ctx.new.objects.now ctx.old.excludes.now
+        ctx.new.excludes.now (setting_of_context M.Matcher worktree_root.now options.entry ctx.old)
+        worktree_relative_root.now result }
+    ensures context { KeepsContextLoans ctx.old ctx.new }
 {
     let shared = Shared {
         worktree_root,
@@ -211,7 +215,7 @@ pub fn root<W: Worktree, F: Find, I: Interrupt, M: Matcher>(
         current_dir: ctx.current_dir,
         options,
     };
-    root_at(
+    classify_way_to_traversal_root(
         alloc,
         worktree_relative_root,
         &shared,
@@ -229,7 +233,7 @@ pub fn root<W: Worktree, F: Find, I: Interrupt, M: Matcher>(
 /// - `ExcludesAccess`: the rules of a directory above a path on the way were asked, and were not
 ///   read, as [`path`] says it.
 /// - `OutOfMemory`: memory was refused.
-pub fn root_at<W: Worktree, F: Find, M: Matcher>(
+pub fn classify_way_to_traversal_root<W: Worktree, F: Find, M: Matcher>(
     alloc: Global,
     worktree_relative_root: &[u8],
     shared: &Shared<'_, M>,
@@ -237,25 +241,35 @@ pub fn root_at<W: Worktree, F: Find, M: Matcher>(
     worktree: &mut W,
     objects: &mut F,
 ) -> Result<RootOutcome, Error>
-    requires normal { is_normal worktree_relative_root.now ≡ true }
+    requires normal { is_relative_without_dots worktree_relative_root.now ≡ true }
     requires spelled { worktree_relative_root.now
-        ≡ spelled (components worktree_relative_root.now) }
-    requires lookup { IsLookupIf shared.now.index.now shared.now.ignore_case_index_lookup.now }
-    requires excludes { tells_excludes (made_with excludes.old) ≡ true }
-    ensures { Reaches W.Worktree F.Find worktree.old worktree.new objects.old objects.new
-        excludes.old excludes.new (setting_of M.Matcher shared.now) worktree_relative_root.now
-        result }
+        ≡ slash_joined_components (components worktree_relative_root.now) }
+    requires lookup { IsLookupOfIndexIfGiven shared.now.index.now
+        shared.now.ignore_case_index_lookup.now }
+    requires excludes { has_excludes_if_given (setup_of_optional_stack excludes.old) ≡ true }
+    ensures { ClassifiesWayToRoot W.Worktree F.Find worktree.old worktree.new objects.old
+        objects.new excludes.old excludes.new (setting_of_shared M.Matcher shared.now)
+        worktree_relative_root.now result }
 {
     let mut path = PathText::from_bytes(alloc, b"")?;
-    let mut class = class_on_way(alloc, b"", shared, excludes, worktree, objects)?;
-    let in_repository = is_repository(class.disk_kind);
+    let mut class = classify_path_asking_kind_first(
+        alloc, b"", shared, excludes, worktree, objects,
+    )?;
+    let in_repository = is_repository_kind(class.disk_kind);
     let mut rest = worktree_relative_root;
     while let Some(next) = next_component(rest) {
-        if !goes_on(shared, path.as_bytes(), &class, in_repository) {
+        if !way_continues_beneath(shared, path.as_bytes(), &class, in_repository) {
             return Ok(new_root_outcome(path, class, in_repository, false));
         }
         path.push_component(alloc, next.name)?;
-        class = class_on_way(alloc, path.as_bytes(), shared, excludes, worktree, objects)?;
+        class = classify_path_asking_kind_first(
+            alloc,
+            path.as_bytes(),
+            shared,
+            excludes,
+            worktree,
+            objects,
+        )?;
         rest = next.rest;
     }
     Ok(new_root_outcome(path, class, in_repository, true))
@@ -267,7 +281,8 @@ fn new_root_outcome(
     in_repository: bool,
     whole: bool,
 ) -> RootOutcome
-    ensures { reached_by result false ≡ reached_so path outcome in_repository whole }
+    ensures { reached_of_root_outcome result false ≡ end_of_way_with_rules_read path outcome
+        in_repository whole }
 {
     RootOutcome {
         outcome,
@@ -278,19 +293,25 @@ fn new_root_outcome(
 }
 
 /// Whether the way goes on beneath a path; of the worktree root that is not asked.
-fn goes_on<M>(shared: &Shared<'_, M>, path: &[u8], class: &Outcome, in_repository: bool) -> bool
-    ensures { result ≡ goes_on (chosen shared.now.options) path.now class.now in_repository }
+fn way_continues_beneath<M>(
+    shared: &Shared<'_, M>,
+    path: &[u8],
+    class: &Outcome,
+    in_repository: bool,
+) -> bool
+    ensures { result ≡ way_continues_beneath (walk_options_of shared.now.options) path.now class.now
+        in_repository }
 {
     if path.is_empty() {
         return true;
     }
-    is_entered(&shared.options, class, in_repository)
+    recurses_by_default(&shared.options, class, in_repository)
 }
 
 /// Whether a walk looks into a path of this class by default.
-#[tactic(auto, unfolding(crate::specs::Chosen::chosen))]
-fn is_entered(options: &Options<'_>, class: &Outcome, in_repository: bool) -> bool
-    ensures { result ≡ enters (chosen options.now) class.now in_repository }
+#[tactic(auto, unfolding(crate::specs::Chosen::walk_options_of))]
+fn recurses_by_default(options: &Options<'_>, class: &Outcome, in_repository: bool) -> bool
+    ensures { result ≡ enters (walk_options_of options.now) class.now in_repository }
 {
     class.status.can_recurse(
         class.disk_kind,
@@ -301,7 +322,7 @@ fn is_entered(options: &Options<'_>, class: &Outcome, in_repository: bool) -> bo
 }
 
 /// The class of a path on the way: its kind is asked first.
-fn class_on_way<W: Worktree, F: Find, M: Matcher>(
+fn classify_path_asking_kind_first<W: Worktree, F: Find, M: Matcher>(
     alloc: Global,
     rela_path: &[u8],
     shared: &Shared<'_, M>,
@@ -309,18 +330,19 @@ fn class_on_way<W: Worktree, F: Find, M: Matcher>(
     worktree: &mut W,
     objects: &mut F,
 ) -> Result<Outcome, Error>
-    requires normal { is_normal rela_path.now ≡ true }
-    requires spelled { rela_path.now ≡ spelled (components rela_path.now) }
-    requires lookup { IsLookupIf shared.now.index.now shared.now.ignore_case_index_lookup.now }
-    requires excludes { tells_excludes (made_with excludes.old) ≡ true }
-    ensures { Judges W.Worktree F.Find worktree.old worktree.new objects.old objects.new
-        excludes.old excludes.new (setting_of M.Matcher shared.now)
-        (about_way (chosen shared.now.options) rela_path.now) result }
+    requires normal { is_relative_without_dots rela_path.now ≡ true }
+    requires spelled { rela_path.now ≡ slash_joined_components (components rela_path.now) }
+    requires lookup { IsLookupOfIndexIfGiven shared.now.index.now
+        shared.now.ignore_case_index_lookup.now }
+    requires excludes { has_excludes_if_given (setup_of_optional_stack excludes.old) ≡ true }
+    ensures { AnswersClassQuestion W.Worktree F.Find worktree.old worktree.new objects.old
+        objects.new excludes.old excludes.new (setting_of_shared M.Matcher shared.now)
+        (question_about_path_on_way (walk_options_of shared.now.options) rela_path.now) result }
 {
-    let full = full_path(alloc, shared.worktree_root, rela_path)?;
-    let kind = steps::kind_on_disk(alloc, worktree, full.as_bytes())?;
-    let all = shared.index.beneath(b"");
-    let class = steps::classify_in_directory(
+    let full = join_worktree_root(alloc, shared.worktree_root, rela_path)?;
+    let kind = steps::kind_on_disk_or_none(alloc, worktree, full.as_bytes())?;
+    let all = shared.index.entries_beneath_directory(b"");
+    let class = steps::classify_name_in_directory(
         alloc,
         full.as_bytes(),
         rela_path,

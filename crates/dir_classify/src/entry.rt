@@ -1,11 +1,11 @@
 //! Entries: a path with all that is known of it.
 ghost use Rattle.std.specs.Prelude.{◌≡◌, Bool, true, false, Option, IfOk};
-ghost use Rattle.dir_classify.specs.Kinds.{is_directory_kind, is_dir, is_repository, holds_names, from_match_kind};
-ghost use Rattle.dir_classify.specs.Enters.{is_pruned_status, is_ignored_status, is_open, is_named, is_looked_into, can_recurse};
-ghost use Rattle.dir_classify.specs.Entries.{entry_of, entry_at};
+ghost use Rattle.dir_classify.specs.Kinds.{is_directory_or_repository, is_dir, is_repository_kind, is_some_directory_kind, from_match_kind};
+ghost use Rattle.dir_classify.specs.Enters.{is_pruned_status, is_ignored_status, is_walkable_kind, is_matched_by_specific_spec, may_recurse_by_status, can_recurse};
+ghost use Rattle.dir_classify.specs.Entries.{owned_entry_of_ref, entry_with_outcome};
 
 use crate::classify::Outcome;
-use crate::options::{ForDeletionMode, finds_repositories};
+use crate::options::{ForDeletionMode, finds_repositories_in_ignored};
 use gitbase_core::{EntryKind, OutOfMemory, PathText};
 use glob_rules::ignore;
 use glob_rules::pathspec::{Match, MatchKind};
@@ -48,7 +48,7 @@ pub enum Kind {
 impl Kind {
     /// Whether a node of this kind holds names: a directory or a repository.
     pub fn is_dir(&self) -> bool
-        ensures { result ≡ is_directory_kind self.now }
+        ensures { result ≡ is_directory_or_repository self.now }
     {
         matches!(self, Kind::Directory | Kind::Repository)
     }
@@ -56,9 +56,9 @@ impl Kind {
 
 impl From<NodeKind> for Kind {
     ghost use Rattle.std.specs.Prelude.{◌≡◌};
-    ghost use Rattle.dir_classify.specs.Kinds.{from_node};
+    ghost use Rattle.dir_classify.specs.Kinds.{from_node_kind};
 
-    ghost from_gives = { λ node kind. kind ≡ from_node node };
+    ghost from_gives = { λ node kind. kind ≡ from_node_kind node };
 
     fn from(node: NodeKind) -> Kind {
         match node {
@@ -72,9 +72,9 @@ impl From<NodeKind> for Kind {
 
 impl From<EntryKind> for Kind {
     ghost use Rattle.std.specs.Prelude.{◌≡◌};
-    ghost use Rattle.dir_classify.specs.Kinds.{from_entry};
+    ghost use Rattle.dir_classify.specs.Kinds.{from_index_entry_kind};
 
-    ghost from_gives = { λ entry kind. kind ≡ from_entry entry };
+    ghost from_gives = { λ entry kind. kind ≡ from_index_entry_kind entry };
 
     fn from(entry: EntryKind) -> Kind {
         match entry {
@@ -137,36 +137,36 @@ impl Status {
         ensures { result ≡ can_recurse self.now file_type pathspec_match for_deletion
             worktree_root_is_repository }
     {
-        if !is_open(file_type, worktree_root_is_repository) {
+        if !is_walkable_kind(file_type, worktree_root_is_repository) {
             return false;
         }
-        self.is_looked_into(pathspec_match, for_deletion)
+        self.may_recurse_by_status(pathspec_match, for_deletion)
     }
 
     /// Whether an open directory of this status is looked into.
-    fn is_looked_into(
+    fn may_recurse_by_status(
         &self,
         pathspec_match: Option<PathspecMatch>,
         for_deletion: Option<ForDeletionMode>,
     ) -> bool
-        ensures { result ≡ is_looked_into self.now pathspec_match for_deletion }
+        ensures { result ≡ may_recurse_by_status self.now pathspec_match for_deletion }
     {
         match self {
             Status::Pruned => false,
             Status::Tracked | Status::Untracked => true,
             Status::Ignored(_) => {
-                if finds_repositories(for_deletion) {
+                if finds_repositories_in_ignored(for_deletion) {
                     return true;
                 }
-                is_named(pathspec_match)
+                is_matched_by_specific_spec(pathspec_match)
             }
         }
     }
 }
 
 /// Whether a kind is that of a directory that may be walked.
-fn is_open(kind: Option<Kind>, in_repository: bool) -> bool
-    ensures { result ≡ is_open kind in_repository }
+fn is_walkable_kind(kind: Option<Kind>, in_repository: bool) -> bool
+    ensures { result ≡ is_walkable_kind kind in_repository }
 {
     match kind {
         Some(Kind::Directory) => true,
@@ -176,8 +176,8 @@ fn is_open(kind: Option<Kind>, in_repository: bool) -> bool
 }
 
 /// Whether a path spec names a path, or what lies beneath it.
-fn is_named(found: Option<PathspecMatch>) -> bool
-    ensures { result ≡ is_named found }
+fn is_matched_by_specific_spec(found: Option<PathspecMatch>) -> bool
+    ensures { result ≡ is_matched_by_specific_spec found }
 {
     match found {
         None | Some(PathspecMatch::Always) | Some(PathspecMatch::Excluded) => false,
@@ -198,8 +198,8 @@ pub(crate) fn is_dir(kind: Option<Kind>) -> Option<bool>
 }
 
 /// Whether a node that may be there holds names.
-pub fn holds_names(kind: Option<Kind>) -> bool
-    ensures { result ≡ holds_names kind }
+pub fn is_some_directory_kind(kind: Option<Kind>) -> bool
+    ensures { result ≡ is_some_directory_kind kind }
 {
     match kind {
         None => false,
@@ -242,9 +242,9 @@ impl From<MatchKind> for PathspecMatch {
 /// A spec that excludes matches as such.
 impl From<Match> for PathspecMatch {
     ghost use Rattle.std.specs.Prelude.{◌≡◌};
-    ghost use Rattle.dir_classify.specs.Kinds.{from_match};
+    ghost use Rattle.dir_classify.specs.Kinds.{pathspec_match_from_match};
 
-    ghost from_gives = { λ found how. how ≡ from_match found };
+    ghost from_gives = { λ found how. how ≡ pathspec_match_from_match found };
 
     fn from(found: Match) -> PathspecMatch {
         if found.is_excluded() {
@@ -321,7 +321,7 @@ impl EntryRef<'_> {
     ///
     /// - `OutOfMemory`: memory was refused.
     pub fn to_owned(&self, alloc: Global) -> Result<Entry, OutOfMemory>
-        ensures { IfOk result (λ entry. entry ≡ entry_of self.now) }
+        ensures { IfOk result (λ entry. entry ≡ owned_entry_of_ref self.now) }
     {
         Ok(Entry {
             rela_path: PathText::from_bytes(alloc, self.rela_path)?,
@@ -340,7 +340,7 @@ impl EntryRef<'_> {
     ///
     /// - `OutOfMemory`: memory was refused.
     pub fn into_owned(self, alloc: Global) -> Result<Entry, OutOfMemory>
-        ensures { IfOk result (λ entry. entry ≡ entry_of self.entry) }
+        ensures { IfOk result (λ entry. entry ≡ owned_entry_of_ref self.entry) }
     {
         self.to_owned(alloc)
     }
@@ -349,7 +349,7 @@ impl EntryRef<'_> {
 impl Entry {
     /// The same entry over this one's path.
     pub fn to_ref(&self) -> EntryRef<'_>
-        ensures { entry_of result ≡ self.now }
+        ensures { owned_entry_of_ref result ≡ self.now }
     {
         EntryRef {
             rela_path: self.rela_path.as_bytes(),
@@ -364,15 +364,15 @@ impl Entry {
 }
 
 /// Whether a kind is that of a repository.
-pub fn is_repository(kind: Option<Kind>) -> bool
-    ensures { result ≡ is_repository kind }
+pub fn is_repository_kind(kind: Option<Kind>) -> bool
+    ensures { result ≡ is_repository_kind kind }
 {
     matches!(kind, Some(Kind::Repository))
 }
 
 /// The entry of a path with its class, over the path.
-pub fn entry_over<'a>(path: &'a [u8], class: &Outcome) -> EntryRef<'a>
-    ensures { entry_of result ≡ entry_at path.now class.now }
+pub fn entry_ref_with_outcome<'a>(path: &'a [u8], class: &Outcome) -> EntryRef<'a>
+    ensures { owned_entry_of_ref result ≡ entry_with_outcome path.now class.now }
 {
     EntryRef {
         rela_path: path,

@@ -99,9 +99,9 @@ impl From<OutOfMemory> for Error {
 
 impl From<AtPathError> for Error {
     ghost use Rattle.std.specs.Prelude.{◌≡◌};
-    ghost use Rattle.dir_classify.specs.Refused.{access_error};
+    ghost use Rattle.dir_classify.specs.Refused.{error_from_lookup_error};
 
-    ghost from_gives = { λ refused error. error ≡ access_error refused };
+    ghost from_gives = { λ refused error. error ≡ error_from_lookup_error refused };
 
     fn from(refused: AtPathError) -> Error {
         match refused {

@@ -1,6 +1,6 @@
 //! What the index says of a path, in the words of classes.
 ghost use Rattle.std.specs.Prelude.{◌≡◌, ◌&&◌, is_some};
-ghost use Rattle.dir_classify.specs.Layers.{in_index, from_index_kinds, not_indexed, IsLookupIf, IsNameInIndexDirectory};
+ghost use Rattle.dir_classify.specs.Layers.{index_kinds_at_path, from_index_kinds, nothing_in_index, IsLookupOfIndexIfGiven, IsNameInIndexDirectory};
 
 use crate::entry::{Kind, Property};
 use gitbase_core::{AccelerateLookup, Beneath, IndexKinds, State};
@@ -27,8 +27,8 @@ const NOT_INDEXED: InIndex = InIndex {
 /// where a look-up for that is given and asked for; it says nothing of the root itself.
 ///
 /// With regard to case it is searched as a name in a directory, among the entries beneath that.
-#[tactic(auto, unfolding(crate::specs::Layers::in_index))]
-pub(crate) fn in_index(
+#[tactic(auto, unfolding(crate::specs::Layers::index_kinds_at_path))]
+pub(crate) fn index_kinds_at_path(
     index: &State,
     lookup: &Option<AccelerateLookup>,
     ignore_case: bool,
@@ -36,9 +36,9 @@ pub(crate) fn in_index(
     name: &[u8],
     beneath: &Beneath<'_>,
 ) -> InIndex
-    requires lookup { IsLookupIf index.now lookup.now }
+    requires lookup { IsLookupOfIndexIfGiven index.now lookup.now }
     requires seen { IsNameInIndexDirectory index.now path.now name.now beneath.now }
-    ensures { result ≡ in_index (ignore_case && is_some lookup.now) index.now path.now }
+    ensures { result ≡ index_kinds_at_path (ignore_case && is_some lookup.now) index.now path.now }
 {
     if path.is_empty() {
         return NOT_INDEXED;
@@ -46,7 +46,7 @@ pub(crate) fn in_index(
     match lookup {
         Some(lookup) => {
             if ignore_case {
-                return from_index_kinds(index.kinds_icase(path, lookup));
+                return from_index_kinds(index.index_kinds_of_path_icase(path, lookup));
             }
             from_index_kinds(beneath.kinds(name))
         }

@@ -3,11 +3,11 @@
 ghost use Rattle.std.specs.Prelude.{◌≡◌, is_some};
 ghost use Rattle.std.specs.List.{list_any};
 ghost use Rattle.std.specs.Str.{bytes_eq};
-ghost use Rattle.gitbase_core.specs.Path.{lies_beneath};
-ghost use Rattle.dir_classify.specs.Chosen.{chosen, finds_repositories, finds_bare_repositories, may_hide_repositories};
-ghost use Rattle.dir_classify.specs.Class.{is_worktree, has_worktree_beneath};
+ghost use Rattle.gitbase_core.specs.Path.{is_beneath_directory};
+ghost use Rattle.dir_classify.specs.Chosen.{walk_options_of, finds_repositories_in_ignored, finds_bare_repositories_in_ignored, ignored_may_hide_repositories};
+ghost use Rattle.dir_classify.specs.Class.{is_in_worktree_set, has_worktree_beneath};
 
-use gitbase_core::{PathText, lies_beneath};
+use gitbase_core::{PathText, is_beneath_directory};
 use std::alloc::Global;
 use std::collections::BTreeSet;
 
@@ -91,24 +91,24 @@ pub struct Options<'a> {
 }
 
 /// Whether a path is one of the worktree set.
-#[tactic(auto, unfolding(crate::specs::Chosen::chosen))]
-pub(crate) fn is_worktree(alloc: Global, options: &Options<'_>, path: &[u8]) -> bool
-    ensures { result ≡ is_worktree (chosen options.now) path.now }
+#[tactic(auto, unfolding(crate::specs::Chosen::walk_options_of))]
+pub(crate) fn is_in_worktree_set(alloc: Global, options: &Options<'_>, path: &[u8]) -> bool
+    ensures { result ≡ is_in_worktree_set (walk_options_of options.now) path.now }
 {
     match options.worktree_relative_worktree_dirs {
         None => false,
-        Some(dirs) => has_path(alloc, dirs, path),
+        Some(dirs) => set_contains_path(alloc, dirs, path),
     }
 }
 
 /// Whether one of the worktree set lies beneath a path.
-#[tactic(auto, unfolding(crate::specs::Chosen::chosen))]
+#[tactic(auto, unfolding(crate::specs::Chosen::walk_options_of))]
 pub(crate) fn has_worktree_beneath(options: &Options<'_>, path: &[u8]) -> bool
-    ensures { result ≡ has_worktree_beneath (chosen options.now) path.now }
+    ensures { result ≡ has_worktree_beneath (walk_options_of options.now) path.now }
 {
     match options.worktree_relative_worktree_dirs {
         None => false,
-        Some(dirs) => has_beneath(dirs, path),
+        Some(dirs) => set_has_path_beneath(dirs, path),
     }
 }
 
@@ -117,7 +117,7 @@ pub(crate) fn has_worktree_beneath(options: &Options<'_>, path: &[u8]) -> bool
 ///
 /// See docs/DECISIONS.md#slower-without-memory.
 /// See docs/DIFFERENCES.md#gix-worktree-set.
-fn has_path(alloc: Global, dirs: &BTreeSet<PathText>, path: &[u8]) -> bool
+fn set_contains_path(alloc: Global, dirs: &BTreeSet<PathText>, path: &[u8]) -> bool
     ensures { result ≡ list_any (bytes_eq path.now) dirs.now.keys }
 {
     let count = dirs.len();
@@ -145,23 +145,24 @@ fn contains_by_scan(dirs: &BTreeSet<PathText>, path: &[u8]) -> bool
 }
 
 /// Whether one of a set lies beneath a path: the set is passed over up to the first that does.
-fn has_beneath(dirs: &BTreeSet<PathText>, path: &[u8]) -> bool
-    ensures { result ≡ list_any (lies_beneath path.now) dirs.now.keys }
+fn set_has_path_beneath(dirs: &BTreeSet<PathText>, path: &[u8]) -> bool
+    ensures { result ≡ list_any (is_beneath_directory path.now) dirs.now.keys }
 {
-    dirs.iter().any(|dir| lies_beneath(path, dir.as_bytes()))
+    dirs.iter()
+        .any(|dir| is_beneath_directory(path, dir.as_bytes()))
 }
 
 /// Whether the entries are to be deleted.
-#[tactic(auto, unfolding(crate::specs::Chosen::chosen))]
-pub(crate) fn is_deleting(options: &Options<'_>) -> bool
-    ensures { result ≡ is_some (chosen options.now).for_deletion }
+#[tactic(auto, unfolding(crate::specs::Chosen::walk_options_of))]
+pub(crate) fn is_for_deletion(options: &Options<'_>) -> bool
+    ensures { result ≡ is_some (walk_options_of options.now).for_deletion }
 {
     options.for_deletion.is_some()
 }
 
 /// Whether deletion looks for repositories in ignored directories.
-pub(crate) fn finds_repositories(mode: Option<ForDeletionMode>) -> bool
-    ensures { result ≡ finds_repositories mode }
+pub(crate) fn finds_repositories_in_ignored(mode: Option<ForDeletionMode>) -> bool
+    ensures { result ≡ finds_repositories_in_ignored mode }
 {
     match mode {
         None | Some(ForDeletionMode::IgnoredDirectoriesCanHideNestedRepositories) => false,
@@ -171,8 +172,8 @@ pub(crate) fn finds_repositories(mode: Option<ForDeletionMode>) -> bool
 }
 
 /// Whether it looks for bare ones too.
-pub(crate) fn finds_bare_repositories(mode: Option<ForDeletionMode>) -> bool
-    ensures { result ≡ finds_bare_repositories mode }
+pub(crate) fn finds_bare_repositories_in_ignored(mode: Option<ForDeletionMode>) -> bool
+    ensures { result ≡ finds_bare_repositories_in_ignored mode }
 {
     match mode {
         None | Some(ForDeletionMode::IgnoredDirectoriesCanHideNestedRepositories) => false,
@@ -182,8 +183,8 @@ pub(crate) fn finds_bare_repositories(mode: Option<ForDeletionMode>) -> bool
 }
 
 /// Whether deletion does not look into ignored directories.
-pub fn may_hide_repositories(mode: Option<ForDeletionMode>) -> bool
-    ensures { result ≡ may_hide_repositories mode }
+pub fn ignored_may_hide_repositories(mode: Option<ForDeletionMode>) -> bool
+    ensures { result ≡ ignored_may_hide_repositories mode }
 {
     match mode {
         Some(ForDeletionMode::IgnoredDirectoriesCanHideNestedRepositories) => true,

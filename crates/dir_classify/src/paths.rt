@@ -1,6 +1,6 @@
 //! Paths below the worktree root.
 ghost use Rattle.std.specs.Prelude.{◌≡◌, IfOk};
-ghost use Rattle.dir_classify.specs.Paths.{full_path};
+ghost use Rattle.dir_classify.specs.Paths.{root_joined_with_relative};
 
 use gitbase_core::{OutOfMemory, PathText};
 use std::alloc::Global;
@@ -11,8 +11,12 @@ use std::alloc::Global;
 /// # Errors
 ///
 /// - `OutOfMemory`: memory was refused.
-pub fn full_path(alloc: Global, worktree_root: &[u8], path: &[u8]) -> Result<PathText, OutOfMemory>
-    ensures { IfOk result (λ full. full ≡ full_path worktree_root.now path.now) }
+pub fn join_worktree_root(
+    alloc: Global,
+    worktree_root: &[u8],
+    path: &[u8],
+) -> Result<PathText, OutOfMemory>
+    ensures { IfOk result (λ full. full ≡ root_joined_with_relative worktree_root.now path.now) }
 {
     let mut full = PathText::from_bytes(alloc, worktree_root)?;
     if !path.is_empty() {

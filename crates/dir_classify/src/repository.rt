@@ -1,14 +1,14 @@
 //! Whether a path leads to a repository of its own.
 ghost use Rattle.std.specs.Prelude.{◌≡◌, ◌≤◌, ◌+◌, ◌⊎◌, ◌&&◌, if◌then◌else◌, true, false, Some, None, IfOk};
-ghost use Rattle.gitbase_core.specs.Path.{joined};
+ghost use Rattle.gitbase_core.specs.Path.{path_joined_with_slash};
 ghost use Rattle.worktree_fs.specs.Tree.{Names};
-ghost use Rattle.worktree_fs.specs.Causes.{NotIncreased};
-ghost use Rattle.worktree_fs.specs.Kept.{Asks};
-ghost use Rattle.dir_classify.specs.Class.{upgraded, dot_git};
-ghost use Rattle.dir_classify.specs.Evidence.{is_foreign};
-ghost use Rattle.dir_classify.specs.Faults.{IsSeenAs, IsTested};
-ghost use Rattle.dir_classify.specs.Layers.{git_at};
-ghost use Rattle.dir_classify.specs.Reads.{most_upgraded};
+ghost use Rattle.worktree_fs.specs.Causes.{CountNotIncreased};
+ghost use Rattle.worktree_fs.specs.Kept.{KeepsTreeAndListCounts};
+ghost use Rattle.dir_classify.specs.Class.{kind_after_repository_test, dot_git_bytes};
+ghost use Rattle.dir_classify.specs.Evidence.{is_foreign_repository};
+ghost use Rattle.dir_classify.specs.Faults.{IsKindTestedAsRead, IsRepositoryTestAsRead};
+ghost use Rattle.dir_classify.specs.Layers.{repository_test_of_path};
+ghost use Rattle.dir_classify.specs.Reads.{most_reads_of_repository_test};
 
 use crate::entry::Kind;
 use gitbase_core::{OutOfMemory, PathText};
@@ -45,20 +45,22 @@ pub fn maybe_upgrade_to_repository<W: Worktree>(
     current_dir: &[u8],
     git_dir_realpath: &[u8],
 ) -> Result<Option<Kind>, OutOfMemory>
-    ensures kind { (t : Names) → W.told worktree.old ≡ Some t
-        → NotIncreased (W.faults worktree.old) (W.faults worktree.new)
-        → IfOk result (λ kind. kind ≡ upgraded recurse_repositories find_harder current_kind
-        (git_at t current_dir.now git_dir_realpath.now path.now)
-        (git_at t current_dir.now git_dir_realpath.now (joined path.now dot_git))) }
+    ensures kind { (t : Names) → W.told worktree.old ≡ Some t → CountNotIncreased
+        (W.faults worktree.old) (W.faults worktree.new) → IfOk result (λ kind. kind
+        ≡ kind_after_repository_test recurse_repositories find_harder current_kind
+        (repository_test_of_path t current_dir.now git_dir_realpath.now path.now)
+        (repository_test_of_path t current_dir.now git_dir_realpath.now (path_joined_with_slash
+        path.now dot_git_bytes))) }
     ensures swallowed { (t : Names) → W.told worktree.old ≡ Some t
-        → IfOk result (IsSeenAs (W.faults worktree.old) (W.faults worktree.new)
-        (upgraded recurse_repositories find_harder current_kind)
-        (git_at t current_dir.now git_dir_realpath.now path.now)
-        (git_at t current_dir.now git_dir_realpath.now (joined path.now dot_git))) }
+        → IfOk result (IsKindTestedAsRead (W.faults worktree.old) (W.faults worktree.new)
+        (kind_after_repository_test recurse_repositories find_harder current_kind)
+        (repository_test_of_path t current_dir.now git_dir_realpath.now path.now)
+        (repository_test_of_path t current_dir.now git_dir_realpath.now (path_joined_with_slash
+        path.now dot_git_bytes))) }
     ensures either { IfOk result (λ kind. (kind ≡ current_kind) ⊎ (kind ≡ Some Kind.Repository)) }
-    ensures keeps { Asks W.Worktree worktree.old worktree.new }
+    ensures keeps { KeepsTreeAndListCounts W.Worktree worktree.old worktree.new }
     ensures reads_most { W.reads worktree.new
-        ≤ W.reads worktree.old + most_upgraded recurse_repositories find_harder }
+        ≤ W.reads worktree.old + most_reads_of_repository_test recurse_repositories find_harder }
     ensures unasked { recurse_repositories ≡ true → worktree.new ≡ worktree.old }
     ensures same_kind { recurse_repositories ≡ true
         → IfOk result (λ kind. kind ≡ current_kind) }
@@ -66,7 +68,7 @@ pub fn maybe_upgrade_to_repository<W: Worktree>(
     if recurse_repositories {
         return Ok(current_kind);
     }
-    if is_foreign_if(
+    if is_foreign_repository_if_asked(
         alloc,
         find_harder,
         worktree,
@@ -78,7 +80,7 @@ pub fn maybe_upgrade_to_repository<W: Worktree>(
     }
     let mut git = PathText::from_bytes(alloc, path)?;
     git.push_component(alloc, b".git")?;
-    if is_foreign(
+    if is_foreign_repository(
         alloc,
         worktree,
         git.as_bytes(),
@@ -92,7 +94,7 @@ pub fn maybe_upgrade_to_repository<W: Worktree>(
 
 /// Whether a path leads to a repository other than that of the worktree, if that is asked; false if
 /// it is not.
-fn is_foreign_if<W: Worktree>(
+fn is_foreign_repository_if_asked<W: Worktree>(
     alloc: Global,
     asked: bool,
     worktree: &mut W,
@@ -101,25 +103,25 @@ fn is_foreign_if<W: Worktree>(
     git_dir_realpath: &[u8],
 ) -> Result<bool, OutOfMemory>
     ensures foreign { (t : Names) → W.told worktree.old ≡ Some t
-        → NotIncreased (W.faults worktree.old) (W.faults worktree.new)
-        → IfOk result (λ is. is ≡ (asked && is_foreign
-        (git_at t current_dir.now git_dir_realpath.now path.now))) }
+        → CountNotIncreased (W.faults worktree.old) (W.faults worktree.new)
+        → IfOk result (λ is. is ≡ (asked && is_foreign_repository
+        (repository_test_of_path t current_dir.now git_dir_realpath.now path.now))) }
     ensures swallowed { (t : Names) → W.told worktree.old ≡ Some t
-        → IfOk result (IsTested (W.faults worktree.old) (W.faults worktree.new)
-        (λ at. asked && is_foreign at)
-        (git_at t current_dir.now git_dir_realpath.now path.now)) }
-    ensures keeps { Asks W.Worktree worktree.old worktree.new }
+        → IfOk result (IsRepositoryTestAsRead (W.faults worktree.old) (W.faults worktree.new)
+        (λ at. asked && is_foreign_repository at)
+        (repository_test_of_path t current_dir.now git_dir_realpath.now path.now)) }
+    ensures keeps { KeepsTreeAndListCounts W.Worktree worktree.old worktree.new }
     ensures reads_most { W.reads worktree.new ≤ W.reads worktree.old + (if asked then 3 else 0) }
 {
     if !asked {
         return Ok(false);
     }
-    let is_foreign = is_foreign(alloc, worktree, path, current_dir, git_dir_realpath)?;
+    let is_foreign = is_foreign_repository(alloc, worktree, path, current_dir, git_dir_realpath)?;
     Ok(is_foreign)
 }
 
 /// Whether a path leads to a repository other than that of the worktree.
-fn is_foreign<W: Worktree>(
+fn is_foreign_repository<W: Worktree>(
     alloc: Global,
     worktree: &mut W,
     path: &[u8],
@@ -127,13 +129,14 @@ fn is_foreign<W: Worktree>(
     git_dir_realpath: &[u8],
 ) -> Result<bool, OutOfMemory>
     ensures foreign { (t : Names) → W.told worktree.old ≡ Some t
-        → NotIncreased (W.faults worktree.old) (W.faults worktree.new)
-        → IfOk result (λ is. is ≡ is_foreign
-        (git_at t current_dir.now git_dir_realpath.now path.now)) }
+        → CountNotIncreased (W.faults worktree.old) (W.faults worktree.new)
+        → IfOk result (λ is. is ≡ is_foreign_repository
+        (repository_test_of_path t current_dir.now git_dir_realpath.now path.now)) }
     ensures swallowed { (t : Names) → W.told worktree.old ≡ Some t
-        → IfOk result (IsTested (W.faults worktree.old) (W.faults worktree.new) is_foreign
-        (git_at t current_dir.now git_dir_realpath.now path.now)) }
-    ensures keeps { Asks W.Worktree worktree.old worktree.new }
+        → IfOk result (IsRepositoryTestAsRead (W.faults worktree.old) (W.faults worktree.new)
+        is_foreign_repository (repository_test_of_path t current_dir.now git_dir_realpath.now
+        path.now)) }
+    ensures keeps { KeepsTreeAndListCounts W.Worktree worktree.old worktree.new }
     ensures reads_most { W.reads worktree.new ≤ W.reads worktree.old + 3 }
 {
     if !is_git(alloc, worktree, path)? {

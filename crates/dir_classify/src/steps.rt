@@ -1,34 +1,35 @@
 //! The steps to the class of a path: which case fits, and what is asked for it.
 ghost use Rattle.std.specs.Prelude.{◌≡◌, ◌⊎◌, ◌&&◌, if◌then◌else◌, not, Bool, true, false, Option, Some, None, IfOk, IfErr, OnOk, is_some};
 ghost use Rattle.gitbase_core.specs.Path.{components, is_empty};
-ghost use Rattle.worktree_fs.specs.Causes.{NotIncreased, Increased};
-ghost use Rattle.worktree_fs.specs.Kept.{Asks, AsksStore};
-ghost use Rattle.worktree_fs.specs.Paths.{full_path, is_normal, spelled};
+ghost use Rattle.worktree_fs.specs.Causes.{CountNotIncreased, CountIncreasedOrSaturated};
+ghost use Rattle.worktree_fs.specs.Kept.{KeepsTreeAndListCounts, KeepsStoredObjects};
+ghost use Rattle.worktree_fs.specs.Paths.{root_joined_with_relative, is_relative_without_dots, slash_joined_components};
 ghost use Rattle.worktree_fs.specs.Tree.{Names};
-ghost use Rattle.worktree_stack.specs.Reading.{Sources};
-ghost use Rattle.dir_classify.specs.Chosen.{chosen};
-ghost use Rattle.dir_classify.specs.Class.{is_kind_known, ruled_by, ruling_of};
-ghost use Rattle.dir_classify.specs.Classes.{Classes, Judges};
-ghost use Rattle.dir_classify.specs.Evidence.{no_ruling};
-ghost use Rattle.dir_classify.specs.Excludes.{made_with, maps_blobs, tells_excludes, TellsIf, InStepIf};
-ghost use Rattle.dir_classify.specs.Faults.{IsRuled};
-ghost use Rattle.dir_classify.specs.Kept.{AsksRules, KeepsRules, AsksAtMost, AreUntouched};
+ghost use Rattle.worktree_stack.specs.Reading.{TreeAndObjects};
+ghost use Rattle.dir_classify.specs.Chosen.{walk_options_of};
+ghost use Rattle.dir_classify.specs.Class.{is_kind_known_without_disk, is_dir_following_symlink, ruling_unless_worktree_root};
+ghost use Rattle.dir_classify.specs.Classes.{ClassifiesPath, AnswersClassQuestion};
+ghost use Rattle.dir_classify.specs.Evidence.{ruling_without_rule};
+ghost use Rattle.dir_classify.specs.Excludes.{setup_of_optional_stack, maps_rules_files_to_blobs, has_excludes_if_given, TellsTreeAndObjects, IsStackInStepIfGiven};
+ghost use Rattle.dir_classify.specs.Faults.{IsRulingAsRead};
+ghost use Rattle.dir_classify.specs.Kept.{AsksWorktreeForRules, KeepsRulesInStep, AsksRulesAtMostOnce, LeavesAllUnchanged};
 ghost use Rattle.std.specs.Option.{option_or};
-ghost use Rattle.dir_classify.specs.Layers.{setting_of, evidence, kind_at, look_up_in_index, is_unread_in, IsLookupIf, IsNameInIndexDirectory};
-ghost use Rattle.dir_classify.specs.Question.{about_dot_git, about_kind};
-ghost use Rattle.dir_classify.specs.Refused.{IsAbout, Refuses, OnAccess, OnFault, OnLookup, StopsIf};
+ghost use Rattle.dir_classify.specs.Layers.{setting_of_shared, evidence_from_setting_and_sources, kind_of_node_at, index_kinds_by_setting, is_some_rules_file_unread, IsLookupOfIndexIfGiven, IsNameInIndexDirectory};
+ghost use Rattle.dir_classify.specs.Question.{question_about_dot_git, question_about_known_kind};
+ghost use Rattle.dir_classify.specs.Refused.{IsClassErrorAboutPath, IsErrorOfUnreadableRules, HoldsIfExcludesError, HoldsIfFaultError, HoldsOfExcludesError, StopsAtRefusedDirectoryIfGiven};
 
 use crate::cases::{
-    class_dot_git, class_unmatched, class_worktree, index_agrees_with_disk, is_named_dot_git,
+    index_and_disk_agree_on_directory, is_dot_git_by_options, outcome_of_dot_git,
+    outcome_of_linked_worktree, outcome_without_possible_match,
 };
 use crate::classify::Outcome;
 use crate::context::Shared;
 use crate::entry::{Kind, is_dir};
 use crate::error::Error;
-use crate::excludes::{Ruling, ruling_of};
-use crate::index::{InIndex, in_index};
-use crate::options::{is_deleting, is_worktree};
-use crate::repository_cases::{of_indexed, of_unindexed};
+use crate::excludes::{Ruling, ruling_of_optional_stack};
+use crate::index::{InIndex, index_kinds_at_path};
+use crate::options::{is_for_deletion, is_in_worktree_set};
+use crate::repository_cases::{classify_indexed_path, classify_unindexed_path};
 use gitbase_core::{Beneath, Find, OutOfMemory};
 use glob_rules::pathspec::Matcher;
 use std::alloc::Global;
@@ -49,8 +50,8 @@ use worktree_stack::Stack;
 /// - `ExcludesAccess`: the rules of a directory above the path were asked, and were not read, as
 ///   [`crate::classify::path`] says it.
 /// - `OutOfMemory`: memory was refused.
-#[tactic(auto, unfolding(crate::specs::Class::class, crate::specs::Class::asks, crate::specs::Class::seeks, crate::specs::Class::asks_nothing, crate::specs::Layers::evidence))]
-pub fn classify_in_directory<W: Worktree, F: Find, M: Matcher>(
+#[tactic(auto, unfolding(crate::specs::Class::class, crate::specs::Class::asks_ignore_rules, crate::specs::Class::tests_path_for_repository, crate::specs::Class::asks_nothing_of_worktree, crate::specs::Layers::evidence_from_setting_and_sources))]
+pub fn classify_name_in_directory<W: Worktree, F: Find, M: Matcher>(
     alloc: Global,
     full: &[u8],
     rela_path: &[u8],
@@ -63,18 +64,20 @@ pub fn classify_in_directory<W: Worktree, F: Find, M: Matcher>(
     worktree: &mut W,
     objects: &mut F,
 ) -> Result<Outcome, Error>
-    requires full { full.now ≡ full_path shared.now.worktree_root.now rela_path.now }
-    requires normal { is_normal rela_path.now ≡ true }
-    requires spelled { rela_path.now ≡ spelled (components rela_path.now) }
-    requires lookup { IsLookupIf shared.now.index.now shared.now.ignore_case_index_lookup.now }
+    requires full { full.now ≡ root_joined_with_relative shared.now.worktree_root.now
+        rela_path.now }
+    requires normal { is_relative_without_dots rela_path.now ≡ true }
+    requires spelled { rela_path.now ≡ slash_joined_components (components rela_path.now) }
+    requires lookup { IsLookupOfIndexIfGiven shared.now.index.now
+        shared.now.ignore_case_index_lookup.now }
     requires seen { IsNameInIndexDirectory shared.now.index.now rela_path.now name.now beneath.now }
-    requires excludes { tells_excludes (made_with excludes.old) ≡ true }
-    ensures { Classes W.Worktree F.Find worktree.old worktree.new objects.old objects.new
-        excludes.old excludes.new (setting_of M.Matcher shared.now) rela_path.now disk_kind ask_disk
-        result }
+    requires excludes { has_excludes_if_given (setup_of_optional_stack excludes.old) ≡ true }
+    ensures { ClassifiesPath W.Worktree F.Find worktree.old worktree.new objects.old objects.new
+        excludes.old excludes.new (setting_of_shared M.Matcher shared.now) rela_path.now disk_kind
+        ask_disk result }
 {
-    if is_named_dot_git(&shared.options, rela_path) {
-        let class = of_dot_git(
+    if is_dot_git_by_options(&shared.options, rela_path) {
+        let class = classify_dot_git(
             alloc, rela_path, disk_kind, shared, excludes, worktree, objects,
         )?;
         return Ok(class);
@@ -83,11 +86,18 @@ pub fn classify_in_directory<W: Worktree, F: Find, M: Matcher>(
         .pathspec
         .can_match_relative_path(rela_path, is_dir(disk_kind))
     {
-        return Ok(class_unmatched(disk_kind));
+        return Ok(outcome_without_possible_match(disk_kind));
     }
-    let entry = look_up_in_index(shared, rela_path, name, beneath);
-    let kind = settled_kind(alloc, full, entry.up_to_date, disk_kind, ask_disk, worktree)?;
-    let class = classify_with_kind(
+    let entry = index_kinds_by_options(shared, rela_path, name, beneath);
+    let kind = kind_by_index_caller_or_disk(
+        alloc,
+        full,
+        entry.up_to_date,
+        disk_kind,
+        ask_disk,
+        worktree,
+    )?;
+    let class = classify_path_of_known_kind(
         alloc, full, rela_path, entry, kind, shared, excludes, worktree, objects,
     )?;
     Ok(class)
@@ -95,7 +105,7 @@ pub fn classify_in_directory<W: Worktree, F: Find, M: Matcher>(
 
 /// The class of a path named `.git`: the rules are asked in deletion alone.
 /// See docs/DECISIONS.md#dot-git-in-deletion.
-fn of_dot_git<W: Worktree, F: Find, M: Matcher>(
+fn classify_dot_git<W: Worktree, F: Find, M: Matcher>(
     alloc: Global,
     rela_path: &[u8],
     disk_kind: Option<Kind>,
@@ -104,23 +114,24 @@ fn of_dot_git<W: Worktree, F: Find, M: Matcher>(
     worktree: &mut W,
     objects: &mut F,
 ) -> Result<Outcome, Error>
-    requires normal { is_normal rela_path.now ≡ true }
-    requires excludes { tells_excludes (made_with excludes.old) ≡ true }
-    ensures { (ask_disk : Bool) → Judges W.Worktree F.Find worktree.old worktree.new objects.old
-        objects.new excludes.old excludes.new (setting_of M.Matcher shared.now)
-        (about_dot_git (chosen shared.now.options) rela_path.now disk_kind ask_disk) result }
+    requires normal { is_relative_without_dots rela_path.now ≡ true }
+    requires excludes { has_excludes_if_given (setup_of_optional_stack excludes.old) ≡ true }
+    ensures { (ask_disk : Bool) → AnswersClassQuestion W.Worktree F.Find worktree.old worktree.new
+        objects.old objects.new excludes.old excludes.new (setting_of_shared M.Matcher shared.now)
+        (question_about_dot_git (walk_options_of shared.now.options) rela_path.now disk_kind
+        ask_disk) result }
 {
-    if !is_deleting(&shared.options) {
-        return Ok(class_dot_git(shared, rela_path, disk_kind, Ruling::NONE));
+    if !is_for_deletion(&shared.options) {
+        return Ok(outcome_of_dot_git(shared, rela_path, disk_kind, Ruling::NONE));
     }
     let is_dir = is_dir(disk_kind);
-    let ruling = ruling_of(alloc, rela_path, is_dir, excludes, worktree, objects)?;
-    Ok(class_dot_git(shared, rela_path, disk_kind, ruling))
+    let ruling = ruling_of_optional_stack(alloc, rela_path, is_dir, excludes, worktree, objects)?;
+    Ok(outcome_of_dot_git(shared, rela_path, disk_kind, ruling))
 }
 
 /// The class of a path whose kind is settled: in the worktree set, in the index, or by the rules.
-#[tactic(auto, unfolding(crate::specs::Layers::evidence))]
-fn classify_with_kind<W: Worktree, F: Find, M: Matcher>(
+#[tactic(auto, unfolding(crate::specs::Layers::evidence_from_setting_and_sources))]
+fn classify_path_of_known_kind<W: Worktree, F: Find, M: Matcher>(
     alloc: Global,
     full: &[u8],
     rela_path: &[u8],
@@ -131,33 +142,36 @@ fn classify_with_kind<W: Worktree, F: Find, M: Matcher>(
     worktree: &mut W,
     objects: &mut F,
 ) -> Result<Outcome, Error>
-    requires full { full.now ≡ full_path shared.now.worktree_root.now rela_path.now }
-    requires normal { is_normal rela_path.now ≡ true }
-    requires entry { entry ≡ look_up_in_index (setting_of M.Matcher shared.now) rela_path.now }
-    requires excludes { tells_excludes (made_with excludes.old) ≡ true }
-    ensures { (ask_disk : Bool) → Judges W.Worktree F.Find worktree.old worktree.new objects.old
-        objects.new excludes.old excludes.new (setting_of M.Matcher shared.now)
-        (about_kind (chosen shared.now.options) rela_path.now kind ask_disk) result }
+    requires full { full.now ≡ root_joined_with_relative shared.now.worktree_root.now
+        rela_path.now }
+    requires normal { is_relative_without_dots rela_path.now ≡ true }
+    requires entry { entry ≡ index_kinds_by_setting (setting_of_shared M.Matcher shared.now)
+        rela_path.now }
+    requires excludes { has_excludes_if_given (setup_of_optional_stack excludes.old) ≡ true }
+    ensures { (ask_disk : Bool) → AnswersClassQuestion W.Worktree F.Find worktree.old worktree.new
+        objects.old objects.new excludes.old excludes.new (setting_of_shared M.Matcher shared.now)
+        (question_about_known_kind (walk_options_of shared.now.options) rela_path.now kind ask_disk)
+        result }
 {
-    if is_worktree(alloc, &shared.options, rela_path) {
-        return Ok(class_worktree(shared, rela_path, kind));
+    if is_in_worktree_set(alloc, &shared.options, rela_path) {
+        return Ok(outcome_of_linked_worktree(shared, rela_path, kind));
     }
-    if index_agrees_with_disk(entry, kind) {
-        let class = of_indexed(alloc, full, rela_path, entry, kind, shared, worktree)?;
+    if index_and_disk_agree_on_directory(entry, kind) {
+        let class = classify_indexed_path(alloc, full, rela_path, entry, kind, shared, worktree)?;
         return Ok(class);
     }
-    let ruling = ruling_at(
+    let ruling = ruling_unless_worktree_root(
         alloc, full, rela_path, kind, shared, excludes, worktree, objects,
     )?;
-    let class = of_unindexed(
+    let class = classify_unindexed_path(
         alloc, full, rela_path, entry, kind, ruling, shared, worktree,
     )?;
     Ok(class)
 }
 
 /// What the rules say of a path; none are asked of the worktree root.
-#[tactic(auto, unfolding(crate::specs::Layers::evidence))]
-fn ruling_at<W: Worktree, F: Find, M: Matcher>(
+#[tactic(auto, unfolding(crate::specs::Layers::evidence_from_setting_and_sources))]
+fn ruling_unless_worktree_root<W: Worktree, F: Find, M: Matcher>(
     alloc: Global,
     full: &[u8],
     rela_path: &[u8],
@@ -167,61 +181,69 @@ fn ruling_at<W: Worktree, F: Find, M: Matcher>(
     worktree: &mut W,
     objects: &mut F,
 ) -> Result<Ruling, Error>
-    requires full { full.now ≡ full_path shared.now.worktree_root.now rela_path.now }
-    requires normal { is_normal rela_path.now ≡ true }
-    requires excludes { tells_excludes (made_with excludes.old) ≡ true }
-    ensures ruling { (s : Sources) → TellsIf (W.told worktree.old) (F.holds objects.old)
-        (made_with excludes.old) s → InStepIf s excludes.old
-        → NotIncreased (W.faults worktree.old) (W.faults worktree.new)
-        → IfOk result (λ r. r ≡ ruling_of (chosen shared.now.options)
-        (evidence (setting_of M.Matcher shared.now) (made_with excludes.old) s) rela_path.now
-        kind) }
-    ensures read { (s : Sources) → TellsIf (W.told worktree.old) (F.holds objects.old)
-        (made_with excludes.old) s → InStepIf s excludes.old
-        → OnOk result ((is_some (made_with excludes.old) && not (is_empty rela_path.now)
-        && is_unread_in (made_with excludes.old) s rela_path.now) ≡ false) }
-    ensures swallowed { (s : Sources) → TellsIf (W.told worktree.old) (F.holds objects.old)
-        (made_with excludes.old) s → InStepIf s excludes.old
-        → IfOk result (IsRuled (W.faults worktree.old) (W.faults worktree.new)
-        (λ ev. ruling_of (chosen shared.now.options) ev rela_path.now kind)
-        (evidence (setting_of M.Matcher shared.now) (made_with excludes.old) s)) }
-    ensures about { IfErr result (IsAbout (made_with excludes.old) rela_path.now) }
-    ensures refused { (s : Sources)
-        → TellsIf (W.told worktree.old) (F.holds objects.old) (made_with excludes.old) s
-        → IfErr result (Refuses s (made_with excludes.old) rela_path.now) }
-    ensures stopped { IfErr result (OnLookup (StopsIf (W.told worktree.old) (F.holds objects.old)
-        (Increased (W.faults worktree.old) (W.faults worktree.new))
-        (Increased (F.faults objects.old) (F.faults objects.new)) rela_path.now excludes.old
-        excludes.new)) }
-    ensures asked { IfErr result (OnAccess
-        ((is_some (made_with excludes.old) && not (is_empty rela_path.now)) ≡ true)) }
+    requires full { full.now ≡ root_joined_with_relative shared.now.worktree_root.now
+        rela_path.now }
+    requires normal { is_relative_without_dots rela_path.now ≡ true }
+    requires excludes { has_excludes_if_given (setup_of_optional_stack excludes.old) ≡ true }
+    ensures ruling { (s : TreeAndObjects) → TellsTreeAndObjects (W.told worktree.old)
+        (F.holds objects.old) (setup_of_optional_stack excludes.old) s → IsStackInStepIfGiven s
+        excludes.old → CountNotIncreased (W.faults worktree.old) (W.faults worktree.new)
+        → IfOk result (λ r. r ≡ ruling_unless_worktree_root (walk_options_of shared.now.options)
+        (evidence_from_setting_and_sources (setting_of_shared M.Matcher shared.now)
+        (setup_of_optional_stack excludes.old) s) rela_path.now kind) }
+    ensures read { (s : TreeAndObjects) → TellsTreeAndObjects (W.told worktree.old)
+        (F.holds objects.old) (setup_of_optional_stack excludes.old) s → IsStackInStepIfGiven s
+        excludes.old → OnOk result ((is_some (setup_of_optional_stack excludes.old) && not
+        (is_empty rela_path.now) && is_some_rules_file_unread (setup_of_optional_stack excludes.old)
+        s rela_path.now) ≡ false) }
+    ensures swallowed { (s : TreeAndObjects) → TellsTreeAndObjects (W.told worktree.old)
+        (F.holds objects.old) (setup_of_optional_stack excludes.old) s → IsStackInStepIfGiven s
+        excludes.old → IfOk result (IsRulingAsRead (W.faults worktree.old) (W.faults worktree.new)
+        (λ ev. ruling_unless_worktree_root (walk_options_of shared.now.options) ev rela_path.now
+        kind) (evidence_from_setting_and_sources (setting_of_shared M.Matcher shared.now)
+        (setup_of_optional_stack excludes.old) s)) }
+    ensures about { IfErr result (IsClassErrorAboutPath (setup_of_optional_stack excludes.old)
+        rela_path.now) }
+    ensures refused { (s : TreeAndObjects) → TellsTreeAndObjects (W.told worktree.old)
+        (F.holds objects.old) (setup_of_optional_stack excludes.old) s
+        → IfErr result (IsErrorOfUnreadableRules s (setup_of_optional_stack excludes.old)
+        rela_path.now) }
+    ensures stopped { IfErr result (HoldsOfExcludesError (StopsAtRefusedDirectoryIfGiven
+        (W.told worktree.old) (F.holds objects.old) (CountIncreasedOrSaturated
+        (W.faults worktree.old) (W.faults worktree.new)) (CountIncreasedOrSaturated
+        (F.faults objects.old) (F.faults objects.new)) rela_path.now excludes.old excludes.new)) }
+    ensures asked { IfErr result (HoldsIfExcludesError
+        ((is_some (setup_of_optional_stack excludes.old) && not (is_empty rela_path.now)) ≡ true)) }
     ensures cause { IfErr result
-        (OnFault (Increased (W.faults worktree.old) (W.faults worktree.new))
-        (Increased (F.faults objects.old) (F.faults objects.new))) }
-    ensures keeps { AsksRules W.Worktree worktree.old worktree.new }
-    ensures store { AsksStore F.Find objects.old objects.new }
-    ensures unmapped { maps_blobs (made_with excludes.old) ≡ false → objects.new ≡ objects.old }
-    ensures rules { KeepsRules W.Worktree F.Find worktree.old worktree.new objects.old excludes.old
-        excludes.new }
-    ensures reads { AsksAtMost 0 rela_path.now (W.reads worktree.old) (W.reads worktree.new)
-        objects.old objects.new excludes.old excludes.new result }
-    ensures no_rules { (is_some (made_with excludes.old) && not (is_empty rela_path.now)) ≡ false
-        → IfOk result (λ r. r ≡ no_ruling) }
-    ensures untouched { (is_some (made_with excludes.old) && not (is_empty rela_path.now)) ≡ false
-        → AreUntouched worktree.old worktree.new objects.old objects.new excludes.old excludes.new }
+        (HoldsIfFaultError (CountIncreasedOrSaturated (W.faults worktree.old)
+        (W.faults worktree.new)) (CountIncreasedOrSaturated (F.faults objects.old)
+        (F.faults objects.new))) }
+    ensures keeps { AsksWorktreeForRules W.Worktree worktree.old worktree.new }
+    ensures store { KeepsStoredObjects F.Find objects.old objects.new }
+    ensures unmapped { maps_rules_files_to_blobs (setup_of_optional_stack excludes.old) ≡ false
+        → objects.new ≡ objects.old }
+    ensures rules { KeepsRulesInStep W.Worktree F.Find worktree.old worktree.new objects.old
+        excludes.old excludes.new }
+    ensures reads { AsksRulesAtMostOnce 0 rela_path.now (W.reads worktree.old)
+        (W.reads worktree.new) objects.old objects.new excludes.old excludes.new result }
+    ensures no_rules { (is_some (setup_of_optional_stack excludes.old) && not
+        (is_empty rela_path.now)) ≡ false → IfOk result (λ r. r ≡ ruling_without_rule) }
+    ensures untouched { (is_some (setup_of_optional_stack excludes.old) && not
+        (is_empty rela_path.now)) ≡ false → LeavesAllUnchanged worktree.old worktree.new objects.old
+        objects.new excludes.old excludes.new }
 {
     if rela_path.is_empty() || excludes.is_none() {
         return Ok(Ruling::NONE);
     }
-    let is_dir = is_dir_for_rules(alloc, full, kind, shared, worktree)?;
-    let ruling = ruling_of(alloc, rela_path, is_dir, excludes, worktree, objects)?;
+    let is_dir = is_dir_for_ignore_rules(alloc, full, kind, shared, worktree)?;
+    let ruling = ruling_of_optional_stack(alloc, rela_path, is_dir, excludes, worktree, objects)?;
     Ok(ruling)
 }
 
 /// As what the rules are asked about a path: a link may count as what it leads to. A fault reads as
 /// nothing. See docs/DECISIONS.md#directory-for-rules.
-#[tactic(auto, unfolding(crate::specs::Chosen::chosen))]
-fn is_dir_for_rules<W: Worktree, M: Matcher>(
+#[tactic(auto, unfolding(crate::specs::Chosen::walk_options_of))]
+fn is_dir_for_ignore_rules<W: Worktree, M: Matcher>(
     alloc: Global,
     full: &[u8],
     kind: Option<Kind>,
@@ -229,13 +251,14 @@ fn is_dir_for_rules<W: Worktree, M: Matcher>(
     worktree: &mut W,
 ) -> Result<Option<bool>, OutOfMemory>
     ensures is_dir { (t : Names) → W.told worktree.old ≡ Some t
-        → NotIncreased (W.faults worktree.old) (W.faults worktree.new)
-        → IfOk result (λ d. d ≡ ruled_by (chosen shared.now.options) kind
-        (kind_at t full.now true)) }
+        → CountNotIncreased (W.faults worktree.old) (W.faults worktree.new)
+        → IfOk result (λ d. d ≡ is_dir_following_symlink (walk_options_of shared.now.options) kind
+        (kind_of_node_at t full.now true)) }
     ensures swallowed { (t : Names) → W.told worktree.old ≡ Some t
-        → IfOk result (λ d. (d ≡ ruled_by (chosen shared.now.options) kind
-        (kind_at t full.now true)) ⊎ (d ≡ ruled_by (chosen shared.now.options) kind None)) }
-    ensures keeps { Asks W.Worktree worktree.old worktree.new }
+        → IfOk result (λ d. (d ≡ is_dir_following_symlink (walk_options_of shared.now.options) kind
+        (kind_of_node_at t full.now true)) ⊎ (d ≡ is_dir_following_symlink
+        (walk_options_of shared.now.options) kind None)) }
+    ensures keeps { KeepsTreeAndListCounts W.Worktree worktree.old worktree.new }
     ensures reads { W.reads worktree.new ≡ W.reads worktree.old }
 {
     let follows = shared
@@ -253,7 +276,7 @@ fn is_dir_for_rules<W: Worktree, M: Matcher>(
 
 /// The kind of a path: of an up-to-date entry, else the one that is known, else that of the node at
 /// the whole path where the disk may be asked. A fault reads as no kind.
-pub(crate) fn settled_kind<W: Worktree>(
+pub(crate) fn kind_by_index_caller_or_disk<W: Worktree>(
     alloc: Global,
     full: &[u8],
     up_to_date: Option<Kind>,
@@ -262,38 +285,38 @@ pub(crate) fn settled_kind<W: Worktree>(
     worktree: &mut W,
 ) -> Result<Option<Kind>, OutOfMemory>
     ensures kind { (t : Names) → W.told worktree.old ≡ Some t
-        → NotIncreased (W.faults worktree.old) (W.faults worktree.new)
+        → CountNotIncreased (W.faults worktree.old) (W.faults worktree.new)
         → IfOk result (λ kind. kind ≡ option_or up_to_date
-        (option_or disk_kind (if ask_disk then kind_at t full.now false else None))) }
+        (option_or disk_kind (if ask_disk then kind_of_node_at t full.now false else None))) }
     ensures swallowed { (t : Names) → W.told worktree.old ≡ Some t
         → IfOk result (λ kind. (kind ≡ option_or up_to_date
-        (option_or disk_kind (if ask_disk then kind_at t full.now false else None)))
+        (option_or disk_kind (if ask_disk then kind_of_node_at t full.now false else None)))
         ⊎ (kind ≡ option_or up_to_date (option_or disk_kind None))) }
-    ensures untouched { is_kind_known ask_disk up_to_date disk_kind ≡ true
+    ensures untouched { is_kind_known_without_disk ask_disk up_to_date disk_kind ≡ true
         → IfOk result (λ kind. kind ≡ option_or up_to_date disk_kind)
         × (worktree.new ≡ worktree.old) }
-    ensures keeps { Asks W.Worktree worktree.old worktree.new }
+    ensures keeps { KeepsTreeAndListCounts W.Worktree worktree.old worktree.new }
     ensures reads { W.reads worktree.new ≡ W.reads worktree.old }
 {
     let known = up_to_date.or(disk_kind);
     if known.is_some() || !ask_disk {
         return Ok(known);
     }
-    kind_on_disk(alloc, worktree, full)
+    kind_on_disk_or_none(alloc, worktree, full)
 }
 
 /// The kind of the node at a whole path. A fault reads as no kind.
-pub(crate) fn kind_on_disk<W: Worktree>(
+pub(crate) fn kind_on_disk_or_none<W: Worktree>(
     alloc: Global,
     worktree: &mut W,
     full: &[u8],
 ) -> Result<Option<Kind>, OutOfMemory>
     ensures kind { (t : Names) → W.told worktree.old ≡ Some t
-        → NotIncreased (W.faults worktree.old) (W.faults worktree.new)
-        → IfOk result (λ kind. kind ≡ kind_at t full.now false) }
+        → CountNotIncreased (W.faults worktree.old) (W.faults worktree.new)
+        → IfOk result (λ kind. kind ≡ kind_of_node_at t full.now false) }
     ensures swallowed { (t : Names) → W.told worktree.old ≡ Some t
-        → IfOk result (λ kind. (kind ≡ kind_at t full.now false) ⊎ (kind ≡ None)) }
-    ensures keeps { Asks W.Worktree worktree.old worktree.new }
+        → IfOk result (λ kind. (kind ≡ kind_of_node_at t full.now false) ⊎ (kind ≡ None)) }
+    ensures keeps { KeepsTreeAndListCounts W.Worktree worktree.old worktree.new }
     ensures reads { W.reads worktree.new ≡ W.reads worktree.old }
 {
     match worktree.kind(alloc, full) {
@@ -304,19 +327,20 @@ pub(crate) fn kind_on_disk<W: Worktree>(
 }
 
 /// What the index says of a path.
-#[tactic(auto, unfolding(crate::specs::Chosen::chosen))]
-fn look_up_in_index<M: Matcher>(
+#[tactic(auto, unfolding(crate::specs::Chosen::walk_options_of))]
+fn index_kinds_by_options<M: Matcher>(
     shared: &Shared<'_, M>,
     path: &[u8],
     name: &[u8],
     beneath: &Beneath<'_>,
 ) -> InIndex
-    requires lookup { IsLookupIf shared.now.index.now shared.now.ignore_case_index_lookup.now }
+    requires lookup { IsLookupOfIndexIfGiven shared.now.index.now
+        shared.now.ignore_case_index_lookup.now }
     requires seen { IsNameInIndexDirectory shared.now.index.now path.now name.now beneath.now }
-    ensures { result ≡ look_up_in_index (setting_of M.Matcher shared.now) path.now }
+    ensures { result ≡ index_kinds_by_setting (setting_of_shared M.Matcher shared.now) path.now }
 {
     let ignore_case = shared.options.ignore_case;
-    in_index(
+    index_kinds_at_path(
         shared.index,
         shared.ignore_case_index_lookup,
         ignore_case,

@@ -5,7 +5,7 @@ use gitbase_core::{Bytes, PathText};
 use glob_rules::pathspec::{Defaults, Error, Search, Spec};
 use std::alloc::Global;
 use std::collections::BTreeSet;
-use test_cases::number;
+use test_cases::parse_saturating_decimal;
 
 /// What classes and walks are asked with.
 #[derive(Drop)]
@@ -165,11 +165,11 @@ pub fn is_asked(alloc: Global, asked: &mut Asked, what: &[u8], words: &[u8]) -> 
         b"root" => has_root(alloc, asked, words),
         b"current" => asked.current_dir.set(alloc, words).is_ok(),
         b"depth" => {
-            asked.depth_limit = number(words);
+            asked.depth_limit = parse_saturating_decimal(words);
             true
         }
         b"raised" => {
-            asked.raised = number(words);
+            asked.raised = parse_saturating_decimal(words);
             true
         }
         _ => false,

@@ -13,7 +13,10 @@ use gitbase_core::{Bytes, Flags, IndexEntry, Mode, ObjectId, OutOfMemory, PathTe
 use glob_rules::Case;
 use glob_rules::ignore::{List, ParseIgnore, Search};
 use std::alloc::Global;
-use test_cases::{is_git_put, is_put, number, split_at_byte, split_at_mark};
+use test_cases::{
+    parse_saturating_decimal, split_at_byte, split_at_mark, try_add_git_directory,
+    try_add_node_of_kind,
+};
 use worktree_fs::{CallKind, MemoryWorktree};
 use worktree_stack::ignore_source::Source;
 use worktree_stack::{Ignore, Stack};
@@ -72,7 +75,7 @@ fn is_planned(alloc: Global, tree: &mut MemoryWorktree, call: &[u8], nth: u64) -
         b"real path" => CallKind::RealPath,
         _ => return false,
     };
-    tree.plan_fault(alloc, call, nth).is_ok()
+    tree.plan_fault_of_nth_call(alloc, call, nth).is_ok()
 }
 
 /// The entry of a path at stage 0.
@@ -107,7 +110,8 @@ fn flags_of(word: &[u8]) -> Flags {
 /// Whether an entry was put behind those of the index.
 fn is_indexed(alloc: Global, index: &mut State, path: &[u8], mode: &[u8], flags: &[u8]) -> bool {
     match entry(alloc, path, mode_of(mode), flags_of(flags)) {
-        Ok(entry) => index.error_of(&entry).is_none() && index.push(alloc, entry).is_ok(),
+        Ok(entry) => index.error_if_entry_were_pushed(&entry).is_none()
+            && index.push(alloc, entry).is_ok(),
         Err(_) => false,
     }
 }
@@ -131,19 +135,24 @@ fn holds(alloc: Global, world: &mut World, step: &[u8]) -> bool {
         b"give" => is_given(alloc, world, one, two),
         b"ask" => is_asked(alloc, &mut world.asked, one, two),
         b"upgrade" => is_upgraded(alloc, &mut world.tree, one, two),
-        b"git" => is_git_put(alloc, &mut world.tree, one, b"main"),
+        b"git" => try_add_git_directory(alloc, &mut world.tree, one, b"main"),
         b"index" => {
             let (mode, flags) = split_at_byte(two, b'`');
             is_indexed(alloc, &mut world.index, one, mode, flags)
         }
-        b"fail" => is_planned(alloc, &mut world.tree, one, number(two) as u64),
-        b"rules asked" => times_asked(&world.excludes) == number(one),
-        b"faults" => world.tree.fault_count() == number(one) as u64,
+        b"fail" => is_planned(
+            alloc,
+            &mut world.tree,
+            one,
+            parse_saturating_decimal(two) as u64,
+        ),
+        b"rules asked" => times_asked(&world.excludes) == parse_saturating_decimal(one),
+        b"faults" => world.tree.fault_count() == parse_saturating_decimal(one) as u64,
         b"reversed" => {
-            world.tree.set_reversed(true);
+            world.tree.set_listing_reversed(true);
             true
         }
-        _ => is_put(alloc, &mut world.tree, what, one, two),
+        _ => try_add_node_of_kind(alloc, &mut world.tree, what, one, two),
     }
 }
 

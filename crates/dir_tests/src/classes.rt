@@ -1,8 +1,8 @@
 //! The class of a path, case by case.
 ghost use Rattle.std.specs.Prelude.{◌≡◌, true, IfOk};
-ghost use Rattle.dir_classify.specs.Excludes.{made_with, tells_excludes};
-ghost use Rattle.dir_classify.specs.Layers.{IsLookupIf};
-ghost use Rattle.dir_walk.specs.Rooting.{IsRoot};
+ghost use Rattle.dir_classify.specs.Excludes.{setup_of_optional_stack, has_excludes_if_given};
+ghost use Rattle.dir_classify.specs.Layers.{IsLookupOfIndexIfGiven};
+ghost use Rattle.dir_walk.specs.Rooting.{IsNormalRootPath};
 
 use crate::asked::options_of;
 use crate::cases::{World, lie_of};
@@ -10,8 +10,8 @@ use crate::class_cases::{CASES, REPOSITORIES, WAYS};
 use bstr::ByteSlice;
 use dir_classify::classify::{self, Outcome, RootOutcome};
 use dir_classify::{
-    Context, Error, Kind, Options, PathspecMatch, Property, Status, maybe_upgrade_to_repository,
-    tells_excludes,
+    Context, Error, Kind, Options, PathspecMatch, Property, Status, has_excludes_if_given,
+    maybe_upgrade_to_repository,
 };
 use gitbase_core::{AccelerateLookup, MemoryStore, OutOfMemory, PathText, State, is_absolute};
 use glob_rules::ignore;
@@ -119,14 +119,14 @@ fn is_answer(answer: Result<Outcome, Error>, words: &[u8]) -> bool {
 
 /// A look-up of an index.
 fn lookup_of(alloc: Global, index: &State) -> Result<Option<AccelerateLookup>, OutOfMemory>
-    ensures { IfOk result (IsLookupIf index.now) }
+    ensures { IfOk result (IsLookupOfIndexIfGiven index.now) }
 {
     Ok(Some(AccelerateLookup::new(alloc, index)?))
 }
 
 /// A path below a root as `normalize` leaves it.
 fn normal_of(alloc: Global, path: &[u8]) -> Result<PathText, OutOfMemory>
-    ensures { IfOk result IsRoot }
+    ensures { IfOk result IsNormalRootPath }
 {
     let Some(path) = PathText::from_bytes(alloc, path)?.normalize(alloc)? else {
         return Err(OutOfMemory);
@@ -152,9 +152,9 @@ fn class_in<'a>(
     index: &'a State,
     lookup: &'a Option<AccelerateLookup>,
 ) -> Result<Outcome, Error>
-    requires root { IsRoot path.now }
-    requires lookup { IsLookupIf index.now lookup.now }
-    requires excludes { tells_excludes (made_with excludes.old) ≡ true }
+    requires root { IsNormalRootPath path.now }
+    requires lookup { IsLookupOfIndexIfGiven index.now lookup.now }
+    requires excludes { has_excludes_if_given (setup_of_optional_stack excludes.old) ≡ true }
 {
     let mut ctx = Context {
         worktree,
@@ -180,7 +180,7 @@ fn class_of(
     known: Option<Kind>,
     ask: bool,
 ) -> Result<Outcome, Error> {
-    if !tells_excludes(&world.excludes) {
+    if !has_excludes_if_given(&world.excludes) {
         return Err(Error::OutOfMemory);
     }
     let lookup = lookup_of(alloc, &world.index)?;
@@ -222,9 +222,9 @@ fn way_in<'a>(
     index: &'a State,
     lookup: &'a Option<AccelerateLookup>,
 ) -> Result<RootOutcome, Error>
-    requires root { IsRoot path.now }
-    requires lookup { IsLookupIf index.now lookup.now }
-    requires excludes { tells_excludes (made_with excludes.old) ≡ true }
+    requires root { IsNormalRootPath path.now }
+    requires lookup { IsLookupOfIndexIfGiven index.now lookup.now }
+    requires excludes { has_excludes_if_given (setup_of_optional_stack excludes.old) ≡ true }
 {
     let mut ctx = Context {
         worktree,
@@ -249,7 +249,7 @@ fn way_of(
     root: &[u8],
     path: &[u8],
 ) -> Result<RootOutcome, Error> {
-    if !tells_excludes(&world.excludes) {
+    if !has_excludes_if_given(&world.excludes) {
         return Err(Error::OutOfMemory);
     }
     let lookup = lookup_of(alloc, &world.index)?;

@@ -1,14 +1,14 @@
 //! How deep a walk goes: which directory is refused as it lies too deep, and what was listed
 //! before.
 ghost use Rattle.std.specs.Prelude.{◌≡◌, true};
-ghost use Rattle.dir_classify.specs.Excludes.{made_with, tells_excludes};
+ghost use Rattle.dir_classify.specs.Excludes.{setup_of_optional_stack, has_excludes_if_given};
 
 use crate::asked::options_of;
 use crate::cases::{lie_at_once, lie_of};
 use crate::noted::Noted;
 use bstr::ByteSlice;
 use dir_classify::{Context, Error, Options};
-use dir_walk::{Report, Strategy, walk_by_path};
+use dir_walk::{Report, Strategy, walk_sorted_by_path};
 use gitbase_core::{MemoryStore, State};
 use glob_rules::pathspec::Search;
 use std::alloc::Global;
@@ -109,7 +109,7 @@ fn walked<'a>(
     excludes: &'a mut Option<Stack>,
     index: &'a State,
 ) -> Result<Report, Error>
-    requires excludes { tells_excludes (made_with excludes.old) ≡ true }
+    requires excludes { has_excludes_if_given (setup_of_optional_stack excludes.old) ≡ true }
 {
     let ctx = Context {
         worktree,
@@ -124,7 +124,7 @@ fn walked<'a>(
         explicit_traversal_root: &None,
         depth_limit: 1,
     };
-    walk_by_path(alloc, b"/w", ctx, options, Strategy::Held)
+    walk_sorted_by_path(alloc, b"/w", ctx, options, Strategy::Held)
 }
 
 /// Whether a directory that lies too deep is refused and not listed, nor what comes after the one

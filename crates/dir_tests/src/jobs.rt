@@ -1,10 +1,10 @@
 //! Which worktree lists what, and which store is asked, where subtrees are walked at once.
 ghost use Rattle.std.specs.Prelude.{◌≡◌, true};
-ghost use Rattle.dir_classify.specs.Excludes.{made_with, tells_excludes};
+ghost use Rattle.dir_classify.specs.Excludes.{setup_of_optional_stack, has_excludes_if_given};
 
 use crate::asked::options_of;
 use crate::noted::{Noted, NotedStore};
-use dir_classify::{Context, Error, Options, tells_excludes};
+use dir_classify::{Context, Error, Options, has_excludes_if_given};
 use dir_walk::{Collect, Outcome, walk_at_once};
 use gitbase_core::{
     Bytes, Find, Flags, IndexEntry, MemoryStore, Mode, ObjectId, OutOfMemory, PathText, State,
@@ -39,7 +39,7 @@ fn walked<'a, F: Find>(
     excludes: &'a mut Option<Stack>,
     index: &'a State,
 ) -> Result<(Outcome, PathText, Collect), Error>
-    requires excludes { tells_excludes (made_with excludes.old) ≡ true }
+    requires excludes { has_excludes_if_given (setup_of_optional_stack excludes.old) ≡ true }
 {
     let ctx = Context {
         worktree,
@@ -65,7 +65,7 @@ fn reads_three(alloc: Global, worktree: &mut Noted) -> bool {
         options_of(b"", &BTreeSet::new(alloc)),
         worktree,
         &mut MemoryStore::new(alloc),
-        &mut PlannedInterrupt::raised_from(2),
+        &mut PlannedInterrupt::raised_from_nth_question(2),
         &Search::from_specs(Vec::new(alloc)),
         &mut None,
         &State::new(alloc),
@@ -139,7 +139,7 @@ fn is_walked(
     store: &mut NotedStore,
     excludes: &mut Option<Stack>,
 ) -> bool {
-    if !tells_excludes(excludes) {
+    if !has_excludes_if_given(excludes) {
         return false;
     }
     walked(

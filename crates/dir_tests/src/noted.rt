@@ -1,8 +1,8 @@
 //! A worktree that notes what is listed over it and over its forks, and a store that notes how
 //! often it and its forks are asked.
 ghost use Rattle.std.specs.Prelude.{◌≡◌, ◌≤◌, false, Ok, IsErrOf};
-ghost use Rattle.worktree_fs.specs.Answers.{UnlessRead, UnlessFault};
-ghost use Rattle.worktree_fs.specs.Causes.{Incremented, Increased};
+ghost use Rattle.worktree_fs.specs.Answers.{HoldsUnlessFileRead, HoldsUnlessFault};
+ghost use Rattle.worktree_fs.specs.Causes.{CountIncrementedOrSaturated, CountIncreasedOrSaturated};
 
 use gitbase_core::{Bytes, Find, FindError, Found, MemoryStore, ObjectId, OutOfMemory, PathText};
 use std::alloc::Global;
@@ -46,14 +46,14 @@ fn read_over<W: Worktree>(
     follow: bool,
     into: &mut Bytes,
 ) -> Result<ReadAnswer, ReadError>
-    ensures into { UnlessRead result (into.new ≡ into.old) }
+    ensures into { HoldsUnlessFileRead result (into.new ≡ into.old) }
     ensures link { result ≡ Ok ReadAnswer.IsLink → follow ≡ false }
     ensures cause { IsErrOf result ReadError.Fault
-        → Increased (W.faults tree.old) (W.faults tree.new) }
-    ensures unfaulted { UnlessFault result (W.faults tree.new ≡ W.faults tree.old) }
+        → CountIncreasedOrSaturated (W.faults tree.old) (W.faults tree.new) }
+    ensures unfaulted { HoldsUnlessFault result (W.faults tree.new ≡ W.faults tree.old) }
     ensures faults { W.faults tree.old ≤ W.faults tree.new }
     ensures list_faults { W.list_faults tree.new ≡ W.list_faults tree.old }
-    ensures reads { Incremented (W.reads tree.old) (W.reads tree.new) }
+    ensures reads { CountIncrementedOrSaturated (W.reads tree.old) (W.reads tree.new) }
     ensures reads_later { W.reads tree.old ≤ W.reads tree.new }
     ensures lists { W.lists tree.new ≡ W.lists tree.old }
     ensures precomposes { W.precomposes tree.new ≡ W.precomposes tree.old }

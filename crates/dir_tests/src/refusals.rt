@@ -1,6 +1,6 @@
 //! Why a walk was refused, in the words of cases.
 use dir_classify::{Error, MetadataWhy, ReadWhy};
-use test_cases::{number, split_at_byte};
+use test_cases::{parse_saturating_decimal, split_at_byte};
 use worktree_stack::{AtPathError, RulesWhy};
 
 /// The word of a reason for which a rules file was not read.
@@ -71,5 +71,7 @@ fn component_of(error: &Error) -> usize {
 pub fn is_error(error: &Error, words: &[u8]) -> bool {
     let (reason, rest) = split_at_byte(words, b'`');
     let (place, component) = split_at_byte(rest, b'`');
-    word_of(error) == reason && place_of(error) == place && component_of(error) == number(component)
+    word_of(error) == reason
+        && place_of(error) == place
+        && component_of(error) == parse_saturating_decimal(component)
 }

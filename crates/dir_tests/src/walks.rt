@@ -1,6 +1,6 @@
 //! Walks, case by case.
 ghost use Rattle.std.specs.Prelude.{◌≡◌, true};
-ghost use Rattle.dir_classify.specs.Excludes.{made_with, tells_excludes};
+ghost use Rattle.dir_classify.specs.Excludes.{setup_of_optional_stack, has_excludes_if_given};
 
 use crate::asked::options_of;
 use crate::cases::{World, lie_at_once, lie_of};
@@ -9,13 +9,13 @@ use crate::odd::{Looks, Odd};
 use crate::refusals::is_error;
 use crate::walk_cases::{DELEGATES, FOLDS, ROOTS, RULES, WALKS};
 use bstr::ByteSlice;
-use dir_classify::{Context, Entry, Error, Options, Status, tells_excludes};
-use dir_walk::{Outcome, Report, Strategy, walk, walk_at_once, walk_by_path};
+use dir_classify::{Context, Entry, Error, Options, Status, has_excludes_if_given};
+use dir_walk::{Outcome, Report, Strategy, walk, walk_at_once, walk_sorted_by_path};
 use gitbase_core::{Bytes, MemoryStore, PathText, State};
 use glob_rules::ignore::{Origin, RuleGroup};
 use glob_rules::pathspec::Search;
 use std::alloc::Global;
-use test_cases::{number, split_at_byte};
+use test_cases::{parse_saturating_decimal, split_at_byte};
 use worktree_fs::{MemoryWorktree, PlannedInterrupt};
 use worktree_stack::Stack;
 
@@ -27,7 +27,7 @@ fn has_origin(origin: Option<Origin>, words: &[u8]) -> bool {
         None => group == b"-".as_slice(),
         Some(origin) => {
             is_group(origin.group, group)
-                && origin.line as usize == number(line)
+                && origin.line as usize == parse_saturating_decimal(line)
                 && origin.negative == (sign == b"!".as_slice())
         }
     }
@@ -37,7 +37,7 @@ fn has_origin(origin: Option<Origin>, words: &[u8]) -> bool {
 fn is_group(group: RuleGroup, word: &[u8]) -> bool {
     match group {
         RuleGroup::Overrides => word == b"overrides".as_slice(),
-        RuleGroup::Directory { depth } => depth == number(word),
+        RuleGroup::Directory { depth } => depth == parse_saturating_decimal(word),
         RuleGroup::Globals => word == b"globals".as_slice(),
     }
 }
@@ -95,8 +95,8 @@ fn is_report(report: &Report, words: &[u8]) -> bool {
     let (seen, rest) = split_at_byte(rest, b'`');
     let outcome = &report.outcome;
     report.root.as_bytes() == root
-        && outcome.read_dir_calls as usize == number(read)
-        && outcome.seen_entries as usize == number(seen)
+        && outcome.read_dir_calls as usize == parse_saturating_decimal(read)
+        && outcome.seen_entries as usize == parse_saturating_decimal(seen)
         && outcome.returned_entries == report.entries.as_slice().len()
         && are(report.entries.as_slice(), rest)
 }
@@ -113,7 +113,7 @@ fn is_answer(answer: Result<Report, Error>, words: &[u8]) -> bool {
 fn interrupt_at(raised: usize) -> PlannedInterrupt {
     match raised {
         0 => PlannedInterrupt::never(),
-        nth => PlannedInterrupt::raised_from(nth as u64),
+        nth => PlannedInterrupt::raised_from_nth_question(nth as u64),
     }
 }
 
@@ -132,7 +132,7 @@ fn report_in<'a>(
     explicit_traversal_root: &'a Option<Bytes>,
     depth_limit: usize,
 ) -> Result<Report, Error>
-    requires excludes { tells_excludes (made_with excludes.old) ≡ true }
+    requires excludes { has_excludes_if_given (setup_of_optional_stack excludes.old) ≡ true }
 {
     let ctx = Context {
         worktree,
@@ -147,7 +147,7 @@ fn report_in<'a>(
         explicit_traversal_root,
         depth_limit,
     };
-    walk_by_path(alloc, root, ctx, options, Strategy::Held)
+    walk_sorted_by_path(alloc, root, ctx, options, Strategy::Held)
 }
 
 /// The same where subtrees are walked at once.
@@ -165,7 +165,7 @@ fn report_at_once<'a>(
     explicit_traversal_root: &'a Option<Bytes>,
     depth_limit: usize,
 ) -> Result<Report, Error>
-    requires excludes { tells_excludes (made_with excludes.old) ≡ true }
+    requires excludes { has_excludes_if_given (setup_of_optional_stack excludes.old) ≡ true }
 {
     let ctx = Context {
         worktree,
@@ -190,7 +190,7 @@ fn report_at_once<'a>(
 
 /// The report of a walk, over a store that holds nothing.
 fn report(alloc: Global, world: &mut World, root: &[u8]) -> Result<Report, Error> {
-    if !tells_excludes(&world.excludes) {
+    if !has_excludes_if_given(&world.excludes) {
         return Err(Error::OutOfMemory);
     }
     if world.asked.strategy == Strategy::AtOnce {
@@ -244,7 +244,7 @@ fn given_in<'a>(
     explicit_traversal_root: &'a Option<Bytes>,
     delegate: &mut Odd,
 ) -> Result<(Outcome, PathText), Error>
-    requires excludes { tells_excludes (made_with excludes.old) ≡ true }
+    requires excludes { has_excludes_if_given (setup_of_optional_stack excludes.old) ≡ true }
 {
     let ctx = Context {
         worktree,
@@ -269,7 +269,7 @@ fn given(
     root: &[u8],
     delegate: &mut Odd,
 ) -> Result<(Outcome, PathText), Error> {
-    if !tells_excludes(&world.excludes) {
+    if !has_excludes_if_given(&world.excludes) {
         return Err(Error::OutOfMemory);
     }
     given_in(
@@ -306,7 +306,7 @@ fn report_of(
 /// The entry at which Break is answered.
 fn last_of(word: &[u8]) -> usize {
     match word.split_once_str(b" ") {
-        Some((_, last)) => number(last),
+        Some((_, last)) => parse_saturating_decimal(last),
         None => 0,
     }
 }

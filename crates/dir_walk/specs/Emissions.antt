@@ -10,26 +10,26 @@ use Rattle.dir_classify.specs.declared.entry.Property.{Property}
 use Rattle.dir_classify.specs.declared.entry.Property.TheVariants.{DotGit, EmptyDirectory, EmptyDirectoryAndCWD, TrackedExcluded}
 use Rattle.dir_classify.specs.declared.entry.Status.{Status}
 use Rattle.dir_classify.specs.declared.entry.Status.TheVariants.{Pruned, Tracked, Ignored, Untracked}
-use Rattle.dir_classify.specs.Chosen.{Chosen}
-use Rattle.dir_classify.specs.Entries.{class_in}
+use Rattle.dir_classify.specs.Chosen.{WalkOptions}
+use Rattle.dir_classify.specs.Entries.{outcome_of_entry}
 
 -- an entry, with the status of the directory that was folded over it, if one was
 abbrev pub Emission : Type 0
 Emission = Entry × Option Status
 
-abbrev pub emission_of : Entry → Option Status → Emission
-emission_of entry status = (entry, status)
+abbrev pub emission_with_fold_status : Entry → Option Status → Emission
+emission_with_fold_status entry status = (entry, status)
 
 -- an entry by itself
-abbrev pub plain : Entry → Emission
-plain entry = emission_of entry None
+abbrev pub uncollapsed_emission : Entry → Emission
+uncollapsed_emission entry = emission_with_fold_status entry None
 
 -- an entry beneath a directory that was folded with a status
-abbrev pub within : Status → Entry → Emission
-within status entry = emission_of entry (Some status)
+abbrev pub collapsed_emission : Status → Entry → Emission
+collapsed_emission status entry = emission_with_fold_status entry (Some status)
 
-abbrev pub path_of : Emission → List ℕ
-path_of emission = emission.0.rela_path
+abbrev pub path_of_emission : Emission → List ℕ
+path_of_emission emission = emission.0.rela_path
 
 -- ---- what is shown
 
@@ -39,52 +39,52 @@ is_tracked_status Pruned = false
 is_tracked_status (Ignored kind) = false
 is_tracked_status Untracked = false
 
-abbrev pub is_empty_directory : Option Property → Bool
-is_empty_directory (Some EmptyDirectory) = true
-is_empty_directory (Some DotGit) = false
-is_empty_directory (Some EmptyDirectoryAndCWD) = false
-is_empty_directory (Some TrackedExcluded) = false
-is_empty_directory None = false
+abbrev pub is_empty_directory_property : Option Property → Bool
+is_empty_directory_property (Some EmptyDirectory) = true
+is_empty_directory_property (Some DotGit) = false
+is_empty_directory_property (Some EmptyDirectoryAndCWD) = false
+is_empty_directory_property (Some TrackedExcluded) = false
+is_empty_directory_property None = false
 
 -- no spec matches the path, or one takes it out
-abbrev pub is_unmatched : Option PathspecMatch → Bool
-is_unmatched None = true
-is_unmatched (Some Excluded) = true
-is_unmatched (Some Always) = false
-is_unmatched (Some Prefix) = false
-is_unmatched (Some WildcardMatch) = false
-is_unmatched (Some Verbatim) = false
+abbrev pub is_unmatched_or_excluded : Option PathspecMatch → Bool
+is_unmatched_or_excluded None = true
+is_unmatched_or_excluded (Some Excluded) = true
+is_unmatched_or_excluded (Some Always) = false
+is_unmatched_or_excluded (Some Prefix) = false
+is_unmatched_or_excluded (Some WildcardMatch) = false
+is_unmatched_or_excluded (Some Verbatim) = false
 
 -- pruned, tracked and ignored paths are shown where they are asked for, untracked ones always
-abbrev pub is_wanted : Chosen → Status → Bool
-is_wanted o Pruned = o.emit_pruned
-is_wanted o Tracked = o.emit_tracked
-is_wanted o (Ignored kind) = is_some o.emit_ignored
-is_wanted o Untracked = true
+abbrev pub is_status_emitted : WalkOptions → Status → Bool
+is_status_emitted o Pruned = o.emit_pruned
+is_status_emitted o Tracked = o.emit_tracked
+is_status_emitted o (Ignored kind) = is_some o.emit_ignored
+is_status_emitted o Untracked = true
 
 -- Entries of a class are shown: empty directories where they are asked for, what is wanted by its status, and what no spec
 -- matches where pruned paths are asked for.
-abbrev pub is_shown : Chosen → Outcome → Bool
-is_shown o c =
-    (o.emit_empty_directories || not (is_empty_directory c.property))
-    && is_wanted o c.status
-    && (o.emit_pruned || not (is_unmatched c.pathspec_match))
+abbrev pub is_outcome_shown_by_options : WalkOptions → Outcome → Bool
+is_outcome_shown_by_options o c =
+    (o.emit_empty_directories || not (is_empty_directory_property c.property))
+    && is_status_emitted o c.status
+    && (o.emit_pruned || not (is_unmatched_or_excluded c.pathspec_match))
 
 -- an entry is shown
-abbrev pub shows : Chosen → Entry → Bool
-shows o e = is_shown o (class_in e)
+abbrev pub is_entry_shown_by_options : WalkOptions → Entry → Bool
+is_entry_shown_by_options o e = is_outcome_shown_by_options o (outcome_of_entry e)
 
 -- ---- by path
 
 -- the first path stands before the second, byte by byte
-abbrev pub is_before : Emission → Emission → Bool
-is_before a b = is_lt (slice_cmp nat_cmp (path_of a) (path_of b))
+abbrev pub is_before_by_path : Emission → Emission → Bool
+is_before_by_path a b = is_lt (slice_cmp nat_cmp (path_of_emission a) (path_of_emission b))
 
-abbrev pub insert_emission : Emission → List Emission → List Emission
-insert_emission e [] = e ∷ []
-insert_emission e (x ∷ xs) = if is_before x e then x ∷ insert_emission e xs else e ∷ x ∷ xs
+abbrev pub insert_emission_by_path : Emission → List Emission → List Emission
+insert_emission_by_path e [] = e ∷ []
+insert_emission_by_path e (x ∷ xs) = if is_before_by_path x e then x ∷ insert_emission_by_path e xs else e ∷ x ∷ xs
 
 -- in ascending order of the paths
-unfoldable pub by_path : List Emission → List Emission
-by_path [] = []
-by_path (e ∷ es) = insert_emission e (by_path es)
+unfoldable pub sort_emissions_by_path : List Emission → List Emission
+sort_emissions_by_path [] = []
+sort_emissions_by_path (e ∷ es) = insert_emission_by_path e (sort_emissions_by_path es)

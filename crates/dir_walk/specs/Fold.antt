@@ -12,13 +12,13 @@ use Rattle.dir_classify.specs.declared.entry.Status.{Status}
 use Rattle.dir_classify.specs.declared.entry.Status.TheVariants.{Pruned, Tracked, Ignored, Untracked}
 use Rattle.dir_classify.specs.declared.options.CollapsedEntriesEmissionMode.{CollapsedEntriesEmissionMode}
 use Rattle.dir_classify.specs.declared.options.CollapsedEntriesEmissionMode.TheVariants.{OnStatusMismatch, All}
-use Rattle.dir_classify.specs.Chosen.{Chosen, collapses, collapses_if}
+use Rattle.dir_classify.specs.Chosen.{WalkOptions, is_collapsing_mode, collapses_directories_if_some}
 use Rattle.dir_classify.specs.Enters.{is_pruned_status}
-use Rattle.dir_classify.specs.Entries.{entry_at}
-use Rattle.dir_classify.specs.Evidence.{Evidence, is_blocked}
-use Rattle.dir_classify.specs.Kinds.{is_repository}
+use Rattle.dir_classify.specs.Entries.{entry_with_outcome}
+use Rattle.dir_classify.specs.Evidence.{PathEvidence, is_protected_current_directory}
+use Rattle.dir_classify.specs.Kinds.{is_repository_kind}
 use Rattle.dir_walk.specs.declared.tally.Tally.{Tally}
-use Rattle.dir_walk.specs.Emissions.{is_empty_directory, is_tracked_status}
+use Rattle.dir_walk.specs.Emissions.{is_empty_directory_property, is_tracked_status}
 
 -- ---- what is asked of an entry
 
@@ -45,85 +45,85 @@ is_precious_status Untracked = false
 abbrev pub is_pruned : Entry → Bool
 is_pruned e = is_pruned_status e.status
 
-abbrev pub is_untracked : Entry → Bool
-is_untracked e = is_untracked_status e.status
+abbrev pub is_untracked_entry : Entry → Bool
+is_untracked_entry e = is_untracked_status e.status
 
-abbrev pub is_expendable : Entry → Bool
-is_expendable e = is_expendable_status e.status
+abbrev pub is_ignored_expendable_entry : Entry → Bool
+is_ignored_expendable_entry e = is_expendable_status e.status
 
-abbrev pub is_precious : Entry → Bool
-is_precious e = is_precious_status e.status
+abbrev pub is_ignored_precious_entry : Entry → Bool
+is_ignored_precious_entry e = is_precious_status e.status
 
 -- a directory without names
-abbrev pub has_no_names : Entry → Bool
-has_no_names e = is_empty_directory e.property
+abbrev pub is_empty_directory_entry : Entry → Bool
+is_empty_directory_entry e = is_empty_directory_property e.property
 
 -- the place of a match in the order of matches, none before all others
-abbrev pub rank : PathspecMatch → ℕ
-rank Always = 1
-rank Excluded = 2
-rank Prefix = 3
-rank WildcardMatch = 4
-rank Verbatim = 5
+abbrev pub rank_of_pathspec_match : PathspecMatch → ℕ
+rank_of_pathspec_match Always = 1
+rank_of_pathspec_match Excluded = 2
+rank_of_pathspec_match Prefix = 3
+rank_of_pathspec_match WildcardMatch = 4
+rank_of_pathspec_match Verbatim = 5
 
-abbrev pub rank_of : Option PathspecMatch → ℕ
-rank_of None = 0
-rank_of (Some found) = rank found
+abbrev pub rank_of_optional_pathspec_match : Option PathspecMatch → ℕ
+rank_of_optional_pathspec_match None = 0
+rank_of_optional_pathspec_match (Some found) = rank_of_pathspec_match found
 
 -- the entry has this match
-abbrev pub is_matched : PathspecMatch → Entry → Bool
-is_matched found e = rank_of e.pathspec_match == rank found
+abbrev pub has_pathspec_match : PathspecMatch → Entry → Bool
+has_pathspec_match found e = rank_of_optional_pathspec_match e.pathspec_match == rank_of_pathspec_match found
 
 -- no directory folds over a repository, nor over what a spec names in full or takes out
-abbrev pub is_barring : Entry → Bool
-is_barring e = is_repository e.disk_kind || is_matched Verbatim e || is_matched Excluded e
+abbrev pub prevents_folding : Entry → Bool
+prevents_folding e = is_repository_kind e.disk_kind || has_pathspec_match Verbatim e || has_pathspec_match Excluded e
 
 -- matched by a directory above, or by wildcards
 abbrev pub is_prefix_or_wildcard_match : Entry → Bool
-is_prefix_or_wildcard_match e = is_matched Prefix e || is_matched WildcardMatch e
+is_prefix_or_wildcard_match e = has_pathspec_match Prefix e || has_pathspec_match WildcardMatch e
 
 -- ---- what is held, counted
 
-abbrev pub tally : List Entry → Tally
-tally held =
+abbrev pub tally_held_entries : List Entry → Tally
+tally_held_entries held =
     record {
       all = count_by (λ e. true) held;
-      untracked = count_by is_untracked held;
-      expendable = count_by is_expendable held;
-      precious = count_by is_precious held;
-      barring = count_by is_barring held;
+      untracked = count_by is_untracked_entry held;
+      expendable = count_by is_ignored_expendable_entry held;
+      precious = count_by is_ignored_precious_entry held;
+      barring = count_by prevents_folding held;
       picked = count_by is_prefix_or_wildcard_match held;
-      without_names = count_by has_no_names held;
-      always = count_by (is_matched Always) held;
-      excluded = count_by (is_matched Excluded) held;
-      prefixed = count_by (is_matched Prefix) held;
-      wildcard = count_by (is_matched WildcardMatch) held;
-      verbatim = count_by (is_matched Verbatim) held;
+      without_names = count_by is_empty_directory_entry held;
+      always = count_by (has_pathspec_match Always) held;
+      excluded = count_by (has_pathspec_match Excluded) held;
+      prefixed = count_by (has_pathspec_match Prefix) held;
+      wildcard = count_by (has_pathspec_match WildcardMatch) held;
+      verbatim = count_by (has_pathspec_match Verbatim) held;
     }
 
-abbrev pub one_if : Bool → ℕ
-one_if b = if b then 1 else 0
+abbrev pub count_of_flag : Bool → ℕ
+count_of_flag b = if b then 1 else 0
 
 -- the counts with one more entry
-abbrev pub tally_more : Tally → Entry → Tally
-tally_more n e =
+abbrev pub tally_with_entry : Tally → Entry → Tally
+tally_with_entry n e =
     record {
       all = n.all + 1;
-      untracked = n.untracked + one_if (is_untracked e);
-      expendable = n.expendable + one_if (is_expendable e);
-      precious = n.precious + one_if (is_precious e);
-      barring = n.barring + one_if (is_barring e);
-      picked = n.picked + one_if (is_prefix_or_wildcard_match e);
-      without_names = n.without_names + one_if (has_no_names e);
-      always = n.always + one_if (is_matched Always e);
-      excluded = n.excluded + one_if (is_matched Excluded e);
-      prefixed = n.prefixed + one_if (is_matched Prefix e);
-      wildcard = n.wildcard + one_if (is_matched WildcardMatch e);
-      verbatim = n.verbatim + one_if (is_matched Verbatim e);
+      untracked = n.untracked + count_of_flag (is_untracked_entry e);
+      expendable = n.expendable + count_of_flag (is_ignored_expendable_entry e);
+      precious = n.precious + count_of_flag (is_ignored_precious_entry e);
+      barring = n.barring + count_of_flag (prevents_folding e);
+      picked = n.picked + count_of_flag (is_prefix_or_wildcard_match e);
+      without_names = n.without_names + count_of_flag (is_empty_directory_entry e);
+      always = n.always + count_of_flag (has_pathspec_match Always e);
+      excluded = n.excluded + count_of_flag (has_pathspec_match Excluded e);
+      prefixed = n.prefixed + count_of_flag (has_pathspec_match Prefix e);
+      wildcard = n.wildcard + count_of_flag (has_pathspec_match WildcardMatch e);
+      verbatim = n.verbatim + count_of_flag (has_pathspec_match Verbatim e);
     }
 
 -- one more can be counted
-pub record IsSmall (n : Tally) : Type 0 where
+pub record CanCountOneMore (n : Tally) : Type 0 where
   pub all : n.all + 1 < 2 ^ 64
   pub untracked : n.untracked ≤ n.all
   pub expendable : n.expendable ≤ n.all
@@ -137,55 +137,55 @@ pub record IsSmall (n : Tally) : Type 0 where
   pub wildcard : n.wildcard ≤ n.all
   pub verbatim : n.verbatim ≤ n.all
 
-abbrev pub are_some : ℕ → Bool
-are_some n = not (n == 0)
+abbrev pub is_nonzero : ℕ → Bool
+is_nonzero n = not (n == 0)
 
 -- ---- the status of a folded directory
 
 -- in deletion nothing precious goes with the rest, and what is ignored only where ignored paths are asked for
-abbrev pub may_delete_all : Chosen → Tally → Bool
-may_delete_all o n = is_none o.for_deletion || (not (are_some n.precious) && (not (are_some n.expendable) || is_some o.emit_ignored))
+abbrev pub may_delete_all_at_once : WalkOptions → Tally → Bool
+may_delete_all_at_once o n = is_none o.for_deletion || (not (is_nonzero n.precious) && (not (is_nonzero n.expendable) || is_some o.emit_ignored))
 
 -- all are untracked or ignored
-abbrev pub are_all_untracked_or_ignored : Tally → Bool
-are_all_untracked_or_ignored n = n.untracked + n.expendable + n.precious == n.all
+abbrev pub all_counted_untracked_or_ignored : Tally → Bool
+all_counted_untracked_or_ignored n = n.untracked + n.expendable + n.precious == n.all
 
-abbrev pub folds_untracked : Chosen → Tally → Bool
-folds_untracked o n = collapses o.emit_untracked && are_some n.untracked && are_all_untracked_or_ignored n && may_delete_all o n
+abbrev pub may_fold_as_untracked : WalkOptions → Tally → Bool
+may_fold_as_untracked o n = is_collapsing_mode o.emit_untracked && is_nonzero n.untracked && all_counted_untracked_or_ignored n && may_delete_all_at_once o n
 
-abbrev pub folds_expendable : Chosen → Tally → Bool
-folds_expendable o n = collapses_if o.emit_ignored && are_some n.expendable && (n.expendable == n.all)
+abbrev pub may_fold_as_expendable : WalkOptions → Tally → Bool
+may_fold_as_expendable o n = collapses_directories_if_some o.emit_ignored && is_nonzero n.expendable && (n.expendable == n.all)
 
-abbrev pub folds_precious : Chosen → Tally → Bool
-folds_precious o n = collapses_if o.emit_ignored && are_some n.precious && (n.precious == n.all)
+abbrev pub may_fold_as_precious : WalkOptions → Tally → Bool
+may_fold_as_precious o n = collapses_directories_if_some o.emit_ignored && is_nonzero n.precious && (n.precious == n.all)
 
 -- the status under which all that is held may become one entry, the first one that fits
-abbrev pub fold_status : Chosen → Tally → Option Status
-fold_status o n =
-    if folds_untracked o n then Some Untracked
-    else if folds_expendable o n then Some (Ignored Expendable)
-    else if folds_precious o n then Some (Ignored Precious)
+abbrev pub status_of_folded_directory : WalkOptions → Tally → Option Status
+status_of_folded_directory o n =
+    if may_fold_as_untracked o n then Some Untracked
+    else if may_fold_as_expendable o n then Some (Ignored Expendable)
+    else if may_fold_as_precious o n then Some (Ignored Precious)
     else None
 
 -- ---- the folded directory
 
 -- The directory may become one entry: it is neither the worktree root nor the directory that must not go, it holds nothing over
 -- which no directory folds, all that it holds was picked or nothing, and the path specs match all that lies beneath it.
-abbrev pub is_foldable : Evidence → List ℕ → Tally → Bool
-is_foldable ev d n =
-    not (is_empty d) && not (is_blocked ev d)
-    && not (are_some n.barring)
-    && (not (are_some n.picked) || (n.picked == n.all))
+abbrev pub is_foldable_by_contents : PathEvidence → List ℕ → Tally → Bool
+is_foldable_by_contents ev d n =
+    not (is_empty d) && not (is_protected_current_directory ev d)
+    && not (is_nonzero n.barring)
+    && (not (is_nonzero n.picked) || (n.picked == n.all))
     && ev.covers d
 
 -- the greatest match of what is held, where there is one
-abbrev pub greatest : Tally → Option PathspecMatch
-greatest n =
-    if are_some n.verbatim then Some Verbatim
-    else if are_some n.wildcard then Some WildcardMatch
-    else if are_some n.prefixed then Some Prefix
-    else if are_some n.excluded then Some Excluded
-    else if are_some n.always then Some Always
+abbrev pub greatest_match_counted : Tally → Option PathspecMatch
+greatest_match_counted n =
+    if is_nonzero n.verbatim then Some Verbatim
+    else if is_nonzero n.wildcard then Some WildcardMatch
+    else if is_nonzero n.prefixed then Some Prefix
+    else if is_nonzero n.excluded then Some Excluded
+    else if is_nonzero n.always then Some Always
     else None
 
 -- the directory's own match, where no spec was needed for it or one names it
@@ -197,42 +197,42 @@ match_unless_prefix_or_excluded (Some Prefix) = None
 match_unless_prefix_or_excluded (Some Excluded) = None
 match_unless_prefix_or_excluded None = None
 
-abbrev pub match_over : Option PathspecMatch → Outcome → Option PathspecMatch
-match_over None c = match_unless_prefix_or_excluded c.pathspec_match
-match_over (Some found) c = Some found
+abbrev pub pathspec_match_of_folded_directory : Option PathspecMatch → Outcome → Option PathspecMatch
+pathspec_match_of_folded_directory None c = match_unless_prefix_or_excluded c.pathspec_match
+pathspec_match_of_folded_directory (Some found) c = Some found
 
 -- the directory's own property; else, outside deletion, it is one without names where all that it holds are untracked and
 -- without names
-abbrev pub property_over : Chosen → Option Property → Status → Tally → Option Property
-property_over o (Some property) status n = Some property
-property_over o None Untracked n = if is_none o.for_deletion && (n.without_names == n.all) then Some EmptyDirectory else None
-property_over o None Pruned n = None
-property_over o None Tracked n = None
-property_over o None (Ignored kind) n = None
+abbrev pub property_of_folded_directory : WalkOptions → Option Property → Status → Tally → Option Property
+property_of_folded_directory o (Some property) status n = Some property
+property_of_folded_directory o None Untracked n = if is_none o.for_deletion && (n.without_names == n.all) then Some EmptyDirectory else None
+property_of_folded_directory o None Pruned n = None
+property_of_folded_directory o None Tracked n = None
+property_of_folded_directory o None (Ignored kind) n = None
 
 -- the class of the directory as one entry in place of all that it holds
-abbrev pub folded_class : Chosen → Outcome → Tally → Status → Outcome
-folded_class o c n status =
-    record c { status = status; property = property_over o c.property status n; pathspec_match = match_over (greatest n) c }
+abbrev pub outcome_of_folded_directory : WalkOptions → Outcome → Tally → Status → Outcome
+outcome_of_folded_directory o c n status =
+    record c { status = status; property = property_of_folded_directory o c.property status n; pathspec_match = pathspec_match_of_folded_directory (greatest_match_counted n) c }
 
-abbrev pub folded : Chosen → List ℕ → Outcome → Tally → Status → Entry
-folded o d c n status = entry_at d (folded_class o c n status)
+abbrev pub entry_of_folded_directory : WalkOptions → List ℕ → Outcome → Tally → Status → Entry
+entry_of_folded_directory o d c n status = entry_with_outcome d (outcome_of_folded_directory o c n status)
 
 -- The fold of a directory of a class: none, or the entry that stands for all that it holds. It sees counts, and so no order.
-unfoldable pub fold : Chosen → Evidence → List ℕ → Outcome → Tally → Option Entry
-fold o ev d c n = if is_foldable ev d n then option_map (folded o d c n) (fold_status o n) else None
+unfoldable pub fold : WalkOptions → PathEvidence → List ℕ → Outcome → Tally → Option Entry
+fold o ev d c n = if is_foldable_by_contents ev d n then option_map (entry_of_folded_directory o d c n) (status_of_folded_directory o n) else None
 
 -- ---- what is emitted besides it
 
-abbrev pub is_same_status : Status → Status → Bool
-is_same_status Pruned status = is_pruned_status status
-is_same_status Tracked status = is_tracked_status status
-is_same_status (Ignored Expendable) status = is_expendable_status status
-is_same_status (Ignored Precious) status = is_precious_status status
-is_same_status Untracked status = is_untracked_status status
+abbrev pub equals_status : Status → Status → Bool
+equals_status Pruned status = is_pruned_status status
+equals_status Tracked status = is_tracked_status status
+equals_status (Ignored Expendable) status = is_expendable_status status
+equals_status (Ignored Precious) status = is_precious_status status
+equals_status Untracked status = is_untracked_status status
 
 -- a held entry is emitted besides the directory that was folded over it with a status
-abbrev pub shows_collapsed : Option CollapsedEntriesEmissionMode → Status → Entry → Bool
-shows_collapsed None status e = false
-shows_collapsed (Some OnStatusMismatch) status e = not (is_same_status e.status status)
-shows_collapsed (Some All) status e = true
+abbrev pub emits_besides_folded_directory : Option CollapsedEntriesEmissionMode → Status → Entry → Bool
+emits_besides_folded_directory None status e = false
+emits_besides_folded_directory (Some OnStatusMismatch) status e = not (equals_status e.status status)
+emits_besides_folded_directory (Some All) status e = true

@@ -1,13 +1,13 @@
 //! The walk of a worktree whose subtrees are jobs of their own.
 ghost use Rattle.std.specs.Prelude.{◌≡◌, true};
-ghost use Rattle.dir_classify.specs.Excludes.{made_with, tells_excludes};
-ghost use Rattle.dir_classify.specs.Layers.{setting_in, IsLookupIf};
+ghost use Rattle.dir_classify.specs.Excludes.{setup_of_optional_stack, has_excludes_if_given};
+ghost use Rattle.dir_classify.specs.Layers.{setting_of_context, IsLookupOfIndexIfGiven};
 ghost use Rattle.dir_walk.specs.declared.strategy.Strategy.TheVariants.{AtOnce};
-ghost use Rattle.dir_walk.specs.WalkRefused.{by_default};
-ghost use Rattle.dir_walk.specs.Walks.{root_in, Collects, WalksWorktree};
+ghost use Rattle.dir_walk.specs.WalkRefused.{default_recursion};
+ghost use Rattle.dir_walk.specs.Walks.{full_root_path_of_answer, CollectsReportOfWalk, WalksWorktreeWithCauses};
 
 use crate::collect::Collect;
-use crate::function::walk_as;
+use crate::function::walk_by_strategy;
 use crate::outcome::Outcome;
 use crate::strategy::Strategy;
 use dir_classify::{Context, Error, Options};
@@ -42,23 +42,23 @@ pub fn walk_at_once<W: Worktree, F: Find, I: Interrupt, M: Matcher>(
     ctx: Context<'_, W, F, I, M>,
     options: Options<'_>,
 ) -> Result<(Outcome, PathText, Collect), Error>
-    requires excludes { tells_excludes (made_with ctx.excludes.now) ≡ true }
-    requires lookup { IsLookupIf ctx.index.now ctx.ignore_case_index_lookup.now }
+    requires excludes { has_excludes_if_given (setup_of_optional_stack ctx.excludes.now) ≡ true }
+    requires lookup { IsLookupOfIndexIfGiven ctx.index.now ctx.ignore_case_index_lookup.now }
     // Over a told tree with which the rules are in step, and without a fault, what is collected is that of the tree.
-    ensures collects { Collects W.Worktree F.Find ctx.entry.worktree.now ctx.exit.0.now
+    ensures collects { CollectsReportOfWalk W.Worktree F.Find ctx.entry.worktree.now ctx.exit.0.now
         ctx.entry.objects.now ctx.entry.excludes.now
-        (setting_in M.Matcher worktree_root.now options.entry ctx.entry)
+        (setting_of_context M.Matcher worktree_root.now options.entry ctx.entry)
         ctx.entry.explicit_traversal_root.now ctx.entry.depth_limit result }
     // Each refusal has its cause, a tree that has a report is walked, and what stays.
-    ensures walks_worktree { WalksWorktree W.Worktree F.Find I.Interrupt
+    ensures walks_worktree { WalksWorktreeWithCauses W.Worktree F.Find I.Interrupt
         ctx.entry.worktree.now ctx.exit.0.now ctx.entry.objects.now ctx.exit.1.0.now
         ctx.entry.interrupt.now ctx.exit.1.1.0.now ctx.entry.excludes.now ctx.exit.1.1.1.1.0.now
-        AtOnce (setting_in M.Matcher worktree_root.now options.entry ctx.entry)
-        ctx.entry.explicit_traversal_root.now ctx.entry.depth_limit by_default (λ r. r.0) root_in
-        result }
+        AtOnce (setting_of_context M.Matcher worktree_root.now options.entry ctx.entry)
+        ctx.entry.explicit_traversal_root.now ctx.entry.depth_limit default_recursion (λ r. r.0)
+        full_root_path_of_answer result }
 {
     let mut delegate = Collect::new(alloc);
-    let (outcome, root) = walk_as(
+    let (outcome, root) = walk_by_strategy(
         alloc,
         worktree_root,
         ctx,

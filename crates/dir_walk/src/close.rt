@@ -1,29 +1,29 @@
 //! What becomes of a path that is not entered, and of a directory when its names are done.
 ghost use Rattle.std.specs.Prelude.{◌≡◌, true, false, Some, None, Option, option_map, List, ℕ, IfOk, OnErr};
-ghost use Rattle.worktree_fs.specs.Causes.{NotIncreased};
-ghost use Rattle.worktree_fs.specs.Kept.{Asks};
-ghost use Rattle.worktree_stack.specs.Reading.{Sources};
+ghost use Rattle.worktree_fs.specs.Causes.{CountNotIncreased};
+ghost use Rattle.worktree_fs.specs.Kept.{KeepsTreeAndListCounts};
+ghost use Rattle.worktree_stack.specs.Reading.{TreeAndObjects};
 ghost use Rattle.worktree_stack.specs.Setup.{StackSetup};
-ghost use Rattle.dir_classify.specs.Chosen.{chosen, may_hide_repositories};
-ghost use Rattle.dir_classify.specs.Class.{leaf_class, is_hiding};
-ghost use Rattle.dir_classify.specs.Entries.{entry_at};
-ghost use Rattle.dir_classify.specs.Evidence.{Evidence, is_blocked, is_at};
-ghost use Rattle.dir_classify.specs.Layers.{setting_of, evidence};
-ghost use Rattle.dir_walk.specs.Emits.{Closes, IsPart, folded_of};
-ghost use Rattle.dir_walk.specs.Kept.{KeepsDelegate, HeedsDelegateBreak, WantsMemory};
-ghost use Rattle.dir_walk.specs.Puts.{AddsShown, HandsUpEntryAt, once_at, once_over};
-ghost use Rattle.dir_walk.specs.Told.{IsEvidence};
-ghost use Rattle.dir_walk.specs.Walked.{closed, holding, empty_directory, empty_class, match_kind_of, property_without_names};
+ghost use Rattle.dir_classify.specs.Chosen.{walk_options_of, ignored_may_hide_repositories};
+ghost use Rattle.dir_classify.specs.Class.{outcome_of_unentered_path, is_ignored_directory_hiding_repositories};
+ghost use Rattle.dir_classify.specs.Entries.{entry_with_outcome};
+ghost use Rattle.dir_classify.specs.Evidence.{PathEvidence, is_protected_current_directory, is_optional_path_equal};
+ghost use Rattle.dir_classify.specs.Layers.{setting_of_shared, evidence_from_setting_and_sources};
+ghost use Rattle.dir_walk.specs.Emits.{ClosesWithAllWalked, AddsPartOfWalkResult, folded_entry_unless_blocked};
+ghost use Rattle.dir_walk.specs.Kept.{KeepsDelegateRunning, HeedsDelegateBreak, RefusesOnlyOutOfMemory};
+ghost use Rattle.dir_walk.specs.Puts.{AddsNoHiddenEmission, HandsUpOnlyEntryAtPath, one_at_path, one_at_path_plus_held};
+ghost use Rattle.dir_walk.specs.Told.{IsEvidenceForClosing};
+ghost use Rattle.dir_walk.specs.Walked.{walk_result_of_closed_directory, walk_result_holding_entries, walk_result_of_empty_directory, outcome_of_empty_directory, kind_of_spec_matching_directory, property_of_empty_directory};
 
 use crate::delegate::Delegate;
-use crate::emit::{emit_all, emit_collapsed, hold_or_emit_leaf};
+use crate::emit::{emit_collapsed, emit_each_held_entry, hand_up_or_emit_leaf};
 use crate::fold::fold;
 use crate::handed::{Handed, Held, Stop};
-use crate::open::deletion_mode;
+use crate::open::for_deletion_mode;
 use crate::outcome::Outcome;
 use crate::place::Place;
-use dir_classify::entry::entry_over;
-use dir_classify::options::may_hide_repositories;
+use dir_classify::entry::entry_ref_with_outcome;
+use dir_classify::options::ignored_may_hide_repositories;
 use dir_classify::{
     Kind, Options, PathspecMatch, Property, Shared, classify, maybe_upgrade_to_repository,
 };
@@ -39,9 +39,9 @@ use worktree_fs::Worktree;
 /// worktree's own.
 ///
 /// See docs/DECISIONS.md#swallowed-faults.
-#[tactic(auto, unfolding(dir_classify::specs::Class::leaf_class, dir_classify::specs::Layers::evidence))]
+#[tactic(auto, unfolding(dir_classify::specs::Class::outcome_of_unentered_path, dir_classify::specs::Layers::evidence_from_setting_and_sources))]
 #[inline(never)]
-pub(crate) fn leaf_class<W: Worktree, M: Matcher>(
+pub(crate) fn outcome_of_unentered_path<W: Worktree, M: Matcher>(
     alloc: Global,
     shared: &Shared<'_, M>,
     place: &Place,
@@ -49,15 +49,16 @@ pub(crate) fn leaf_class<W: Worktree, M: Matcher>(
     worktree: &mut W,
 ) -> Result<classify::Outcome, OutOfMemory>
     requires { place.now.root ≡ shared.now.worktree_root.now }
-    ensures class { (made : Option StackSetup) (s : Sources) → W.told worktree.old ≡ Some s.tree
-        → NotIncreased (W.faults worktree.old) (W.faults worktree.new)
-        → IfOk result (λ c. c ≡ leaf_class (chosen shared.now.options)
-        (evidence (setting_of M.Matcher shared.now) made s) place.now.path class.now) }
-    ensures worktree { Asks W.Worktree worktree.old worktree.new }
-    ensures reads { may_hide_repositories (chosen shared.now.options).for_deletion ≡ false
-        → W.reads worktree.new ≡ W.reads worktree.old }
+    ensures class { (made : Option StackSetup) (s : TreeAndObjects) → W.told worktree.old
+        ≡ Some s.tree → CountNotIncreased (W.faults worktree.old) (W.faults worktree.new)
+        → IfOk result (λ c. c ≡ outcome_of_unentered_path (walk_options_of shared.now.options)
+        (evidence_from_setting_and_sources (setting_of_shared M.Matcher shared.now) made s)
+        place.now.path class.now) }
+    ensures worktree { KeepsTreeAndListCounts W.Worktree worktree.old worktree.new }
+    ensures reads { ignored_may_hide_repositories (walk_options_of shared.now.options).for_deletion
+        ≡ false → W.reads worktree.new ≡ W.reads worktree.old }
 {
-    if !directory_may_hide_repositories(&shared.options, class) {
+    if !ignored_directory_may_hide_repositories(&shared.options, class) {
         return Ok(*class);
     }
     let disk_kind = maybe_upgrade_to_repository(
@@ -78,10 +79,11 @@ pub(crate) fn leaf_class<W: Worktree, M: Matcher>(
 
 /// Whether a path of a class that is not entered may hide repositories that deletion would take
 /// along.
-fn directory_may_hide_repositories(options: &Options<'_>, class: &classify::Outcome) -> bool
-    ensures { result ≡ is_hiding (chosen options.now) class.now }
+fn ignored_directory_may_hide_repositories(options: &Options<'_>, class: &classify::Outcome) -> bool
+    ensures { result ≡ is_ignored_directory_hiding_repositories (walk_options_of options.now)
+        class.now }
 {
-    let may_hide = may_hide_repositories(deletion_mode(options));
+    let may_hide = ignored_may_hide_repositories(for_deletion_mode(options));
     let is_directory = matches!(class.disk_kind, Some(Kind::Directory));
     class.status.is_ignored() & is_directory & may_hide
 }
@@ -89,8 +91,8 @@ fn directory_may_hide_repositories(options: &Options<'_>, class: &classify::Outc
 /// Whether a path is that of the directory that must not go.
 ///
 /// See docs/DECISIONS.md#current-directory-stays.
-pub(crate) fn is_blocked(blocked: &Option<PathText>, path: &[u8]) -> bool
-    ensures { result ≡ is_at blocked.now path.now }
+pub(crate) fn is_protected_directory(blocked: &Option<PathText>, path: &[u8]) -> bool
+    ensures { result ≡ is_optional_path_equal blocked.now path.now }
 {
     match blocked {
         None => false,
@@ -99,9 +101,9 @@ pub(crate) fn is_blocked(blocked: &Option<PathText>, path: &[u8]) -> bool
 }
 
 /// A directory without names: it is a leaf.
-#[tactic(auto, unfolding(crate::specs::Walked::empty_directory))]
+#[tactic(auto, unfolding(crate::specs::Walked::walk_result_of_empty_directory))]
 #[inline(never)]
-pub(crate) fn close_empty<M: Matcher, D: Delegate>(
+pub(crate) fn close_empty_directory<M: Matcher, D: Delegate>(
     alloc: Global,
     shared: &Shared<'_, M>,
     blocked: &Option<PathText>,
@@ -110,28 +112,28 @@ pub(crate) fn close_empty<M: Matcher, D: Delegate>(
     delegate: &mut D,
     outcome: &mut Outcome,
 ) -> Result<Handed, Stop>
-    ensures gives { (ev : Evidence)
-        → IsEvidence (setting_of M.Matcher shared.now) blocked.now ev
-        → IfOk result (Closes (chosen shared.now.options)
-        (empty_directory (chosen shared.now.options) ev path.now class.now) (D.given delegate.old)
+    ensures gives { (ev : PathEvidence) → IsEvidenceForClosing (setting_of_shared M.Matcher
+        shared.now) blocked.now ev → IfOk result
+        (ClosesWithAllWalked (walk_options_of shared.now.options) (walk_result_of_empty_directory
+        (walk_options_of shared.now.options) ev path.now class.now) (D.given delegate.old)
         (D.given delegate.new) outcome.old outcome.new) }
-    ensures part { (ev : Evidence)
-        → IsEvidence (setting_of M.Matcher shared.now) blocked.now ev
-        → OnErr result (IsPart (chosen shared.now.options)
-        (empty_directory (chosen shared.now.options) ev path.now class.now)
+    ensures part { (ev : PathEvidence)
+        → IsEvidenceForClosing (setting_of_shared M.Matcher shared.now) blocked.now ev
+        → OnErr result (AddsPartOfWalkResult (walk_options_of shared.now.options)
+        (walk_result_of_empty_directory (walk_options_of shared.now.options) ev path.now class.now)
         (D.given delegate.old) (D.given delegate.new) outcome.old outcome.new) }
-    ensures delegate { KeepsDelegate D.Delegate delegate.old delegate.new }
-    ensures filtered { AddsShown (chosen shared.now.options) (D.given delegate.old)
-        (D.given delegate.new) }
+    ensures delegate { KeepsDelegateRunning D.Delegate delegate.old delegate.new }
+    ensures filtered { AddsNoHiddenEmission (walk_options_of shared.now.options)
+        (D.given delegate.old) (D.given delegate.new) }
     ensures heeds { HeedsDelegateBreak D.Delegate delegate.old delegate.new result }
-    ensures hands { HandsUpEntryAt path.now (once_at path.now) (D.given delegate.old) (D.given delegate.new)
-        outcome.old outcome.new result }
+    ensures hands { HandsUpOnlyEntryAtPath path.now (one_at_path path.now) (D.given delegate.old)
+        (D.given delegate.new) outcome.old outcome.new result }
     ensures entered { outcome.new.read_dir_calls ≡ outcome.old.read_dir_calls }
-    ensures memory { WantsMemory result }
+    ensures memory { RefusesOnlyOutOfMemory result }
 {
-    let blocks = is_blocked(blocked, path);
-    let class = empty_class(shared, blocks, path, class);
-    let handed = hold_or_emit_leaf(alloc, &shared.options, path, &class, delegate, outcome)?;
+    let blocks = is_protected_directory(blocked, path);
+    let class = outcome_of_empty_directory(shared, blocks, path, class);
+    let handed = hand_up_or_emit_leaf(alloc, &shared.options, path, &class, delegate, outcome)?;
     Ok(Handed {
         entry: handed.entry,
         blocks,
@@ -139,18 +141,19 @@ pub(crate) fn close_empty<M: Matcher, D: Delegate>(
 }
 
 /// The class of the entry that stands for a directory without names.
-fn empty_class<M: Matcher>(
+fn outcome_of_empty_directory<M: Matcher>(
     shared: &Shared<'_, M>,
     blocks: bool,
     path: &[u8],
     class: &classify::Outcome,
 ) -> classify::Outcome
-    ensures { (ev : Evidence) → ev.matched ≡ (setting_of M.Matcher shared.now).matched
-        → is_blocked ev path.now ≡ blocks → result ≡ empty_class ev path.now class.now }
+    ensures { (ev : PathEvidence) → ev.matched ≡ (setting_of_shared M.Matcher shared.now).matched
+        → is_protected_current_directory ev path.now ≡ blocks → result ≡ outcome_of_empty_directory
+        ev path.now class.now }
 {
     classify::Outcome {
-        property: property_without_names(blocks, class.property),
-        pathspec_match: match_kind_of(shared.pathspec, path),
+        property: property_of_empty_directory(blocks, class.property),
+        pathspec_match: kind_of_spec_matching_directory(shared.pathspec, path),
         ..*class
     }
 }
@@ -158,8 +161,8 @@ fn empty_class<M: Matcher>(
 /// The property of a directory without names.
 ///
 /// See docs/DIFFERENCES.md#current-directory.
-fn property_without_names(blocks: bool, own: Option<Property>) -> Option<Property>
-    ensures { result ≡ property_without_names blocks own }
+fn property_of_empty_directory(blocks: bool, own: Option<Property>) -> Option<Property>
+    ensures { result ≡ property_of_empty_directory blocks own }
 {
     if blocks {
         return Some(Property::EmptyDirectoryAndCWD);
@@ -173,9 +176,9 @@ fn property_without_names(blocks: bool, own: Option<Property>) -> Option<Propert
 /// How the path specs match a directory, whether or not one takes it out.
 ///
 /// See docs/DECISIONS.md#directory-without-names.
-fn match_kind_of<M: Matcher>(pathspec: &M, path: &[u8]) -> Option<PathspecMatch>
-    ensures { (ev : Evidence) → ev.matched ≡ M.matched pathspec.now
-        → result ≡ match_kind_of ev path.now }
+fn kind_of_spec_matching_directory<M: Matcher>(pathspec: &M, path: &[u8]) -> Option<PathspecMatch>
+    ensures { (ev : PathEvidence) → ev.matched ≡ M.matched pathspec.now
+        → result ≡ kind_of_spec_matching_directory ev path.now }
 {
     match pathspec.pattern_matching_relative_path(path, Some(true)) {
         Some(found) => Some(PathspecMatch::from(found.kind)),
@@ -185,9 +188,9 @@ fn match_kind_of<M: Matcher>(pathspec: &M, path: &[u8]) -> Option<PathspecMatch>
 
 /// A directory with names, when these are done: it is folded over what they handed up, or that is
 /// put out.
-#[tactic(auto, unfolding(crate::specs::Walked::closed))]
+#[tactic(auto, unfolding(crate::specs::Walked::walk_result_of_closed_directory))]
 #[inline(never)]
-pub(crate) fn fold_or_emit_held<M: Matcher, D: Delegate>(
+pub(crate) fn fold_directory_or_emit_held<M: Matcher, D: Delegate>(
     alloc: Global,
     shared: &Shared<'_, M>,
     blocked: &Option<PathText>,
@@ -197,37 +200,38 @@ pub(crate) fn fold_or_emit_held<M: Matcher, D: Delegate>(
     delegate: &mut D,
     outcome: &mut Outcome,
 ) -> Result<Handed, Stop>
-    ensures gives { (ev : Evidence)
-        → IsEvidence (setting_of M.Matcher shared.now) blocked.now ev
-        → IfOk result (Closes (chosen shared.now.options)
-        (closed (chosen shared.now.options) ev path.now class.now
-        (holding held.entries.items held.blocked)) (D.given delegate.old) (D.given delegate.new)
-        outcome.old outcome.new) }
-    ensures part { (ev : Evidence)
-        → IsEvidence (setting_of M.Matcher shared.now) blocked.now ev
-        → OnErr result (IsPart (chosen shared.now.options)
-        (closed (chosen shared.now.options) ev path.now class.now
-        (holding held.entries.items held.blocked)) (D.given delegate.old)
+    ensures gives { (ev : PathEvidence) → IsEvidenceForClosing (setting_of_shared M.Matcher
+        shared.now) blocked.now ev → IfOk result
+        (ClosesWithAllWalked (walk_options_of shared.now.options) (walk_result_of_closed_directory
+        (walk_options_of shared.now.options) ev path.now class.now (walk_result_holding_entries
+        held.entries.items held.blocked)) (D.given delegate.old) (D.given delegate.new) outcome.old
+        outcome.new) }
+    ensures part { (ev : PathEvidence)
+        → IsEvidenceForClosing (setting_of_shared M.Matcher shared.now) blocked.now ev
+        → OnErr result (AddsPartOfWalkResult (walk_options_of shared.now.options)
+        (walk_result_of_closed_directory (walk_options_of shared.now.options) ev path.now class.now
+        (walk_result_holding_entries held.entries.items held.blocked)) (D.given delegate.old)
         (D.given delegate.new) outcome.old outcome.new) }
-    ensures delegate { KeepsDelegate D.Delegate delegate.old delegate.new }
-    ensures filtered { AddsShown (chosen shared.now.options) (D.given delegate.old)
-        (D.given delegate.new) }
+    ensures delegate { KeepsDelegateRunning D.Delegate delegate.old delegate.new }
+    ensures filtered { AddsNoHiddenEmission (walk_options_of shared.now.options)
+        (D.given delegate.old) (D.given delegate.new) }
     ensures heeds { HeedsDelegateBreak D.Delegate delegate.old delegate.new result }
-    ensures hands { HandsUpEntryAt path.now (once_over path.now held.entries.items) (D.given delegate.old)
-        (D.given delegate.new) outcome.old outcome.new result }
+    ensures hands { HandsUpOnlyEntryAtPath path.now (one_at_path_plus_held path.now
+        held.entries.items) (D.given delegate.old) (D.given delegate.new) outcome.old outcome.new
+        result }
     ensures entered { outcome.new.read_dir_calls ≡ outcome.old.read_dir_calls }
-    ensures memory { WantsMemory result }
+    ensures memory { RefusesOnlyOutOfMemory result }
 {
-    match folded(shared, blocked, path, class, &held) {
+    match folded_outcome_unless_blocked(shared, blocked, path, class, &held) {
         None => {
-            emit_all(alloc, &shared.options, &held.entries, delegate, outcome)?;
+            emit_each_held_entry(alloc, &shared.options, &held.entries, delegate, outcome)?;
             Ok(Handed {
                 entry: None,
                 blocks: true,
             })
         }
         Some(class) => {
-            let entry = entry_over(path, &class).into_owned(alloc)?;
+            let entry = entry_ref_with_outcome(path, &class).into_owned(alloc)?;
             emit_collapsed(
                 alloc,
                 &shared.options,
@@ -246,16 +250,17 @@ pub(crate) fn fold_or_emit_held<M: Matcher, D: Delegate>(
 
 /// The class of the entry that stands for all that a directory holds, or none where it is not
 /// folded. Where nothing is held, nothing is counted and no path spec is asked.
-fn folded<M: Matcher>(
+fn folded_outcome_unless_blocked<M: Matcher>(
     shared: &Shared<'_, M>,
     blocked: &Option<PathText>,
     path: &[u8],
     class: &classify::Outcome,
     held: &Held,
 ) -> Option<classify::Outcome>
-    ensures { (ev : Evidence) → IsEvidence (setting_of M.Matcher shared.now) blocked.now ev
-        → option_map (entry_at path.now) result ≡ folded_of (chosen shared.now.options) ev path.now
-        class.now (holding held.now.entries.items held.now.blocked) }
+    ensures { (ev : PathEvidence) → IsEvidenceForClosing (setting_of_shared M.Matcher shared.now)
+        blocked.now ev → option_map (entry_with_outcome path.now) result
+        ≡ folded_entry_unless_blocked (walk_options_of shared.now.options) ev path.now class.now
+        (walk_result_holding_entries held.now.entries.items held.now.blocked) }
 {
     if held.blocked {
         return None;
@@ -263,7 +268,7 @@ fn folded<M: Matcher>(
     if held.is_empty() {
         return None;
     }
-    let blocks = is_blocked(blocked, path);
+    let blocks = is_protected_directory(blocked, path);
     let covered = shared.pathspec.directory_matches_prefix(path, false);
     fold(&shared.options, path, class, &held.entries, blocks, covered)
 }

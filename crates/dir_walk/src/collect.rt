@@ -1,7 +1,7 @@
 //! The entries that a walk emits, kept in a list.
 ghost use Rattle.std.specs.Prelude.{◌≡◌, ◌++◌, ◌∷◌, [], IsPermutation, IfOk, OnOk, OnErr};
-ghost use Rattle.dir_walk.specs.Emissions.{emission_of, by_path};
-ghost use Rattle.dir_walk.specs.Distinct.{Ascends, HasDistinctPaths, IsAscending};
+ghost use Rattle.dir_walk.specs.Emissions.{emission_with_fold_status, sort_emissions_by_path};
+ghost use Rattle.dir_walk.specs.Distinct.{IsStrictlyAscendingByPath, HasDistinctPaths, IsAscendingByPath};
 
 use crate::delegate::{Action, Delegate};
 use dir_classify::{Entry, EntryRef, Status};
@@ -72,7 +72,7 @@ impl EmittedEntries {
         collapsed_directory_status: Option<Status>,
     ) -> Result<(), OutOfMemory>
         ensures added { OnOk result (self.new
-            ≡ self.old ++ emission_of entry collapsed_directory_status ∷ []) }
+            ≡ self.old ++ emission_with_fold_status entry collapsed_directory_status ∷ []) }
         ensures refused { OnErr result (self.new ≡ self.old) }
     {
         self.items.push((entry, collapsed_directory_status))?;
@@ -106,9 +106,11 @@ impl Collect {
     ///
     /// - `OutOfMemory`: memory was refused.
     pub fn into_entries_by_path(self, _alloc: Global) -> Result<EmittedEntries, OutOfMemory>
-        ensures sorted { IfOk result (λ entries. entries ≡ by_path self.unorded_entries) }
-        ensures ascending { IfOk result IsAscending }
-        ensures strict { HasDistinctPaths self.unorded_entries → IfOk result Ascends }
+        ensures sorted { IfOk result (λ entries. entries ≡ sort_emissions_by_path
+            self.unorded_entries) }
+        ensures ascending { IfOk result IsAscendingByPath }
+        ensures strict { HasDistinctPaths self.unorded_entries
+            → IfOk result IsStrictlyAscendingByPath }
         ensures same { IfOk result (λ entries. IsPermutation self.unorded_entries entries) }
     {
         let mut items = self.unorded_entries.into_vec();

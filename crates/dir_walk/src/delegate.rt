@@ -1,10 +1,10 @@
 //! What a walk gives its entries to.
 ghost use Rattle.std.specs.Prelude.{◌≡◌, ◌≤◌, ℕ, Bool, true, false, List, Option, OnOk, OnErr};
-ghost use Rattle.worktree_fs.specs.Causes.{Incremented};
+ghost use Rattle.worktree_fs.specs.Causes.{CountIncrementedOrSaturated};
 ghost use Rattle.dir_classify.specs.Enters.{can_recurse};
-ghost use Rattle.dir_classify.specs.Entries.{entry_of};
-ghost use Rattle.dir_walk.specs.Emissions.{Emission, emission_of};
-ghost use Rattle.dir_walk.specs.Given.{with_emission, IsAnswered, OnBreak, OnContinue, UnlessBreak};
+ghost use Rattle.dir_classify.specs.Entries.{owned_entry_of_ref};
+ghost use Rattle.dir_walk.specs.Emissions.{Emission, emission_with_fold_status};
+ghost use Rattle.dir_walk.specs.Given.{append_emission_if_told, CountsRecursionRefusal, HoldsIfBreak, HoldsIfContinue, HoldsUnlessBreak};
 
 use dir_classify::{EntryRef, ForDeletionMode, Status};
 use gitbase_core::OutOfMemory;
@@ -53,13 +53,15 @@ pub trait Delegate {
         entry: EntryRef<'_>,
         collapsed_directory_status: Option<Status>,
     ) -> Result<Action, OutOfMemory>
-        ensures added { OnOk result (given self.new ≡ with_emission (given self.old)
-            (emission_of (entry_of entry.entry) collapsed_directory_status)) }
+        ensures added { OnOk result (given self.new ≡ append_emission_if_told (given self.old)
+            (emission_with_fold_status (owned_entry_of_ref entry.entry)
+            collapsed_directory_status)) }
         ensures refused { OnErr result (given self.new ≡ given self.old) }
-        ensures broken { OnBreak result (Incremented (breaks self.old) (breaks self.new)) }
-        ensures stopped { OnBreak result (is_stopped self.new ≡ true) }
-        ensures continued { OnContinue result (is_stopped self.new ≡ false) }
-        ensures unbroken { UnlessBreak result (breaks self.new ≡ breaks self.old) }
+        ensures broken { HoldsIfBreak result (CountIncrementedOrSaturated (breaks self.old)
+            (breaks self.new)) }
+        ensures stopped { HoldsIfBreak result (is_stopped self.new ≡ true) }
+        ensures continued { HoldsIfContinue result (is_stopped self.new ≡ false) }
+        ensures unbroken { HoldsUnlessBreak result (breaks self.new ≡ breaks self.old) }
         ensures breaks { breaks self.old ≤ breaks self.new }
         ensures refusals { refusals self.new ≡ refusals self.old }
         ensures default { is_default self.new ≡ is_default self.old };
@@ -78,9 +80,9 @@ pub trait Delegate {
         ensures recursion { is_default self.old ≡ true
             → result ≡ can_recurse entry.entry.status entry.entry.disk_kind
             entry.entry.pathspec_match for_deletion worktree_root_is_repository }
-        ensures refused { IsAnswered (can_recurse entry.entry.status entry.entry.disk_kind
-            entry.entry.pathspec_match for_deletion worktree_root_is_repository) result
-            (refusals self.old) (refusals self.new) }
+        ensures refused { CountsRecursionRefusal (can_recurse entry.entry.status
+            entry.entry.disk_kind entry.entry.pathspec_match for_deletion
+            worktree_root_is_repository) result (refusals self.old) (refusals self.new) }
         ensures refusals { refusals self.old ≤ refusals self.new }
         ensures given { given self.new ≡ given self.old }
         ensures breaks { breaks self.new ≡ breaks self.old }

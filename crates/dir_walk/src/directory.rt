@@ -1,35 +1,35 @@
 //! The names of a directory that is entered, one after another.
 ghost use Rattle.std.specs.Prelude.{◌≡◌, ◌+◌, ℕ, true, false, Option, Some, None, IfOk, IfErr, OnOk, OnErr};
-ghost use Rattle.gitbase_core.specs.Path.{components, joined};
-ghost use Rattle.gitbase_core.specs.View.{IsBeneath};
-ghost use Rattle.worktree_fs.specs.Causes.{NotIncreased, Increased};
-ghost use Rattle.worktree_fs.specs.Kept.{AsksStore};
-ghost use Rattle.worktree_fs.specs.Naming.{IsName};
-ghost use Rattle.worktree_fs.specs.Paths.{full_path, is_normal, spelled};
-ghost use Rattle.worktree_stack.specs.Reading.{Sources};
+ghost use Rattle.gitbase_core.specs.Path.{components, path_joined_with_slash};
+ghost use Rattle.gitbase_core.specs.View.{IsViewOfEntriesBeneath};
+ghost use Rattle.worktree_fs.specs.Causes.{CountNotIncreased, CountIncreasedOrSaturated};
+ghost use Rattle.worktree_fs.specs.Kept.{KeepsStoredObjects};
+ghost use Rattle.worktree_fs.specs.Naming.{IsValidEntryName};
+ghost use Rattle.worktree_fs.specs.Paths.{root_joined_with_relative, is_relative_without_dots, slash_joined_components};
+ghost use Rattle.worktree_stack.specs.Reading.{TreeAndObjects};
 ghost use Rattle.worktree_stack.specs.Setup.{StackSetup};
-ghost use Rattle.dir_classify.specs.Chosen.{chosen};
-ghost use Rattle.dir_classify.specs.Classes.{Classes};
-ghost use Rattle.dir_classify.specs.Excludes.{made_with, maps_blobs, tells_excludes};
-ghost use Rattle.dir_classify.specs.Kept.{KeepsRules};
-ghost use Rattle.dir_classify.specs.Layers.{setting_of, evidence, IsLookupIf, IsNameInIndexDirectory};
-ghost use Rattle.dir_walk.specs.Emits.{Gives, IsPart};
-ghost use Rattle.dir_walk.specs.Given.{OnRefused};
-ghost use Rattle.dir_walk.specs.Kept.{KeepsTree, AsksInterrupt, KeepsDelegate, HeedsDelegateBreak, RefusalsHaveCauses};
-ghost use Rattle.dir_walk.specs.Moments.{AreSame, moment};
-ghost use Rattle.dir_walk.specs.Opens.{EntersAtMost, OpensWithin, refused_walk};
-ghost use Rattle.dir_walk.specs.Puts.{AddsShown, HandsUpEntryAt, once_within};
-ghost use Rattle.dir_walk.specs.Refused.{IsAbout, IsInTree, Refuses, DirectoryRefuses};
-ghost use Rattle.dir_walk.specs.Report.{depth_of};
-ghost use Rattle.dir_walk.specs.Told.{Stands, item_told, directory_told};
-ghost use Rattle.dir_walk.specs.Unopened.{deep_walk, unlisted_walk};
-ghost use Rattle.dir_walk.specs.WalkSteps.{OpensAtMostEntered, WalksAny, WalksTold, at_directory, at_name, CountsOpenedDirectories};
+ghost use Rattle.dir_classify.specs.Chosen.{walk_options_of};
+ghost use Rattle.dir_classify.specs.Classes.{ClassifiesPath};
+ghost use Rattle.dir_classify.specs.Excludes.{setup_of_optional_stack, maps_rules_files_to_blobs, has_excludes_if_given};
+ghost use Rattle.dir_classify.specs.Kept.{KeepsRulesInStep};
+ghost use Rattle.dir_classify.specs.Layers.{setting_of_shared, evidence_from_setting_and_sources, IsLookupOfIndexIfGiven, IsNameInIndexDirectory};
+ghost use Rattle.dir_walk.specs.Emits.{GivesAllWalkedUnrefused, AddsPartOfWalkResult};
+ghost use Rattle.dir_walk.specs.Given.{HoldsOfErrorIfRefused};
+ghost use Rattle.dir_walk.specs.Kept.{KeepsWorktree, AsksInterruptPerRaise, KeepsDelegateRunning, HeedsDelegateBreak, CountsCausesOfRefusals};
+ghost use Rattle.dir_walk.specs.Moments.{KeepsPartReferences, walk_state_of_parts};
+ghost use Rattle.dir_walk.specs.Opens.{OpensAtMostWalkedEntered, OpensBoundedDirectories, count_refused_walk};
+ghost use Rattle.dir_walk.specs.Puts.{AddsNoHiddenEmission, HandsUpOnlyEntryAtPath, one_at_or_beneath_path};
+ghost use Rattle.dir_walk.specs.Refused.{IsWalkErrorWithinLimit, IsWalkErrorByTree, IsWalkErrorByWalkResult, IsErrorOfEnteredDirectory};
+ghost use Rattle.dir_walk.specs.Report.{count_components};
+ghost use Rattle.dir_walk.specs.Told.{IsWalkOverSources, walk_result_of_name_over_sources, walk_result_of_directory_over_sources};
+ghost use Rattle.dir_walk.specs.Unopened.{count_too_deep_in_walk, count_unlisted_in_walk};
+ghost use Rattle.dir_walk.specs.WalkSteps.{OpensAtMostEntered, StepWalksOverAnyWorktree, StepWalksOverSources, at_directory, at_name, CountsOpenedDirectories};
 
-use crate::close::{close_empty, fold_or_emit_held, leaf_class};
+use crate::close::{close_empty_directory, fold_directory_or_emit_held, outcome_of_unentered_path};
 use crate::delegate::Delegate;
-use crate::emit::hold_or_emit_leaf;
+use crate::emit::hand_up_or_emit_leaf;
 use crate::handed::{Handed, Held, Stop};
-use crate::open::{is_entered, list_directory, too_deep};
+use crate::open::{delegate_enters_directory, list_directory, too_deep_or_interrupted_error};
 use crate::outcome::Outcome;
 use crate::parts::Parts;
 use crate::place::Place;
@@ -44,7 +44,7 @@ use worktree_stack::Stack;
 /// index beneath its directory. It stands apart, as [`walk_directory`] calls itself: what a class
 /// takes of the stack is given back before the walk goes deeper.
 #[inline(never)]
-pub(crate) fn class_of<W: Worktree, F: Find, M: Matcher>(
+pub(crate) fn classify_name_asking_disk<W: Worktree, F: Find, M: Matcher>(
     alloc: Global,
     full: &[u8],
     path: &[u8],
@@ -55,26 +55,30 @@ pub(crate) fn class_of<W: Worktree, F: Find, M: Matcher>(
     worktree: &mut W,
     objects: &mut F,
 ) -> Result<classify::Outcome, Error>
-    requires full { full.now ≡ full_path shared.now.worktree_root.now path.now }
-    requires normal { is_normal path.now ≡ true }
-    requires spelled { path.now ≡ spelled (components path.now) }
-    requires lookup { IsLookupIf shared.now.index.now shared.now.ignore_case_index_lookup.now }
+    requires full { full.now ≡ root_joined_with_relative shared.now.worktree_root.now path.now }
+    requires normal { is_relative_without_dots path.now ≡ true }
+    requires spelled { path.now ≡ slash_joined_components (components path.now) }
+    requires lookup { IsLookupOfIndexIfGiven shared.now.index.now
+        shared.now.ignore_case_index_lookup.now }
     requires seen { IsNameInIndexDirectory shared.now.index.now path.now name.now beneath.now }
-    requires excludes { tells_excludes (made_with excludes.old) ≡ true }
-    ensures { Classes W.Worktree F.Find worktree.old worktree.new objects.old objects.new
-        excludes.old excludes.new (setting_of M.Matcher shared.now) path.now None true result }
+    requires excludes { has_excludes_if_given (setup_of_optional_stack excludes.old) ≡ true }
+    ensures { ClassifiesPath W.Worktree F.Find worktree.old worktree.new objects.old objects.new
+        excludes.old excludes.new (setting_of_shared M.Matcher shared.now) path.now None true
+        result }
 {
-    classify::classify_in_directory(
+    classify::classify_name_in_directory(
         alloc, full, path, name, beneath, None, true, shared, excludes, worktree, objects,
     )
 }
 
-/// Walks a name in a directory that is entered, at `place`; so many more levels of directories may
-/// be entered below that directory. `blocked` is the directory that must not go, if there is one.
-/// `beneath` are the entries of the index beneath the directory. The place is the directory's again
-/// when the name is done.
+/// Walks the name `name` in the directory at `place`, which is open already, and gives what the
+/// name hands up to that directory, as [`Handed`] says. `levels` more levels of directories may be
+/// entered below the directory. `blocked` is the current directory where deletion is asked for: no
+/// other entry may stand for it. `beneath` are the entries of the index beneath the directory.
+///
+/// The place is the directory's again when the name is done. It ends as [`walk_directory`] does.
 #[cycle(walk)]
-fn walk_name<W: Worktree, F: Find, I: Interrupt, M: Matcher, D: Delegate>(
+fn walk_name_in_directory<W: Worktree, F: Find, I: Interrupt, M: Matcher, D: Delegate>(
     alloc: Global,
     shared: &Shared<'_, M>,
     blocked: &Option<PathText>,
@@ -84,44 +88,51 @@ fn walk_name<W: Worktree, F: Find, I: Interrupt, M: Matcher, D: Delegate>(
     levels: usize,
     parts: &mut Parts<'_, '_, '_, '_, '_, '_, W, F, I, D>,
 ) -> Result<Handed, Stop>
-    requires name { IsName name.now }
-    // The entries are those of the place's directory, not those of the name.
-    requires beneath { IsBeneath shared.now.index.now place.old.path beneath.now }
+    // As a directory holds it: UTF-8 without NUL, not empty, no slash, neither `.` nor `..`.
+    requires name { IsValidEntryName name.now }
+    // The entries of the index are those beneath the place's directory, not beneath the name.
+    requires beneath { IsViewOfEntriesBeneath shared.now.index.now place.old.path beneath.now }
     requires root { place.old.root ≡ shared.now.worktree_root.now }
-    requires lookup { IsLookupIf shared.now.index.now shared.now.ignore_case_index_lookup.now }
+    requires lookup { IsLookupOfIndexIfGiven shared.now.index.now
+        shared.now.ignore_case_index_lookup.now }
     // Where rules are given, they tell which paths are excluded.
-    requires excludes { tells_excludes (made_with parts.old.excludes.now) ≡ true }
-    // What the caller lent is what was changed: the parts are behind the same references.
-    ensures same { AreSame parts.old parts.new }
-    // Over any worktree: a refusal is about a path within the limit, and has its cause. The
-    // worktree, the store and the interrupt are only asked. The delegate gets paths at or beneath
-    // this name, each at most once, and none that the options hide.
-    ensures walks { WalksAny W.Worktree F.Find I.Interrupt D.Delegate
-        (moment parts.old) (moment parts.new)
-        (setting_of M.Matcher shared.now) levels (at_name place.old.path name.now) result }
-    // Over what is told, for a delegate that recurses as by default: it gives all that is there, or
-    // a part where it ends before, unless the worktree failed in between; and it is refused for
-    // what is there, or because the worktree failed.
-    ensures told { WalksTold W.Worktree F.Find D.Delegate
-        (moment parts.old) (moment parts.new)
-        (setting_of M.Matcher shared.now) blocked.now levels
+    requires excludes { has_excludes_if_given (setup_of_optional_stack parts.old.excludes.now)
+        ≡ true }
+    // The parts lie behind the same references as before.
+    ensures same { KeepsPartReferences parts.old parts.new }
+    // Over any worktree: a refusal is about a path within the limit, or one level below it where
+    // that is too deep, and what caused it was counted. Of the worktree, the store and the
+    // interrupt nothing changes but counts. The delegate gets paths at or beneath this name, each
+    // at most once where it tells what it got, and none that the options hide. What is handed up is
+    // an entry at this path.
+    ensures walks { StepWalksOverAnyWorktree W.Worktree F.Find I.Interrupt D.Delegate
+        (walk_state_of_parts parts.old) (walk_state_of_parts parts.new)
+        (setting_of_shared M.Matcher shared.now) levels (at_name place.old.path name.now) result }
+    // Where the worktree tells its tree and the store its objects, the rules are in step with both,
+    // and the delegate recurses as by default: without a fault, Ok gives all that is there, and an
+    // end before that a part of it. A refusal is for what is there, or because a fault hid that,
+    // unless it is for the interrupt, for a listing that failed, or for want of memory.
+    ensures told { StepWalksOverSources W.Worktree F.Find D.Delegate
+        (walk_state_of_parts parts.old) (walk_state_of_parts parts.new)
+        (setting_of_shared M.Matcher shared.now) blocked.now levels
         (at_name place.old.path name.now) result }
-    // Some number of directories was opened: the worktree, the walk and the interrupt counted so
-    // many, and over what is told it is at most the number that the walk enters from here, and one
-    // where a listing was refused for want of memory. 0: the place's own directory was opened
-    // before, which bounds how often rules files are read.
-    ensures opens { CountsOpenedDirectories W.Worktree I.Interrupt (chosen shared.now.options)
-        (components place.old.path) 0
-        (moment parts.old) (moment parts.new)
-        result (OpensAtMostEntered W.Worktree F.Find D.Delegate
-        (moment parts.old) (moment parts.new)
-        (setting_of M.Matcher shared.now) blocked.now levels
+    // Some number of directories was opened: the worktree and the walk counted so many, and the
+    // interrupt was asked before each. Where all is told as above, it is at most the number that
+    // the walk enters from here, and one more where a listing was refused or memory was. The 0 says
+    // that the place's own directory, which the caller opened, is not among them. The number bounds
+    // how often rules files are read.
+    ensures opens { CountsOpenedDirectories W.Worktree I.Interrupt
+        (walk_options_of shared.now.options) (components place.old.path) 0
+        (walk_state_of_parts parts.old) (walk_state_of_parts parts.new) result
+        (OpensAtMostEntered W.Worktree F.Find D.Delegate (walk_state_of_parts parts.old)
+        (walk_state_of_parts parts.new) (setting_of_shared M.Matcher shared.now) blocked.now levels
         (at_name place.old.path name.now) result) }
     // A store that no rules file is mapped to is not asked.
-    ensures unmapped { maps_blobs (made_with parts.old.excludes.now) ≡ false
-        → parts.new.objects.now ≡ parts.old.objects.now }
-    // The rules that were handed in stay in step with what is told of the tree and the store.
-    ensures rules { KeepsRules W.Worktree F.Find parts.old.worktree.now parts.new.worktree.now
+    ensures unmapped { maps_rules_files_to_blobs (setup_of_optional_stack parts.old.excludes.now)
+        ≡ false → parts.new.objects.now ≡ parts.old.objects.now }
+    // The rules keep the setup that they were made with; where they were in step with what is told
+    // of the tree and the store, they still are.
+    ensures rules { KeepsRulesInStep W.Worktree F.Find parts.old.worktree.now parts.new.worktree.now
         parts.old.objects.now parts.old.excludes.now parts.new.excludes.now }
     // The place is the same when all is done. After a refusal or a break it is where the walk
     // stood, and the caller is not to go on with it.
@@ -130,7 +141,7 @@ fn walk_name<W: Worktree, F: Find, I: Interrupt, M: Matcher, D: Delegate>(
     let cut = place.push(alloc, name)?;
     let path = place.path();
     let full = place.whole();
-    let class = class_of(
+    let class = classify_name_asking_disk(
         alloc,
         full,
         path,
@@ -141,16 +152,16 @@ fn walk_name<W: Worktree, F: Find, I: Interrupt, M: Matcher, D: Delegate>(
         parts.worktree,
         parts.objects,
     )?;
-    if is_entered(&shared.options, path, &class, false, parts.delegate) {
+    if delegate_enters_directory(&shared.options, path, &class, false, parts.delegate) {
         if levels == 0 {
-            return Err(Stop::Refused(too_deep(alloc, place, parts.interrupt)));
+            return Err(Stop::Refused(too_deep_or_interrupted_error(alloc, place, parts.interrupt)));
         }
         let handed = walk_directory(alloc, shared, blocked, place, &class, levels - 1, parts);
-        place.truncate_to_directory(cut, &handed);
+        place.truncate_to_directory_if_ok(cut, &handed);
         return handed;
     }
-    let class = leaf_class(alloc, shared, place, &class, parts.worktree)?;
-    let handed = hold_or_emit_leaf(
+    let class = outcome_of_unentered_path(alloc, shared, place, &class, parts.worktree)?;
+    let handed = hand_up_or_emit_leaf(
         alloc,
         &shared.options,
         path,
@@ -158,7 +169,7 @@ fn walk_name<W: Worktree, F: Find, I: Interrupt, M: Matcher, D: Delegate>(
         parts.delegate,
         parts.outcome,
     );
-    place.truncate_to_directory(cut, &handed);
+    place.truncate_to_directory_if_ok(cut, &handed);
     handed
 }
 
@@ -194,32 +205,33 @@ pub(crate) fn walk_directory<W: Worktree, F: Find, I: Interrupt, M: Matcher, D: 
     parts: &mut Parts<'_, '_, '_, '_, '_, '_, W, F, I, D>,
 ) -> Result<Handed, Stop>
     requires root { place.old.root ≡ shared.now.worktree_root.now }
-    requires lookup { IsLookupIf shared.now.index.now shared.now.ignore_case_index_lookup.now }
-    requires excludes { tells_excludes (made_with parts.old.excludes.now) ≡ true }
+    requires lookup { IsLookupOfIndexIfGiven shared.now.index.now
+        shared.now.ignore_case_index_lookup.now }
+    requires excludes { has_excludes_if_given (setup_of_optional_stack parts.old.excludes.now)
+        ≡ true }
     // The parts are behind the same references.
-    ensures same { AreSame parts.old parts.new }
+    ensures same { KeepsPartReferences parts.old parts.new }
     // Over any worktree, each refusal has its cause; what stays, and what the delegate is given.
-    ensures walks { WalksAny W.Worktree F.Find I.Interrupt D.Delegate
-        (moment parts.old) (moment parts.new)
-        (setting_of M.Matcher shared.now) levels (at_directory place.old.path class.now) result }
+    ensures walks { StepWalksOverAnyWorktree W.Worktree F.Find I.Interrupt D.Delegate
+        (walk_state_of_parts parts.old) (walk_state_of_parts parts.new) (setting_of_shared M.Matcher
+        shared.now) levels (at_directory place.old.path class.now) result }
     // Over what is told, it gives all that is there or a part, and is refused for what is there.
-    ensures told { WalksTold W.Worktree F.Find D.Delegate
-        (moment parts.old) (moment parts.new)
-        (setting_of M.Matcher shared.now) blocked.now levels
+    ensures told { StepWalksOverSources W.Worktree F.Find D.Delegate
+        (walk_state_of_parts parts.old) (walk_state_of_parts parts.new)
+        (setting_of_shared M.Matcher shared.now) blocked.now levels
         (at_directory place.old.path class.now) result }
     // How the directories that are opened are counted, and how many they are at most.
-    ensures opens { CountsOpenedDirectories W.Worktree I.Interrupt (chosen shared.now.options)
-        (components place.old.path) 1
-        (moment parts.old) (moment parts.new)
-        result (OpensAtMostEntered W.Worktree F.Find D.Delegate
-        (moment parts.old) (moment parts.new)
-        (setting_of M.Matcher shared.now) blocked.now levels
+    ensures opens { CountsOpenedDirectories W.Worktree I.Interrupt
+        (walk_options_of shared.now.options) (components place.old.path) 1
+        (walk_state_of_parts parts.old) (walk_state_of_parts parts.new) result
+        (OpensAtMostEntered W.Worktree F.Find D.Delegate (walk_state_of_parts parts.old)
+        (walk_state_of_parts parts.new) (setting_of_shared M.Matcher shared.now) blocked.now levels
         (at_directory place.old.path class.now) result) }
     // A store that no rules file is mapped to is not asked.
-    ensures unmapped { maps_blobs (made_with parts.old.excludes.now) ≡ false
-        → parts.new.objects.now ≡ parts.old.objects.now }
+    ensures unmapped { maps_rules_files_to_blobs (setup_of_optional_stack parts.old.excludes.now)
+        ≡ false → parts.new.objects.now ≡ parts.old.objects.now }
     // The rules that were handed in stay in step.
-    ensures rules { KeepsRules W.Worktree F.Find parts.old.worktree.now parts.new.worktree.now
+    ensures rules { KeepsRulesInStep W.Worktree F.Find parts.old.worktree.now parts.new.worktree.now
         parts.old.objects.now parts.old.excludes.now parts.new.excludes.now }
     // The place is the same when all is done.
     ensures stays { OnOk result (place.new ≡ place.old) }
@@ -227,7 +239,7 @@ pub(crate) fn walk_directory<W: Worktree, F: Find, I: Interrupt, M: Matcher, D: 
     let path = place.path();
     let names = list_directory(alloc, place, parts.worktree, parts.interrupt, parts.outcome)?;
     if names.as_slice().is_empty() {
-        return close_empty(
+        return close_empty_directory(
             alloc,
             shared,
             blocked,
@@ -238,9 +250,9 @@ pub(crate) fn walk_directory<W: Worktree, F: Find, I: Interrupt, M: Matcher, D: 
         );
     }
     let mut held = Held::new(alloc);
-    let beneath = shared.index.beneath(path);
+    let beneath = shared.index.entries_beneath_directory(path);
     for name in names.as_slice() {
-        let handed = walk_name(
+        let handed = walk_name_in_directory(
             alloc,
             shared,
             blocked,
@@ -250,9 +262,9 @@ pub(crate) fn walk_directory<W: Worktree, F: Find, I: Interrupt, M: Matcher, D: 
             levels,
             parts,
         )?;
-        held.add_handed(alloc, handed)?;
+        held.add_entry_handed_up(alloc, handed)?;
     }
-    fold_or_emit_held(
+    fold_directory_or_emit_held(
         alloc,
         shared,
         blocked,

@@ -1,18 +1,18 @@
 //! Which entries are put out, and putting them out.
 ghost use Rattle.std.specs.Prelude.{◌≡◌, [], ◌∷◌, length, IfOk, OnOk, OnErr, Some, None};
-ghost use Rattle.dir_classify.specs.Chosen.{chosen};
-ghost use Rattle.dir_classify.specs.Entries.{entry_of, entry_at};
-ghost use Rattle.dir_walk.specs.Emissions.{emission_of, shows, is_shown, is_wanted, is_empty_directory, is_unmatched};
-ghost use Rattle.dir_walk.specs.Emits.{Emits, Within, IsPart, Closes, shown_by, put_plain, put_within};
-ghost use Rattle.dir_walk.specs.Kept.{KeepsDelegate, HeedsDelegateBreak, WantsMemory};
-ghost use Rattle.dir_walk.specs.Puts.{AddsShown, Puts, HandsUpEntryAt, held_at, once_at};
-ghost use Rattle.dir_walk.specs.Walked.{leaf};
+ghost use Rattle.dir_classify.specs.Chosen.{walk_options_of};
+ghost use Rattle.dir_classify.specs.Entries.{owned_entry_of_ref, entry_with_outcome};
+ghost use Rattle.dir_walk.specs.Emissions.{emission_with_fold_status, is_entry_shown_by_options, is_outcome_shown_by_options, is_status_emitted, is_empty_directory_property, is_unmatched_or_excluded};
+ghost use Rattle.dir_walk.specs.Emits.{AddsEmissionsAndCounts, AddsAtMostEmissionsAndSeen, AddsPartOfWalkResult, ClosesWithAllWalked, count_shown_passing, count_held_emitted_plainly, count_held_emitted_collapsed};
+ghost use Rattle.dir_walk.specs.Kept.{KeepsDelegateRunning, HeedsDelegateBreak, RefusesOnlyOutOfMemory};
+ghost use Rattle.dir_walk.specs.Puts.{AddsNoHiddenEmission, AddsEmissionsWithinRoom, HandsUpOnlyEntryAtPath, count_held_at_path, one_at_path};
+ghost use Rattle.dir_walk.specs.Walked.{walk_result_of_leaf_entry};
 
 use crate::delegate::{Action, Delegate};
-use crate::fold::{is_held, shows_collapsed};
+use crate::fold::{emits_besides_folded_directory, holds_status_for_folding};
 use crate::handed::{Handed, Stop};
 use crate::outcome::Outcome;
-use dir_classify::entry::entry_over;
+use dir_classify::entry::entry_ref_with_outcome;
 use dir_classify::{
     CollapsedEntriesEmissionMode, Entry, EntryRef, Options, PathspecMatch, Property, Status,
     classify,
@@ -28,24 +28,26 @@ pub(crate) fn emit<D: Delegate>(
     delegate: &mut D,
     outcome: &mut Outcome,
 ) -> Result<(), Stop>
-    ensures gives { OnOk result (Emits (D.given delegate.old) (D.given delegate.new) outcome.old
-        outcome.new (λ p. shown_by (chosen options.now) p (emission_of (entry_of entry.entry)
+    ensures gives { OnOk result (AddsEmissionsAndCounts (D.given delegate.old)
+        (D.given delegate.new) outcome.old outcome.new (λ p. count_shown_passing
+        (walk_options_of options.now) p (emission_with_fold_status (owned_entry_of_ref entry.entry)
         collapsed_directory_status ∷ [])) 1 0) }
-    ensures part { OnErr result (Within (D.given delegate.old) (D.given delegate.new) outcome.old
-        outcome.new (λ p. shown_by (chosen options.now) p (emission_of (entry_of entry.entry)
+    ensures part { OnErr result (AddsAtMostEmissionsAndSeen (D.given delegate.old)
+        (D.given delegate.new) outcome.old outcome.new (λ p. count_shown_passing
+        (walk_options_of options.now) p (emission_with_fold_status (owned_entry_of_ref entry.entry)
         collapsed_directory_status ∷ [])) 1) }
-    ensures delegate { KeepsDelegate D.Delegate delegate.old delegate.new }
-    ensures filtered { AddsShown (chosen options.now) (D.given delegate.old)
+    ensures delegate { KeepsDelegateRunning D.Delegate delegate.old delegate.new }
+    ensures filtered { AddsNoHiddenEmission (walk_options_of options.now) (D.given delegate.old)
         (D.given delegate.new) }
     ensures heeds { HeedsDelegateBreak D.Delegate delegate.old delegate.new result }
-    ensures puts { Puts (once_at (entry_of entry.entry).rela_path) (D.given delegate.old)
-        (D.given delegate.new) outcome.old outcome.new [] }
+    ensures puts { AddsEmissionsWithinRoom (one_at_path (owned_entry_of_ref entry.entry).rela_path)
+        (D.given delegate.old) (D.given delegate.new) outcome.old outcome.new [] }
     ensures entered { outcome.new.read_dir_calls ≡ outcome.old.read_dir_calls }
     ensures refusals { D.refusals delegate.new ≡ D.refusals delegate.old }
-    ensures memory { WantsMemory result }
+    ensures memory { RefusesOnlyOutOfMemory result }
 {
     outcome.seen_entries = outcome.seen_entries.saturating_add(1);
-    if !is_shown(options, &entry) {
+    if !is_entry_shown_by_options(options, &entry) {
         return Ok(());
     }
     let action = delegate.emit(alloc, entry, collapsed_directory_status)?;
@@ -57,25 +59,27 @@ pub(crate) fn emit<D: Delegate>(
 }
 
 /// Puts all that a directory holds out, each entry by itself.
-pub(crate) fn emit_all<D: Delegate>(
+pub(crate) fn emit_each_held_entry<D: Delegate>(
     alloc: Global,
     options: &Options<'_>,
     held: &[Entry],
     delegate: &mut D,
     outcome: &mut Outcome,
 ) -> Result<(), Stop>
-    ensures gives { OnOk result (Emits (D.given delegate.old) (D.given delegate.new) outcome.old
-        outcome.new (put_plain (chosen options.now) held.now) (length held.now) 0) }
-    ensures part { OnErr result (Within (D.given delegate.old) (D.given delegate.new) outcome.old
-        outcome.new (put_plain (chosen options.now) held.now) (length held.now)) }
-    ensures delegate { KeepsDelegate D.Delegate delegate.old delegate.new }
-    ensures filtered { AddsShown (chosen options.now) (D.given delegate.old)
+    ensures gives { OnOk result (AddsEmissionsAndCounts (D.given delegate.old)
+        (D.given delegate.new) outcome.old outcome.new (count_held_emitted_plainly
+        (walk_options_of options.now) held.now) (length held.now) 0) }
+    ensures part { OnErr result (AddsAtMostEmissionsAndSeen (D.given delegate.old)
+        (D.given delegate.new) outcome.old outcome.new (count_held_emitted_plainly
+        (walk_options_of options.now) held.now) (length held.now)) }
+    ensures delegate { KeepsDelegateRunning D.Delegate delegate.old delegate.new }
+    ensures filtered { AddsNoHiddenEmission (walk_options_of options.now) (D.given delegate.old)
         (D.given delegate.new) }
     ensures heeds { HeedsDelegateBreak D.Delegate delegate.old delegate.new result }
-    ensures puts { Puts (λ path. held_at path held.now) (D.given delegate.old)
-        (D.given delegate.new) outcome.old outcome.new [] }
+    ensures puts { AddsEmissionsWithinRoom (λ path. count_held_at_path path held.now)
+        (D.given delegate.old) (D.given delegate.new) outcome.old outcome.new [] }
     ensures entered { outcome.new.read_dir_calls ≡ outcome.old.read_dir_calls }
-    ensures memory { WantsMemory result }
+    ensures memory { RefusesOnlyOutOfMemory result }
 {
     for entry in held {
         emit(alloc, options, entry.to_ref(), None, delegate, outcome)?;
@@ -95,27 +99,29 @@ pub(crate) fn emit_collapsed<D: Delegate>(
     delegate: &mut D,
     outcome: &mut Outcome,
 ) -> Result<(), Stop>
-    ensures gives { OnOk result (Emits (D.given delegate.old) (D.given delegate.new) outcome.old
-        outcome.new (put_within (chosen options.now) status held.now) (length held.now) 0) }
-    ensures part { OnErr result (Within (D.given delegate.old) (D.given delegate.new) outcome.old
-        outcome.new (put_within (chosen options.now) status held.now) (length held.now)) }
-    ensures delegate { KeepsDelegate D.Delegate delegate.old delegate.new }
-    ensures filtered { AddsShown (chosen options.now) (D.given delegate.old)
+    ensures gives { OnOk result (AddsEmissionsAndCounts (D.given delegate.old)
+        (D.given delegate.new) outcome.old outcome.new (count_held_emitted_collapsed
+        (walk_options_of options.now) status held.now) (length held.now) 0) }
+    ensures part { OnErr result (AddsAtMostEmissionsAndSeen (D.given delegate.old)
+        (D.given delegate.new) outcome.old outcome.new (count_held_emitted_collapsed
+        (walk_options_of options.now) status held.now) (length held.now)) }
+    ensures delegate { KeepsDelegateRunning D.Delegate delegate.old delegate.new }
+    ensures filtered { AddsNoHiddenEmission (walk_options_of options.now) (D.given delegate.old)
         (D.given delegate.new) }
     ensures heeds { HeedsDelegateBreak D.Delegate delegate.old delegate.new result }
-    ensures puts { Puts (λ path. held_at path held.now) (D.given delegate.old)
-        (D.given delegate.new) outcome.old outcome.new [] }
+    ensures puts { AddsEmissionsWithinRoom (λ path. count_held_at_path path held.now)
+        (D.given delegate.old) (D.given delegate.new) outcome.old outcome.new [] }
     ensures entered { outcome.new.read_dir_calls ≡ outcome.old.read_dir_calls }
-    ensures memory { WantsMemory result }
+    ensures memory { RefusesOnlyOutOfMemory result }
 {
     for entry in held {
-        emit_merged(alloc, options, status, entry, delegate, outcome)?;
+        emit_or_count_collapsed_entry(alloc, options, status, entry, delegate, outcome)?;
     }
     Ok(())
 }
 
 /// One entry that a directory was folded over: it is put out, or merged.
-fn emit_merged<D: Delegate>(
+fn emit_or_count_collapsed_entry<D: Delegate>(
     alloc: Global,
     options: &Options<'_>,
     status: Status,
@@ -123,20 +129,22 @@ fn emit_merged<D: Delegate>(
     delegate: &mut D,
     outcome: &mut Outcome,
 ) -> Result<(), Stop>
-    ensures gives { OnOk result (Emits (D.given delegate.old) (D.given delegate.new) outcome.old
-        outcome.new (put_within (chosen options.now) status (entry.now ∷ [])) 1 0) }
-    ensures part { OnErr result (Within (D.given delegate.old) (D.given delegate.new) outcome.old
-        outcome.new (put_within (chosen options.now) status (entry.now ∷ [])) 1) }
-    ensures delegate { KeepsDelegate D.Delegate delegate.old delegate.new }
-    ensures filtered { AddsShown (chosen options.now) (D.given delegate.old)
+    ensures gives { OnOk result (AddsEmissionsAndCounts (D.given delegate.old)
+        (D.given delegate.new) outcome.old outcome.new (count_held_emitted_collapsed
+        (walk_options_of options.now) status (entry.now ∷ [])) 1 0) }
+    ensures part { OnErr result (AddsAtMostEmissionsAndSeen (D.given delegate.old)
+        (D.given delegate.new) outcome.old outcome.new (count_held_emitted_collapsed
+        (walk_options_of options.now) status (entry.now ∷ [])) 1) }
+    ensures delegate { KeepsDelegateRunning D.Delegate delegate.old delegate.new }
+    ensures filtered { AddsNoHiddenEmission (walk_options_of options.now) (D.given delegate.old)
         (D.given delegate.new) }
     ensures heeds { HeedsDelegateBreak D.Delegate delegate.old delegate.new result }
-    ensures puts { Puts (once_at entry.now.rela_path) (D.given delegate.old)
+    ensures puts { AddsEmissionsWithinRoom (one_at_path entry.now.rela_path) (D.given delegate.old)
         (D.given delegate.new) outcome.old outcome.new [] }
     ensures entered { outcome.new.read_dir_calls ≡ outcome.old.read_dir_calls }
-    ensures memory { WantsMemory result }
+    ensures memory { RefusesOnlyOutOfMemory result }
 {
-    if shows_collapsed(collapsed_mode(options), status, entry) {
+    if emits_besides_folded_directory(collapsed_emission_mode(options), status, entry) {
         return emit(
             alloc,
             options,
@@ -151,9 +159,9 @@ fn emit_merged<D: Delegate>(
 }
 
 /// A path that is not entered: it is handed up, or put out.
-#[tactic(auto, unfolding(crate::specs::Walked::leaf))]
+#[tactic(auto, unfolding(crate::specs::Walked::walk_result_of_leaf_entry))]
 #[inline(never)]
-pub(crate) fn hold_or_emit_leaf<D: Delegate>(
+pub(crate) fn hand_up_or_emit_leaf<D: Delegate>(
     alloc: Global,
     options: &Options<'_>,
     path: &[u8],
@@ -161,23 +169,23 @@ pub(crate) fn hold_or_emit_leaf<D: Delegate>(
     delegate: &mut D,
     outcome: &mut Outcome,
 ) -> Result<Handed, Stop>
-    ensures gives { IfOk result (Closes (chosen options.now)
-        (leaf (chosen options.now) (entry_at path.now class.now)) (D.given delegate.old)
-        (D.given delegate.new) outcome.old outcome.new) }
-    ensures part { OnErr result (IsPart (chosen options.now)
-        (leaf (chosen options.now) (entry_at path.now class.now)) (D.given delegate.old)
-        (D.given delegate.new) outcome.old outcome.new) }
-    ensures delegate { KeepsDelegate D.Delegate delegate.old delegate.new }
-    ensures filtered { AddsShown (chosen options.now) (D.given delegate.old)
+    ensures gives { IfOk result (ClosesWithAllWalked (walk_options_of options.now)
+        (walk_result_of_leaf_entry (walk_options_of options.now) (entry_with_outcome path.now
+        class.now)) (D.given delegate.old) (D.given delegate.new) outcome.old outcome.new) }
+    ensures part { OnErr result (AddsPartOfWalkResult (walk_options_of options.now)
+        (walk_result_of_leaf_entry (walk_options_of options.now) (entry_with_outcome path.now
+        class.now)) (D.given delegate.old) (D.given delegate.new) outcome.old outcome.new) }
+    ensures delegate { KeepsDelegateRunning D.Delegate delegate.old delegate.new }
+    ensures filtered { AddsNoHiddenEmission (walk_options_of options.now) (D.given delegate.old)
         (D.given delegate.new) }
     ensures heeds { HeedsDelegateBreak D.Delegate delegate.old delegate.new result }
-    ensures hands { HandsUpEntryAt path.now (once_at path.now) (D.given delegate.old) (D.given delegate.new)
-        outcome.old outcome.new result }
+    ensures hands { HandsUpOnlyEntryAtPath path.now (one_at_path path.now) (D.given delegate.old)
+        (D.given delegate.new) outcome.old outcome.new result }
     ensures entered { outcome.new.read_dir_calls ≡ outcome.old.read_dir_calls }
-    ensures memory { WantsMemory result }
+    ensures memory { RefusesOnlyOutOfMemory result }
 {
-    let entry = entry_over(path, class);
-    if is_held(options, class.status) {
+    let entry = entry_ref_with_outcome(path, class);
+    if holds_status_for_folding(options, class.status) {
         let held = entry.into_owned(alloc)?;
         return Ok(Handed {
             entry: Some(held),
@@ -192,9 +200,9 @@ pub(crate) fn hold_or_emit_leaf<D: Delegate>(
 }
 
 /// How entries are put out besides a directory that was folded over them.
-#[tactic(auto, unfolding(dir_classify::specs::Chosen::chosen))]
-fn collapsed_mode(options: &Options<'_>) -> Option<CollapsedEntriesEmissionMode>
-    ensures { result ≡ (chosen options.now).emit_collapsed }
+#[tactic(auto, unfolding(dir_classify::specs::Chosen::walk_options_of))]
+fn collapsed_emission_mode(options: &Options<'_>) -> Option<CollapsedEntriesEmissionMode>
+    ensures { result ≡ (walk_options_of options.now).emit_collapsed }
 {
     options.emit_collapsed
 }
@@ -202,20 +210,21 @@ fn collapsed_mode(options: &Options<'_>) -> Option<CollapsedEntriesEmissionMode>
 /// Whether an entry is given to the delegate.
 ///
 /// See docs/DIFFERENCES.md#empty-directory.
-#[tactic(auto, unfolding(dir_classify::specs::Chosen::chosen))]
-fn is_shown(options: &Options<'_>, entry: &EntryRef<'_>) -> bool
-    ensures { result ≡ shows (chosen options.now) (entry_of entry.now) }
+#[tactic(auto, unfolding(dir_classify::specs::Chosen::walk_options_of))]
+fn is_entry_shown_by_options(options: &Options<'_>, entry: &EntryRef<'_>) -> bool
+    ensures { result ≡ is_entry_shown_by_options (walk_options_of options.now)
+        (owned_entry_of_ref entry.now) }
 {
-    let empty = is_empty_directory(entry.property);
-    let wanted = is_wanted(options, entry.status);
-    let unmatched = is_unmatched(entry.pathspec_match);
+    let empty = is_empty_directory_property(entry.property);
+    let wanted = is_status_emitted(options, entry.status);
+    let unmatched = is_unmatched_or_excluded(entry.pathspec_match);
     (options.emit_empty_directories | !empty) & wanted & (options.emit_pruned | !unmatched)
 }
 
 /// Whether entries of a status are asked for.
-#[tactic(auto, unfolding(dir_classify::specs::Chosen::chosen))]
-fn is_wanted(options: &Options<'_>, status: Status) -> bool
-    ensures { result ≡ is_wanted (chosen options.now) status }
+#[tactic(auto, unfolding(dir_classify::specs::Chosen::walk_options_of))]
+fn is_status_emitted(options: &Options<'_>, status: Status) -> bool
+    ensures { result ≡ is_status_emitted (walk_options_of options.now) status }
 {
     match status {
         Status::Pruned => options.emit_pruned,
@@ -225,15 +234,15 @@ fn is_wanted(options: &Options<'_>, status: Status) -> bool
     }
 }
 
-fn is_empty_directory(property: Option<Property>) -> bool
-    ensures { result ≡ is_empty_directory property }
+fn is_empty_directory_property(property: Option<Property>) -> bool
+    ensures { result ≡ is_empty_directory_property property }
 {
     matches!(property, Some(Property::EmptyDirectory))
 }
 
 /// Whether no path spec matches, or one takes the path out.
-fn is_unmatched(pathspec_match: Option<PathspecMatch>) -> bool
-    ensures { result ≡ is_unmatched pathspec_match }
+fn is_unmatched_or_excluded(pathspec_match: Option<PathspecMatch>) -> bool
+    ensures { result ≡ is_unmatched_or_excluded pathspec_match }
 {
     matches!(pathspec_match, None | Some(PathspecMatch::Excluded))
 }

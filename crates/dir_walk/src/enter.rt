@@ -1,41 +1,41 @@
 //! Entering the traversal root.
 ghost use Rattle.std.specs.Prelude.{◌≡◌, ◌+◌, ℕ, List, [], Option, Some, true, false, length, option_copied, option_to_list, IfOk, IfErr, OnOk, OnErr};
 ghost use Rattle.gitbase_core.specs.Path.{components, ends_in_slash};
-ghost use Rattle.worktree_fs.specs.Causes.{NotIncreased};
-ghost use Rattle.worktree_fs.specs.Kept.{Asks};
-ghost use Rattle.worktree_fs.specs.Paths.{is_normal, spelled};
-ghost use Rattle.worktree_stack.specs.Reading.{Sources};
+ghost use Rattle.worktree_fs.specs.Causes.{CountNotIncreased};
+ghost use Rattle.worktree_fs.specs.Kept.{KeepsTreeAndListCounts};
+ghost use Rattle.worktree_fs.specs.Paths.{is_relative_without_dots, slash_joined_components};
+ghost use Rattle.worktree_stack.specs.Reading.{TreeAndObjects};
 ghost use Rattle.worktree_stack.specs.Setup.{StackSetup};
-ghost use Rattle.dir_classify.specs.Chosen.{chosen};
-ghost use Rattle.dir_classify.specs.Excludes.{made_with, maps_blobs, tells_excludes};
-ghost use Rattle.dir_classify.specs.Layers.{setting_of, evidence, rest_behind, IsLookupIf};
+ghost use Rattle.dir_classify.specs.Chosen.{walk_options_of};
+ghost use Rattle.dir_classify.specs.Excludes.{setup_of_optional_stack, maps_rules_files_to_blobs, has_excludes_if_given};
+ghost use Rattle.dir_classify.specs.Layers.{setting_of_shared, evidence_from_setting_and_sources, rest_behind_directory, IsLookupOfIndexIfGiven};
 ghost use Rattle.dir_walk.specs.declared.strategy.Strategy.TheVariants.{Held};
-ghost use Rattle.dir_walk.specs.Emits.{Emits, Within, put_plain};
-ghost use Rattle.dir_walk.specs.Kept.{KeepsDelegate, HeedsDelegateBreak, WantsMemory};
-ghost use Rattle.dir_walk.specs.Moments.{AreSame, moment};
-ghost use Rattle.dir_walk.specs.Puts.{AddsShown, Puts, held_at};
-ghost use Rattle.dir_walk.specs.Report.{depth_of};
-ghost use Rattle.dir_walk.specs.RootSteps.{EnteredCaused, EnteredLeaves, EnteredTold, EntersRoot, EntersThere, OpensAtRoot, RootAny, RootTold};
+ghost use Rattle.dir_walk.specs.Emits.{AddsEmissionsAndCounts, AddsAtMostEmissionsAndSeen, count_held_emitted_plainly};
+ghost use Rattle.dir_walk.specs.Kept.{KeepsDelegateRunning, HeedsDelegateBreak, RefusesOnlyOutOfMemory};
+ghost use Rattle.dir_walk.specs.Moments.{KeepsPartReferences, walk_state_of_parts};
+ghost use Rattle.dir_walk.specs.Puts.{AddsNoHiddenEmission, AddsEmissionsWithinRoom, count_held_at_path};
+ghost use Rattle.dir_walk.specs.Report.{count_components};
+ghost use Rattle.dir_walk.specs.RootSteps.{CausesOfEnteredRootRefusal, LeavesAfterEnteredRoot, WalksEnteredRootOverSources, OpensAtMostEnteredAtRoot, OpensAtMostEnteredInRoot, CountsOpenedAtRoot, WalksRootOverAnyWorktree, WalksRootOverSources};
 
-use crate::children::walk_children;
+use crate::children::walk_root_directory_by_jobs;
 use crate::delegate::Delegate;
 use crate::directory::walk_directory;
 use crate::emit::emit;
 use crate::handed::{Handed, Stop};
-use crate::open::{deletion_mode, too_deep};
+use crate::open::{for_deletion_mode, too_deep_or_interrupted_error};
 use crate::outcome::Outcome;
 use crate::parts::Parts;
 use crate::place::Place;
 use crate::strategy::Strategy;
 use dir_classify::{Options, Shared, classify};
-use gitbase_core::{Find, OutOfMemory, PathText, past_slashes, relative_to};
+use gitbase_core::{Find, OutOfMemory, PathText, strip_directory_prefix, without_leading_slashes};
 use glob_rules::pathspec::Matcher;
 use std::alloc::Global;
 use worktree_fs::{Interrupt, ReadError, Worktree, next_component};
 
 /// How many components a path has.
-fn depth_of(path: &[u8]) -> usize
-    ensures { result ≡ depth_of path.now }
+fn count_components(path: &[u8]) -> usize
+    ensures { result ≡ count_components path.now }
 {
     let mut depth = 0;
     let mut rest = path;
@@ -47,37 +47,39 @@ fn depth_of(path: &[u8]) -> usize
 }
 
 /// The rest of a path behind a directory that it is or lies beneath.
-fn rest_behind<'a>(directory: &[u8], path: &'a [u8]) -> Option<&'a [u8]>
-    ensures { option_copied result ≡ rest_behind directory.now path.now }
+fn rest_behind_directory<'a>(directory: &[u8], path: &'a [u8]) -> Option<&'a [u8]>
+    ensures { option_copied result ≡ rest_behind_directory directory.now path.now }
 {
     if directory == path {
         return Some(&[]);
     }
-    relative_to(path, directory)
+    strip_directory_prefix(path, directory)
 }
 
 /// In deletion, the directory that must not go: the current one, where it is the worktree root or
 /// lies beneath. A fault of the question for the real path of the worktree root reads as none.
 ///
 /// See docs/DECISIONS.md#swallowed-faults.
-fn blocked_directory<W: Worktree, M: Matcher>(
+fn current_directory_to_protect<W: Worktree, M: Matcher>(
     alloc: Global,
     shared: &Shared<'_, M>,
     worktree: &mut W,
 ) -> Result<Option<PathText>, OutOfMemory>
-    ensures blocked { (made : Option StackSetup) (s : Sources) → W.told worktree.old ≡ Some s.tree
-        → NotIncreased (W.faults worktree.old) (W.faults worktree.new)
-        → IfOk result (λ blocked. (evidence (setting_of M.Matcher shared.now) made s).blocked
-        ≡ blocked) }
-    ensures keeps { Asks W.Worktree worktree.old worktree.new }
+    ensures blocked { (made : Option StackSetup) (s : TreeAndObjects) → W.told worktree.old
+        ≡ Some s.tree → CountNotIncreased (W.faults worktree.old) (W.faults worktree.new)
+        → IfOk result (λ blocked. (evidence_from_setting_and_sources (setting_of_shared M.Matcher
+        shared.now) made s).blocked ≡ blocked) }
+    ensures keeps { KeepsTreeAndListCounts W.Worktree worktree.old worktree.new }
     ensures reads { W.reads worktree.new ≡ W.reads worktree.old }
 {
-    if deletion_mode(&shared.options).is_none() {
+    if for_deletion_mode(&shared.options).is_none() {
         return Ok(None);
     }
     match worktree.real_path(alloc, shared.worktree_root, shared.current_dir) {
-        Ok(Some(real)) => match rest_behind(real.as_bytes(), shared.current_dir) {
-            Some(rest) => PathText::from_bytes(alloc, past_slashes(rest))?.normalize(alloc),
+        Ok(Some(real)) => match rest_behind_directory(real.as_bytes(), shared.current_dir) {
+            Some(rest) => PathText::from_bytes(alloc, without_leading_slashes(rest))?.normalize(
+                alloc,
+            ),
             None => Ok(None),
         },
         Ok(None) => Ok(None),
@@ -87,27 +89,30 @@ fn blocked_directory<W: Worktree, M: Matcher>(
 }
 
 /// Puts out what is handed up at the end, by itself.
-fn put_handed<D: Delegate>(
+fn emit_entry_handed_up<D: Delegate>(
     alloc: Global,
     options: &Options<'_>,
     handed: &Handed,
     delegate: &mut D,
     outcome: &mut Outcome,
 ) -> Result<(), Stop>
-    ensures gives { OnOk result (Emits (D.given delegate.old) (D.given delegate.new) outcome.old
-        outcome.new (put_plain (chosen options.now) (option_to_list handed.now.entry))
+    ensures gives { OnOk result (AddsEmissionsAndCounts (D.given delegate.old)
+        (D.given delegate.new) outcome.old outcome.new (count_held_emitted_plainly
+        (walk_options_of options.now) (option_to_list handed.now.entry))
         (length (option_to_list handed.now.entry)) 0) }
-    ensures part { OnErr result (Within (D.given delegate.old) (D.given delegate.new) outcome.old
-        outcome.new (put_plain (chosen options.now) (option_to_list handed.now.entry))
+    ensures part { OnErr result (AddsAtMostEmissionsAndSeen (D.given delegate.old)
+        (D.given delegate.new) outcome.old outcome.new (count_held_emitted_plainly
+        (walk_options_of options.now) (option_to_list handed.now.entry))
         (length (option_to_list handed.now.entry))) }
-    ensures puts { Puts (λ path. held_at path (option_to_list handed.now.entry))
-        (D.given delegate.old) (D.given delegate.new) outcome.old outcome.new [] }
+    ensures puts { AddsEmissionsWithinRoom (λ path. count_held_at_path path
+        (option_to_list handed.now.entry)) (D.given delegate.old) (D.given delegate.new) outcome.old
+        outcome.new [] }
     ensures entered { outcome.new.read_dir_calls ≡ outcome.old.read_dir_calls }
-    ensures delegate { KeepsDelegate D.Delegate delegate.old delegate.new }
-    ensures filtered { AddsShown (chosen options.now) (D.given delegate.old)
+    ensures delegate { KeepsDelegateRunning D.Delegate delegate.old delegate.new }
+    ensures filtered { AddsNoHiddenEmission (walk_options_of options.now) (D.given delegate.old)
         (D.given delegate.new) }
     ensures heeds { HeedsDelegateBreak D.Delegate delegate.old delegate.new result }
-    ensures memory { WantsMemory result }
+    ensures memory { RefusesOnlyOutOfMemory result }
 {
     match &handed.entry {
         None => Ok(()),
@@ -117,7 +122,7 @@ fn put_handed<D: Delegate>(
 
 /// Walks a directory that is entered as the traversal root, as a strategy says, unless it lies too
 /// deep.
-fn walk_within_depth_limit<W: Worktree, F: Find, I: Interrupt, M: Matcher, D: Delegate>(
+fn walk_root_within_depth_limit<W: Worktree, F: Find, I: Interrupt, M: Matcher, D: Delegate>(
     alloc: Global,
     shared: &Shared<'_, M>,
     blocked: &Option<PathText>,
@@ -128,39 +133,51 @@ fn walk_within_depth_limit<W: Worktree, F: Find, I: Interrupt, M: Matcher, D: De
     parts: &mut Parts<'_, '_, '_, '_, '_, '_, W, F, I, D>,
 ) -> Result<Handed, Stop>
     requires root { place.old.root ≡ shared.now.worktree_root.now }
-    requires lookup { IsLookupIf shared.now.index.now shared.now.ignore_case_index_lookup.now }
-    requires excludes { tells_excludes (made_with parts.old.excludes.now) ≡ true }
+    requires lookup { IsLookupOfIndexIfGiven shared.now.index.now
+        shared.now.ignore_case_index_lookup.now }
+    requires excludes { has_excludes_if_given (setup_of_optional_stack parts.old.excludes.now)
+        ≡ true }
     // The parts are behind the same references.
-    ensures same { AreSame parts.old parts.new }
+    ensures same { KeepsPartReferences parts.old parts.new }
     // Over what is told, it gives all that is there or a part, and is refused for what is there.
-    ensures told { RootTold W.Worktree F.Find D.Delegate (moment parts.old) (moment parts.new)
-        (setting_of M.Matcher shared.now) blocked.now depth_limit place.old.path class.now result }
+    ensures told { WalksRootOverSources W.Worktree F.Find D.Delegate (walk_state_of_parts parts.old)
+        (walk_state_of_parts parts.new) (setting_of_shared M.Matcher shared.now) blocked.now
+        depth_limit place.old.path class.now result }
     // Over any worktree, what a refusal is about, what is given, what stays, and how it ends.
-    ensures walks { RootAny W.Worktree F.Find I.Interrupt D.Delegate
-        (moment parts.old) (moment parts.new)
-        (setting_of M.Matcher shared.now) depth_limit place.old.path result }
+    ensures walks { WalksRootOverAnyWorktree W.Worktree F.Find I.Interrupt D.Delegate
+        (walk_state_of_parts parts.old) (walk_state_of_parts parts.new)
+        (setting_of_shared M.Matcher shared.now) depth_limit place.old.path result }
     // How the directories that are opened are counted, and how many they are at most.
-    ensures opens { OpensAtRoot W.Worktree I.Interrupt (moment parts.old) (moment parts.new)
-        strategy (setting_of M.Matcher shared.now) place.old.path result
-        (EntersRoot W.Worktree F.Find D.Delegate (moment parts.old) (moment parts.new)
-        (setting_of M.Matcher shared.now) blocked.now depth_limit place.old.path class.now result) }
+    ensures opens { CountsOpenedAtRoot W.Worktree I.Interrupt (walk_state_of_parts parts.old)
+        (walk_state_of_parts parts.new) strategy (setting_of_shared M.Matcher shared.now)
+        place.old.path result (OpensAtMostEnteredAtRoot W.Worktree F.Find D.Delegate
+        (walk_state_of_parts parts.old) (walk_state_of_parts parts.new) (setting_of_shared M.Matcher
+        shared.now) blocked.now depth_limit place.old.path class.now result) }
     // A store that no rules file is mapped to is not asked where all is walked over it.
-    ensures unmapped { strategy ≡ Held → maps_blobs (made_with parts.old.excludes.now) ≡ false
-        → parts.new.objects.now ≡ parts.old.objects.now }
+    ensures unmapped { strategy ≡ Held → maps_rules_files_to_blobs (setup_of_optional_stack
+        parts.old.excludes.now) ≡ false → parts.new.objects.now ≡ parts.old.objects.now }
 {
-    let depth = depth_of(place.path());
+    let depth = count_components(place.path());
     if depth > depth_limit {
-        return Err(Stop::Refused(too_deep(alloc, place, parts.interrupt)));
+        return Err(Stop::Refused(too_deep_or_interrupted_error(alloc, place, parts.interrupt)));
     }
     let levels = depth_limit - depth;
     match strategy {
         Strategy::Held => walk_directory(alloc, shared, blocked, place, class, levels, parts),
-        Strategy::AtOnce => walk_children(alloc, shared, blocked, place, class, levels, parts),
+        Strategy::AtOnce => walk_root_directory_by_jobs(
+            alloc, shared, blocked, place, class, levels, parts,
+        ),
     }
 }
 
 /// Walks the traversal root `path`, of the class `class`, which is entered, as a strategy says.
-pub(crate) fn walk_entered<W: Worktree, F: Find, I: Interrupt, M: Matcher, D: Delegate>(
+pub(crate) fn walk_entered_traversal_root<
+    W: Worktree,
+    F: Find,
+    I: Interrupt,
+    M: Matcher,
+    D: Delegate,
+>(
     alloc: Global,
     shared: &Shared<'_, M>,
     path: &[u8],
@@ -169,34 +186,39 @@ pub(crate) fn walk_entered<W: Worktree, F: Find, I: Interrupt, M: Matcher, D: De
     strategy: Strategy,
     parts: &mut Parts<'_, '_, '_, '_, '_, '_, W, F, I, D>,
 ) -> Result<(), Stop>
-    requires normal { is_normal path.now ≡ true }
+    requires normal { is_relative_without_dots path.now ≡ true }
     requires plain { ends_in_slash path.now ≡ false }
-    requires spelled { path.now ≡ spelled (components path.now) }
-    requires lookup { IsLookupIf shared.now.index.now shared.now.ignore_case_index_lookup.now }
-    requires excludes { tells_excludes (made_with parts.old.excludes.now) ≡ true }
+    requires spelled { path.now ≡ slash_joined_components (components path.now) }
+    requires lookup { IsLookupOfIndexIfGiven shared.now.index.now
+        shared.now.ignore_case_index_lookup.now }
+    requires excludes { has_excludes_if_given (setup_of_optional_stack parts.old.excludes.now)
+        ≡ true }
     // The parts are behind the same references.
-    ensures same { AreSame parts.old parts.new }
+    ensures same { KeepsPartReferences parts.old parts.new }
     // Over what is told, it gives all that is there or a part, and is refused for what is there.
-    ensures told { EnteredTold W.Worktree F.Find D.Delegate (moment parts.old) (moment parts.new)
-        (setting_of M.Matcher shared.now) depth_limit path.now class.now result }
+    ensures told { WalksEnteredRootOverSources W.Worktree F.Find D.Delegate
+        (walk_state_of_parts parts.old) (walk_state_of_parts parts.new) (setting_of_shared M.Matcher
+        shared.now) depth_limit path.now class.now result }
     // Over any worktree, what a refusal is about, and what it says of what is told.
-    ensures caused { EnteredCaused W.Worktree F.Find (moment parts.old)
-        (setting_of M.Matcher shared.now) depth_limit path.now result }
+    ensures caused { CausesOfEnteredRootRefusal W.Worktree F.Find (walk_state_of_parts parts.old)
+        (setting_of_shared M.Matcher shared.now) depth_limit path.now result }
     // How the directories that are opened are counted, and how many they are at most.
-    ensures opens { OpensAtRoot W.Worktree I.Interrupt (moment parts.old) (moment parts.new)
-        strategy (setting_of M.Matcher shared.now) path.now result
-        (EntersThere W.Worktree F.Find D.Delegate (moment parts.old) (moment parts.new)
-        (setting_of M.Matcher shared.now) depth_limit path.now class.now result) }
+    ensures opens { CountsOpenedAtRoot W.Worktree I.Interrupt (walk_state_of_parts parts.old)
+        (walk_state_of_parts parts.new) strategy (setting_of_shared M.Matcher shared.now) path.now
+        result (OpensAtMostEnteredInRoot W.Worktree F.Find D.Delegate
+        (walk_state_of_parts parts.old) (walk_state_of_parts parts.new) (setting_of_shared M.Matcher
+        shared.now) depth_limit path.now class.now result) }
     // A store that no rules file is mapped to is not asked where all is walked over it.
-    ensures unmapped { strategy ≡ Held → maps_blobs (made_with parts.old.excludes.now) ≡ false
-        → parts.new.objects.now ≡ parts.old.objects.now }
+    ensures unmapped { strategy ≡ Held → maps_rules_files_to_blobs (setup_of_optional_stack
+        parts.old.excludes.now) ≡ false → parts.new.objects.now ≡ parts.old.objects.now }
     // Over any worktree, what the delegate is given, what stays, and how it ends.
-    ensures leaves { EnteredLeaves W.Worktree F.Find I.Interrupt D.Delegate
-        (moment parts.old) (moment parts.new) (setting_of M.Matcher shared.now) path.now result }
+    ensures leaves { LeavesAfterEnteredRoot W.Worktree F.Find I.Interrupt D.Delegate
+        (walk_state_of_parts parts.old) (walk_state_of_parts parts.new) (setting_of_shared M.Matcher
+        shared.now) path.now result }
 {
     let mut place = Place::from_root_and_path(alloc, shared.worktree_root, path)?;
-    let blocked = blocked_directory(alloc, shared, parts.worktree)?;
-    let handed = walk_within_depth_limit(
+    let blocked = current_directory_to_protect(alloc, shared, parts.worktree)?;
+    let handed = walk_root_within_depth_limit(
         alloc,
         shared,
         &blocked,
@@ -206,7 +228,7 @@ pub(crate) fn walk_entered<W: Worktree, F: Find, I: Interrupt, M: Matcher, D: De
         strategy,
         parts,
     )?;
-    put_handed(
+    emit_entry_handed_up(
         alloc,
         &shared.options,
         &handed,

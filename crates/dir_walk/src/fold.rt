@@ -1,15 +1,15 @@
 //! The fold of a directory: one entry in place of all that it holds.
 ghost use Rattle.std.specs.Prelude.{◌≡◌, ◌+◌, ◌≤◌, [], option_map, if◌then◌else◌};
-ghost use Rattle.dir_classify.specs.Chosen.{chosen, collapses, collapses_if, is_folding};
-ghost use Rattle.dir_classify.specs.Entries.{entry_at};
-ghost use Rattle.dir_classify.specs.Evidence.{Evidence};
+ghost use Rattle.dir_classify.specs.Chosen.{walk_options_of, is_collapsing_mode, collapses_directories_if_some, folds_untracked_or_ignored};
+ghost use Rattle.dir_classify.specs.Entries.{entry_with_outcome};
+ghost use Rattle.dir_classify.specs.Evidence.{PathEvidence};
 ghost use Rattle.dir_classify.specs.Evidence as evidence;
-ghost use Rattle.dir_walk.specs.Fold.{IsSmall, are_all_untracked_or_ignored, fold, fold_status, folded_class, folds_expendable, folds_precious, folds_untracked, greatest, has_no_names, is_barring, is_expendable, is_matched, is_prefix_or_wildcard_match, is_precious, is_same_status, is_untracked, match_over, may_delete_all, one_if, match_unless_prefix_or_excluded, property_over, rank_of, shows_collapsed, tally, tally_more};
-ghost use Rattle.dir_walk.specs.Walked.{is_held};
+ghost use Rattle.dir_walk.specs.Fold.{CanCountOneMore, all_counted_untracked_or_ignored, fold, status_of_folded_directory, outcome_of_folded_directory, may_fold_as_expendable, may_fold_as_precious, may_fold_as_untracked, greatest_match_counted, is_empty_directory_entry, prevents_folding, is_ignored_expendable_entry, has_pathspec_match, is_prefix_or_wildcard_match, is_ignored_precious_entry, equals_status, is_untracked_entry, pathspec_match_of_folded_directory, may_delete_all_at_once, count_of_flag, match_unless_prefix_or_excluded, property_of_folded_directory, rank_of_optional_pathspec_match, emits_besides_folded_directory, tally_held_entries, tally_with_entry};
+ghost use Rattle.dir_walk.specs.Walked.{holds_status_for_folding};
 
 use crate::tally::Tally;
 use dir_classify::classify::Outcome;
-use dir_classify::entry::is_repository;
+use dir_classify::entry::is_repository_kind;
 use dir_classify::{
     CollapsedEntriesEmissionMode, EmissionMode, Entry, Options, PathspecMatch, Property, Status,
 };
@@ -29,51 +29,51 @@ pub(crate) fn fold(
     blocked: bool,
     covered: bool,
 ) -> Option<Outcome>
-    ensures { (ev : Evidence) → evidence.is_blocked ev path.now ≡ blocked
+    ensures { (ev : PathEvidence) → evidence.is_protected_current_directory ev path.now ≡ blocked
         → ev.covers path.now ≡ covered
-        → option_map (entry_at path.now) result
-        ≡ fold (chosen options.now) ev path.now class.now (tally held.now) }
+        → option_map (entry_with_outcome path.now) result
+        ≡ fold (walk_options_of options.now) ev path.now class.now (tally_held_entries held.now) }
 {
-    let counts = tally(held);
+    let counts = tally_held_entries(held);
     let barred = counts.barring != 0;
     let mixed = (counts.picked != 0) & (counts.picked != counts.all);
     if path.is_empty() | blocked | barred | mixed | !covered {
         return None;
     }
-    match fold_status(options, &counts) {
+    match status_of_folded_directory(options, &counts) {
         None => None,
-        Some(status) => Some(folded_class(options, class, &counts, status)),
+        Some(status) => Some(outcome_of_folded_directory(options, class, &counts, status)),
     }
 }
 
 /// Whether an entry of a status is held, as a directory may be folded over it.
 ///
 /// See docs/DECISIONS.md#folding-sees-held.
-pub(crate) fn is_held(options: &Options<'_>, status: Status) -> bool
-    ensures { result ≡ is_held (chosen options.now) status }
+pub(crate) fn holds_status_for_folding(options: &Options<'_>, status: Status) -> bool
+    ensures { result ≡ holds_status_for_folding (walk_options_of options.now) status }
 {
-    !status.is_pruned() & is_folding(options)
+    !status.is_pruned() & folds_untracked_or_ignored(options)
 }
 
 /// Whether a held entry is emitted besides the directory that was folded over it with a status.
-pub(crate) fn shows_collapsed(
+pub(crate) fn emits_besides_folded_directory(
     mode: Option<CollapsedEntriesEmissionMode>,
     status: Status,
     entry: &Entry,
 ) -> bool
-    ensures { result ≡ shows_collapsed mode status entry.now }
+    ensures { result ≡ emits_besides_folded_directory mode status entry.now }
 {
     match mode {
         None => false,
         Some(CollapsedEntriesEmissionMode::OnStatusMismatch) => {
-            !is_same_status(entry.status, status)
+            !equals_status(entry.status, status)
         }
         Some(CollapsedEntriesEmissionMode::All) => true,
     }
 }
 
-fn is_same_status(a: Status, b: Status) -> bool
-    ensures { result ≡ is_same_status a b }
+fn equals_status(a: Status, b: Status) -> bool
+    ensures { result ≡ equals_status a b }
 {
     match a {
         Status::Pruned => b.is_pruned(),
@@ -91,19 +91,19 @@ fn is_same_status(a: Status, b: Status) -> bool
 // ---- what is held
 
 /// The held entries, counted.
-fn tally(held: &[Entry]) -> Tally
-    ensures counts { result ≡ tally held.now }
+fn tally_held_entries(held: &[Entry]) -> Tally
+    ensures counts { result ≡ tally_held_entries held.now }
     ensures loose { result.untracked + result.expendable + result.precious ≤ result.all }
 {
-    let mut counts = no_tally();
+    let mut counts = zero_tally();
     for entry in held {
-        counts = tally_more(counts, entry);
+        counts = tally_with_entry(counts, entry);
     }
     counts
 }
 
-fn no_tally() -> Tally
-    ensures { result ≡ tally [] }
+fn zero_tally() -> Tally
+    ensures { result ≡ tally_held_entries [] }
 {
     Tally {
         all: 0,
@@ -122,52 +122,55 @@ fn no_tally() -> Tally
 }
 
 /// The counts with one more entry.
-fn tally_more(counts: Tally, entry: &Entry) -> Tally
-    requires { IsSmall counts }
-    ensures { result ≡ tally_more counts entry.now }
+fn tally_with_entry(counts: Tally, entry: &Entry) -> Tally
+    requires { CanCountOneMore counts }
+    ensures { result ≡ tally_with_entry counts entry.now }
 {
     Tally {
         all: counts.all + 1,
-        untracked: counts.untracked + one_if(is_untracked(entry)),
-        expendable: counts.expendable + one_if(is_expendable(entry)),
-        precious: counts.precious + one_if(is_precious(entry)),
-        barring: counts.barring + one_if(is_barring(entry)),
-        picked: counts.picked + one_if(is_prefix_or_wildcard_match(entry)),
-        without_names: counts.without_names + one_if(has_no_names(entry)),
-        always: counts.always + one_if(is_matched(entry, PathspecMatch::Always)),
-        excluded: counts.excluded + one_if(is_matched(entry, PathspecMatch::Excluded)),
-        prefixed: counts.prefixed + one_if(is_matched(entry, PathspecMatch::Prefix)),
-        wildcard: counts.wildcard + one_if(is_matched(entry, PathspecMatch::WildcardMatch)),
-        verbatim: counts.verbatim + one_if(is_matched(entry, PathspecMatch::Verbatim)),
+        untracked: counts.untracked + count_of_flag(is_untracked_entry(entry)),
+        expendable: counts.expendable + count_of_flag(is_ignored_expendable_entry(entry)),
+        precious: counts.precious + count_of_flag(is_ignored_precious_entry(entry)),
+        barring: counts.barring + count_of_flag(prevents_folding(entry)),
+        picked: counts.picked + count_of_flag(is_prefix_or_wildcard_match(entry)),
+        without_names: counts.without_names + count_of_flag(is_empty_directory_entry(entry)),
+        always: counts.always + count_of_flag(has_pathspec_match(entry, PathspecMatch::Always)),
+        excluded: counts.excluded
+            + count_of_flag(has_pathspec_match(entry, PathspecMatch::Excluded)),
+        prefixed: counts.prefixed + count_of_flag(has_pathspec_match(entry, PathspecMatch::Prefix)),
+        wildcard: counts.wildcard
+            + count_of_flag(has_pathspec_match(entry, PathspecMatch::WildcardMatch)),
+        verbatim: counts.verbatim
+            + count_of_flag(has_pathspec_match(entry, PathspecMatch::Verbatim)),
     }
 }
 
-fn one_if(b: bool) -> usize
-    ensures { result ≡ one_if b }
+fn count_of_flag(b: bool) -> usize
+    ensures { result ≡ count_of_flag b }
 {
     if b { 1 } else { 0 }
 }
 
-fn is_untracked(entry: &Entry) -> bool
-    ensures { result ≡ is_untracked entry.now }
+fn is_untracked_entry(entry: &Entry) -> bool
+    ensures { result ≡ is_untracked_entry entry.now }
 {
     matches!(entry.status, Status::Untracked)
 }
 
-fn is_expendable(entry: &Entry) -> bool
-    ensures { result ≡ is_expendable entry.now }
+fn is_ignored_expendable_entry(entry: &Entry) -> bool
+    ensures { result ≡ is_ignored_expendable_entry entry.now }
 {
     matches!(entry.status, Status::Ignored(ignore::Kind::Expendable))
 }
 
-fn is_precious(entry: &Entry) -> bool
-    ensures { result ≡ is_precious entry.now }
+fn is_ignored_precious_entry(entry: &Entry) -> bool
+    ensures { result ≡ is_ignored_precious_entry entry.now }
 {
     matches!(entry.status, Status::Ignored(ignore::Kind::Precious))
 }
 
-fn has_no_names(entry: &Entry) -> bool
-    ensures { result ≡ has_no_names entry.now }
+fn is_empty_directory_entry(entry: &Entry) -> bool
+    ensures { result ≡ is_empty_directory_entry entry.now }
 {
     matches!(entry.property, Some(Property::EmptyDirectory))
 }
@@ -178,32 +181,32 @@ fn has_no_names(entry: &Entry) -> bool
 /// See docs/DIFFERENCES.md#folded-over-repository.
 /// See docs/DIFFERENCES.md#folded-over-spec.
 /// See docs/DIFFERENCES.md#folded-over-ignored.
-fn is_barring(entry: &Entry) -> bool
-    ensures { result ≡ is_barring entry.now }
+fn prevents_folding(entry: &Entry) -> bool
+    ensures { result ≡ prevents_folding entry.now }
 {
-    let named = is_matched(entry, PathspecMatch::Verbatim);
-    let excluded = is_matched(entry, PathspecMatch::Excluded);
-    is_repository(entry.disk_kind) | named | excluded
+    let named = has_pathspec_match(entry, PathspecMatch::Verbatim);
+    let excluded = has_pathspec_match(entry, PathspecMatch::Excluded);
+    is_repository_kind(entry.disk_kind) | named | excluded
 }
 
 /// Whether a spec matches an entry by a directory above it or by its wildcards.
 fn is_prefix_or_wildcard_match(entry: &Entry) -> bool
     ensures { result ≡ is_prefix_or_wildcard_match entry.now }
 {
-    let prefixed = is_matched(entry, PathspecMatch::Prefix);
-    let wild = is_matched(entry, PathspecMatch::WildcardMatch);
+    let prefixed = has_pathspec_match(entry, PathspecMatch::Prefix);
+    let wild = has_pathspec_match(entry, PathspecMatch::WildcardMatch);
     prefixed | wild
 }
 
-fn is_matched(entry: &Entry, found: PathspecMatch) -> bool
-    ensures { result ≡ is_matched found entry.now }
+fn has_pathspec_match(entry: &Entry, found: PathspecMatch) -> bool
+    ensures { result ≡ has_pathspec_match found entry.now }
 {
-    rank_of(entry.pathspec_match) == rank_of(Some(found))
+    rank_of_pathspec_match(entry.pathspec_match) == rank_of_pathspec_match(Some(found))
 }
 
 /// The place of a match in the order of matches.
-fn rank_of(found: Option<PathspecMatch>) -> u8
-    ensures { result ≡ rank_of found }
+fn rank_of_pathspec_match(found: Option<PathspecMatch>) -> u8
+    ensures { result ≡ rank_of_optional_pathspec_match found }
 {
     match found {
         None => 0,
@@ -220,46 +223,46 @@ fn rank_of(found: Option<PathspecMatch>) -> u8
 /// The status under which all that is held may become one entry, if there is one.
 ///
 /// See docs/DECISIONS.md#folded-untracked.
-fn fold_status(options: &Options<'_>, counts: &Tally) -> Option<Status>
+fn status_of_folded_directory(options: &Options<'_>, counts: &Tally) -> Option<Status>
     requires { counts.now.untracked + counts.now.expendable + counts.now.precious ≤ counts.now.all }
-    ensures { result ≡ fold_status (chosen options.now) counts.now }
+    ensures { result ≡ status_of_folded_directory (walk_options_of options.now) counts.now }
 {
-    if folds_untracked(options, counts) {
+    if may_fold_as_untracked(options, counts) {
         return Some(Status::Untracked);
     }
-    if folds_expendable(options, counts) {
+    if may_fold_as_expendable(options, counts) {
         return Some(Status::Ignored(ignore::Kind::Expendable));
     }
-    if folds_precious(options, counts) {
+    if may_fold_as_precious(options, counts) {
         return Some(Status::Ignored(ignore::Kind::Precious));
     }
     None
 }
 
-#[tactic(auto, unfolding(dir_classify::specs::Chosen::chosen))]
-fn folds_untracked(options: &Options<'_>, counts: &Tally) -> bool
+#[tactic(auto, unfolding(dir_classify::specs::Chosen::walk_options_of))]
+fn may_fold_as_untracked(options: &Options<'_>, counts: &Tally) -> bool
     requires { counts.now.untracked + counts.now.expendable + counts.now.precious ≤ counts.now.all }
-    ensures { result ≡ folds_untracked (chosen options.now) counts.now }
+    ensures { result ≡ may_fold_as_untracked (walk_options_of options.now) counts.now }
 {
     let some = counts.untracked != 0;
-    let loose = are_all_untracked_or_ignored(counts);
-    let deletable = may_delete_all(options, counts);
-    collapses(options.emit_untracked) & some & loose & deletable
+    let loose = all_counted_untracked_or_ignored(counts);
+    let deletable = may_delete_all_at_once(options, counts);
+    is_collapsing_mode(options.emit_untracked) & some & loose & deletable
 }
 
 /// Whether all that is held is untracked or ignored.
-fn are_all_untracked_or_ignored(counts: &Tally) -> bool
+fn all_counted_untracked_or_ignored(counts: &Tally) -> bool
     requires { counts.now.untracked + counts.now.expendable + counts.now.precious ≤ counts.now.all }
-    ensures { result ≡ are_all_untracked_or_ignored counts.now }
+    ensures { result ≡ all_counted_untracked_or_ignored counts.now }
 {
     counts.untracked + counts.expendable + counts.precious == counts.all
 }
 
 /// Whether deletion may take all that is held at once: nothing precious, and what is ignored only
 /// where that is asked for.
-#[tactic(auto, unfolding(dir_classify::specs::Chosen::chosen))]
-fn may_delete_all(options: &Options<'_>, counts: &Tally) -> bool
-    ensures { result ≡ may_delete_all (chosen options.now) counts.now }
+#[tactic(auto, unfolding(dir_classify::specs::Chosen::walk_options_of))]
+fn may_delete_all_at_once(options: &Options<'_>, counts: &Tally) -> bool
+    ensures { result ≡ may_delete_all_at_once (walk_options_of options.now) counts.now }
 {
     if options.for_deletion.is_none() {
         return true;
@@ -273,55 +276,61 @@ fn may_delete_all(options: &Options<'_>, counts: &Tally) -> bool
     options.emit_ignored.is_some()
 }
 
-#[tactic(auto, unfolding(dir_classify::specs::Chosen::chosen))]
-fn folds_expendable(options: &Options<'_>, counts: &Tally) -> bool
-    ensures { result ≡ folds_expendable (chosen options.now) counts.now }
+#[tactic(auto, unfolding(dir_classify::specs::Chosen::walk_options_of))]
+fn may_fold_as_expendable(options: &Options<'_>, counts: &Tally) -> bool
+    ensures { result ≡ may_fold_as_expendable (walk_options_of options.now) counts.now }
 {
     let some = counts.expendable != 0;
-    collapses_if(options.emit_ignored) & some & (counts.expendable == counts.all)
+    collapses_directories_if_some(options.emit_ignored) & some & (counts.expendable == counts.all)
 }
 
-#[tactic(auto, unfolding(dir_classify::specs::Chosen::chosen))]
-fn folds_precious(options: &Options<'_>, counts: &Tally) -> bool
-    ensures { result ≡ folds_precious (chosen options.now) counts.now }
+#[tactic(auto, unfolding(dir_classify::specs::Chosen::walk_options_of))]
+fn may_fold_as_precious(options: &Options<'_>, counts: &Tally) -> bool
+    ensures { result ≡ may_fold_as_precious (walk_options_of options.now) counts.now }
 {
     let some = counts.precious != 0;
-    collapses_if(options.emit_ignored) & some & (counts.precious == counts.all)
+    collapses_directories_if_some(options.emit_ignored) & some & (counts.precious == counts.all)
 }
 
 /// Whether directories are folded, if they can be.
-#[tactic(auto, unfolding(dir_classify::specs::Chosen::chosen))]
-fn is_folding(options: &Options<'_>) -> bool
-    ensures { result ≡ is_folding (chosen options.now) }
+#[tactic(auto, unfolding(dir_classify::specs::Chosen::walk_options_of))]
+fn folds_untracked_or_ignored(options: &Options<'_>) -> bool
+    ensures { result ≡ folds_untracked_or_ignored (walk_options_of options.now) }
 {
-    collapses(options.emit_untracked) | collapses_if(options.emit_ignored)
+    is_collapsing_mode(options.emit_untracked) | collapses_directories_if_some(options.emit_ignored)
 }
 
-fn collapses(mode: EmissionMode) -> bool
-    ensures { result ≡ collapses mode }
+fn is_collapsing_mode(mode: EmissionMode) -> bool
+    ensures { result ≡ is_collapsing_mode mode }
 {
     matches!(mode, EmissionMode::CollapseDirectory)
 }
 
-fn collapses_if(mode: Option<EmissionMode>) -> bool
-    ensures { result ≡ collapses_if mode }
+fn collapses_directories_if_some(mode: Option<EmissionMode>) -> bool
+    ensures { result ≡ collapses_directories_if_some mode }
 {
     match mode {
         None => false,
-        Some(mode) => collapses(mode),
+        Some(mode) => is_collapsing_mode(mode),
     }
 }
 
 // ---- its class
 
 /// The class of a directory as one entry in place of all that it holds.
-fn folded_class(options: &Options<'_>, class: &Outcome, counts: &Tally, status: Status) -> Outcome
-    ensures { result ≡ folded_class (chosen options.now) class.now counts.now status }
+fn outcome_of_folded_directory(
+    options: &Options<'_>,
+    class: &Outcome,
+    counts: &Tally,
+    status: Status,
+) -> Outcome
+    ensures { result ≡ outcome_of_folded_directory (walk_options_of options.now) class.now
+        counts.now status }
 {
     Outcome {
         status,
-        property: property_over(options, class.property, status, counts),
-        pathspec_match: match_over(counts, class),
+        property: property_of_folded_directory(options, class.property, status, counts),
+        pathspec_match: pathspec_match_of_folded_directory(counts, class),
         ..*class
     }
 }
@@ -330,14 +339,15 @@ fn folded_class(options: &Options<'_>, class: &Outcome, counts: &Tally, status: 
 /// deletion.
 ///
 /// See docs/DIFFERENCES.md#gone-tracked-files.
-#[tactic(auto, unfolding(dir_classify::specs::Chosen::chosen))]
-fn property_over(
+#[tactic(auto, unfolding(dir_classify::specs::Chosen::walk_options_of))]
+fn property_of_folded_directory(
     options: &Options<'_>,
     own: Option<Property>,
     status: Status,
     counts: &Tally,
 ) -> Option<Property>
-    ensures { result ≡ property_over (chosen options.now) own status counts.now }
+    ensures { result ≡ property_of_folded_directory (walk_options_of options.now) own status
+        counts.now }
 {
     match own {
         Some(property) => Some(property),
@@ -357,17 +367,18 @@ fn property_over(
 /// names it.
 ///
 /// See docs/DIFFERENCES.md#folded-by-spec.
-fn match_over(counts: &Tally, class: &Outcome) -> Option<PathspecMatch>
-    ensures { result ≡ match_over (greatest counts.now) class.now }
+fn pathspec_match_of_folded_directory(counts: &Tally, class: &Outcome) -> Option<PathspecMatch>
+    ensures { result ≡ pathspec_match_of_folded_directory (greatest_match_counted counts.now)
+        class.now }
 {
-    match greatest(counts) {
+    match greatest_match_counted(counts) {
         Some(found) => Some(found),
         None => match_unless_prefix_or_excluded(class.pathspec_match),
     }
 }
 
-fn greatest(counts: &Tally) -> Option<PathspecMatch>
-    ensures { result ≡ greatest counts.now }
+fn greatest_match_counted(counts: &Tally) -> Option<PathspecMatch>
+    ensures { result ≡ greatest_match_counted counts.now }
 {
     if counts.verbatim != 0 {
         return Some(PathspecMatch::Verbatim);

@@ -1,19 +1,19 @@
 //! The walk of a worktree.
 ghost use Rattle.std.specs.Prelude.{◌≡◌, true};
-ghost use Rattle.dir_classify.specs.Excludes.{made_with, tells_excludes};
-ghost use Rattle.dir_classify.specs.Layers.{setting_in, setting_of, IsLookupIf};
+ghost use Rattle.dir_classify.specs.Excludes.{setup_of_optional_stack, has_excludes_if_given};
+ghost use Rattle.dir_classify.specs.Layers.{setting_of_context, setting_of_shared, IsLookupOfIndexIfGiven};
 ghost use Rattle.dir_walk.specs.declared.strategy.Strategy.TheVariants.{Held};
-ghost use Rattle.dir_walk.specs.Moments.{AreSame};
-ghost use Rattle.dir_walk.specs.Walks.{WalksFor};
+ghost use Rattle.dir_walk.specs.Moments.{KeepsPartReferences};
+ghost use Rattle.dir_walk.specs.Walks.{WalksForDelegate};
 
 use crate::delegate::Delegate;
 use crate::handed::Stop;
 use crate::outcome::Outcome;
 use crate::parts::Parts;
-use crate::root::traversal_root;
-use crate::start::walk_from;
+use crate::root::find_traversal_root;
+use crate::start::walk_from_traversal_root;
 use crate::strategy::Strategy;
-use dir_classify::{Context, Error, Options, Shared, full_path};
+use dir_classify::{Context, Error, Options, Shared, join_worktree_root};
 use gitbase_core::{Bytes, Find, PathText};
 use glob_rules::pathspec::Matcher;
 use std::alloc::Global;
@@ -87,19 +87,19 @@ pub fn walk<W: Worktree, F: Find, I: Interrupt, M: Matcher, D: Delegate>(
     options: Options<'_>,
     delegate: &mut D,
 ) -> Result<(Outcome, PathText), Error>
-    requires excludes { tells_excludes (made_with ctx.excludes.now) ≡ true }
-    requires lookup { IsLookupIf ctx.index.now ctx.ignore_case_index_lookup.now }
-    ensures { WalksFor W.Worktree F.Find I.Interrupt D.Delegate ctx.entry.worktree.now
+    requires excludes { has_excludes_if_given (setup_of_optional_stack ctx.excludes.now) ≡ true }
+    requires lookup { IsLookupOfIndexIfGiven ctx.index.now ctx.ignore_case_index_lookup.now }
+    ensures { WalksForDelegate W.Worktree F.Find I.Interrupt D.Delegate ctx.entry.worktree.now
         ctx.exit.0.now ctx.entry.objects.now ctx.exit.1.0.now ctx.entry.interrupt.now
         ctx.exit.1.1.0.now ctx.entry.excludes.now ctx.exit.1.1.1.1.0.now delegate.old delegate.new
-        Held (setting_in M.Matcher worktree_root.now options.entry ctx.entry)
+        Held (setting_of_context M.Matcher worktree_root.now options.entry ctx.entry)
         ctx.entry.explicit_traversal_root.now ctx.entry.depth_limit result }
 {
-    walk_as(alloc, worktree_root, ctx, options, Strategy::Held, delegate)
+    walk_by_strategy(alloc, worktree_root, ctx, options, Strategy::Held, delegate)
 }
 
 /// The same as a strategy says.
-pub(crate) fn walk_as<W: Worktree, F: Find, I: Interrupt, M: Matcher, D: Delegate>(
+pub(crate) fn walk_by_strategy<W: Worktree, F: Find, I: Interrupt, M: Matcher, D: Delegate>(
     alloc: Global,
     worktree_root: &[u8],
     ctx: Context<'_, W, F, I, M>,
@@ -107,12 +107,12 @@ pub(crate) fn walk_as<W: Worktree, F: Find, I: Interrupt, M: Matcher, D: Delegat
     strategy: Strategy,
     delegate: &mut D,
 ) -> Result<(Outcome, PathText), Error>
-    requires excludes { tells_excludes (made_with ctx.excludes.now) ≡ true }
-    requires lookup { IsLookupIf ctx.index.now ctx.ignore_case_index_lookup.now }
-    ensures { WalksFor W.Worktree F.Find I.Interrupt D.Delegate ctx.entry.worktree.now
+    requires excludes { has_excludes_if_given (setup_of_optional_stack ctx.excludes.now) ≡ true }
+    requires lookup { IsLookupOfIndexIfGiven ctx.index.now ctx.ignore_case_index_lookup.now }
+    ensures { WalksForDelegate W.Worktree F.Find I.Interrupt D.Delegate ctx.entry.worktree.now
         ctx.exit.0.now ctx.entry.objects.now ctx.exit.1.0.now ctx.entry.interrupt.now
         ctx.exit.1.1.0.now ctx.entry.excludes.now ctx.exit.1.1.1.1.0.now delegate.old delegate.new
-        strategy (setting_in M.Matcher worktree_root.now options.entry ctx.entry)
+        strategy (setting_of_context M.Matcher worktree_root.now options.entry ctx.entry)
         ctx.entry.explicit_traversal_root.now ctx.entry.depth_limit result }
 {
     let Context {
@@ -146,7 +146,7 @@ pub(crate) fn walk_as<W: Worktree, F: Find, I: Interrupt, M: Matcher, D: Delegat
         delegate,
         outcome: &mut outcome,
     };
-    walk_parts(
+    walk_context_parts(
         alloc,
         &shared,
         explicit_traversal_root,
@@ -158,7 +158,7 @@ pub(crate) fn walk_as<W: Worktree, F: Find, I: Interrupt, M: Matcher, D: Delegat
 
 /// The same over the parts of a context, as a strategy says. What is counted is counted from
 /// nothing on.
-fn walk_parts<W: Worktree, F: Find, I: Interrupt, M: Matcher, D: Delegate>(
+fn walk_context_parts<W: Worktree, F: Find, I: Interrupt, M: Matcher, D: Delegate>(
     alloc: Global,
     shared: &Shared<'_, M>,
     explicit: &Option<Bytes>,
@@ -166,21 +166,23 @@ fn walk_parts<W: Worktree, F: Find, I: Interrupt, M: Matcher, D: Delegate>(
     strategy: Strategy,
     parts: &mut Parts<'_, '_, '_, '_, '_, '_, W, F, I, D>,
 ) -> Result<(Outcome, PathText), Error>
-    requires excludes { tells_excludes (made_with parts.old.excludes.now) ≡ true }
-    requires lookup { IsLookupIf shared.now.index.now shared.now.ignore_case_index_lookup.now }
+    requires excludes { has_excludes_if_given (setup_of_optional_stack parts.old.excludes.now)
+        ≡ true }
+    requires lookup { IsLookupOfIndexIfGiven shared.now.index.now
+        shared.now.ignore_case_index_lookup.now }
     // The parts are behind the same references.
-    ensures same { AreSame parts.old parts.new }
+    ensures same { KeepsPartReferences parts.old parts.new }
     // Why it is refused, what it leaves, and what the delegate is given.
-    ensures walks { WalksFor W.Worktree F.Find I.Interrupt D.Delegate
+    ensures walks { WalksForDelegate W.Worktree F.Find I.Interrupt D.Delegate
         parts.old.worktree.now parts.new.worktree.now parts.old.objects.now parts.new.objects.now
         parts.old.interrupt.now parts.new.interrupt.now parts.old.excludes.now
         parts.new.excludes.now parts.old.delegate.now parts.new.delegate.now
-        strategy (setting_of M.Matcher shared.now) explicit.now depth_limit result }
+        strategy (setting_of_shared M.Matcher shared.now) explicit.now depth_limit result }
 {
-    let root = traversal_root(alloc, shared, explicit, parts.worktree)?;
-    let full = full_path(alloc, shared.worktree_root, root.as_bytes())?;
+    let root = find_traversal_root(alloc, shared, explicit, parts.worktree)?;
+    let full = join_worktree_root(alloc, shared.worktree_root, root.as_bytes())?;
     *parts.outcome = Outcome::default();
-    match walk_from(alloc, shared, root.as_bytes(), depth_limit, strategy, parts) {
+    match walk_from_traversal_root(alloc, shared, root.as_bytes(), depth_limit, strategy, parts) {
         Ok(()) => Ok((Outcome { ..*parts.outcome }, full)),
         Err(Stop::Broken) => Ok((Outcome { ..*parts.outcome }, full)),
         Err(Stop::Refused(error)) => Err(error),

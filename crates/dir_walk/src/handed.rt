@@ -78,7 +78,7 @@ impl Held {
 
     /// Adds what one name hands up. The room comes from the allocator that made the list.
     #[inline(never)]
-    pub fn add_handed(&mut self, _alloc: Global, handed: Handed) -> Result<(), OutOfMemory>
+    pub fn add_entry_handed_up(&mut self, _alloc: Global, handed: Handed) -> Result<(), OutOfMemory>
         ensures entries { OnOk result
             (self.new.entries.items ≡ self.old.entries.items ++ option_to_list handed.entry) }
         ensures blocked { OnOk result (self.new.blocked ≡ (self.old.blocked || handed.blocks)) }

@@ -1,10 +1,10 @@
 //! A subtree as a job of its own, over forks of what the walk was handed.
 ghost use Rattle.std.specs.Prelude.{◌≡◌, true, IfOk, OnOk};
-ghost use Rattle.worktree_stack.specs.Reading.{Sources};
-ghost use Rattle.dir_classify.specs.Excludes.{made_with, tells_excludes, InStepIf};
-ghost use Rattle.dir_classify.specs.Layers.{setting_of, IsLookupIf};
-ghost use Rattle.dir_walk.specs.Jobs.{WalksJob};
-ghost use Rattle.dir_walk.specs.Moments.{AreSame, moment};
+ghost use Rattle.worktree_stack.specs.Reading.{TreeAndObjects};
+ghost use Rattle.dir_classify.specs.Excludes.{setup_of_optional_stack, has_excludes_if_given, IsStackInStepIfGiven};
+ghost use Rattle.dir_classify.specs.Layers.{setting_of_shared, IsLookupOfIndexIfGiven};
+ghost use Rattle.dir_walk.specs.Jobs.{WalksDirectoryAsJob};
+ghost use Rattle.dir_walk.specs.Moments.{KeepsPartReferences, walk_state_of_parts};
 
 use crate::delegate::Delegate;
 use crate::directory::walk_directory;
@@ -22,7 +22,7 @@ use worktree_stack::Stack;
 /// the worktree, the store and the interrupt, and with rules that are made as those of the parts
 /// were and of which nothing is pushed. Each fork is absorbed when the job is done, and where it is
 /// refused too.
-pub(crate) fn walk_job<W: Worktree, F: Find, I: Interrupt, M: Matcher, D: Delegate>(
+pub(crate) fn walk_as_job<W: Worktree, F: Find, I: Interrupt, M: Matcher, D: Delegate>(
     alloc: Global,
     shared: &Shared<'_, M>,
     blocked: &Option<PathText>,
@@ -32,17 +32,19 @@ pub(crate) fn walk_job<W: Worktree, F: Find, I: Interrupt, M: Matcher, D: Delega
     parts: &mut Parts<'_, '_, '_, '_, '_, '_, W, F, I, D>,
 ) -> Result<Handed, Stop>
     requires root { place.old.root ≡ shared.now.worktree_root.now }
-    requires lookup { IsLookupIf shared.now.index.now shared.now.ignore_case_index_lookup.now }
-    requires excludes { tells_excludes (made_with parts.old.excludes.now) ≡ true }
-    ensures same { AreSame parts.old parts.new }
-    ensures job { WalksJob W.Worktree F.Find I.Interrupt D.Delegate
-        (moment parts.old) (moment parts.new)
-        (setting_of M.Matcher shared.now) blocked.now levels place.old.path class.now result }
+    requires lookup { IsLookupOfIndexIfGiven shared.now.index.now
+        shared.now.ignore_case_index_lookup.now }
+    requires excludes { has_excludes_if_given (setup_of_optional_stack parts.old.excludes.now)
+        ≡ true }
+    ensures same { KeepsPartReferences parts.old parts.new }
+    ensures job { WalksDirectoryAsJob W.Worktree F.Find I.Interrupt D.Delegate
+        (walk_state_of_parts parts.old) (walk_state_of_parts parts.new) (setting_of_shared M.Matcher
+        shared.now) blocked.now levels place.old.path class.now result }
     ensures rules { parts.new.excludes.now ≡ parts.old.excludes.now }
     ensures lists { W.lists parts.new.worktree.now ≡ W.lists parts.old.worktree.now }
     ensures stays { OnOk result (place.new ≡ place.old) }
 {
-    let mut rules = fresh_rules(alloc, parts.excludes)?;
+    let mut rules = fresh_stack_if_given(alloc, parts.excludes)?;
     let mut forked = Parts {
         excludes: &mut rules,
         worktree: parts.worktree,
@@ -55,9 +57,13 @@ pub(crate) fn walk_job<W: Worktree, F: Find, I: Interrupt, M: Matcher, D: Delega
 }
 
 /// Rules that are made as these were, and of which nothing is pushed.
-fn fresh_rules(alloc: Global, excludes: &Option<Stack>) -> Result<Option<Stack>, OutOfMemory>
-    ensures made { IfOk result (λ rules. made_with rules ≡ made_with excludes.now) }
-    ensures in_step { (s : Sources) → IfOk result (InStepIf s) }
+fn fresh_stack_if_given(
+    alloc: Global,
+    excludes: &Option<Stack>,
+) -> Result<Option<Stack>, OutOfMemory>
+    ensures made { IfOk result (λ rules. setup_of_optional_stack rules ≡ setup_of_optional_stack
+        excludes.now) }
+    ensures in_step { (s : TreeAndObjects) → IfOk result (IsStackInStepIfGiven s) }
 {
     match excludes {
         None => Ok(None),
@@ -76,12 +82,14 @@ fn walk_with_worktree_fork<W: Worktree, F: Find, I: Interrupt, M: Matcher, D: De
     parts: &mut Parts<'_, '_, '_, '_, '_, '_, W, F, I, D>,
 ) -> Result<Handed, Stop>
     requires root { place.old.root ≡ shared.now.worktree_root.now }
-    requires lookup { IsLookupIf shared.now.index.now shared.now.ignore_case_index_lookup.now }
-    requires excludes { tells_excludes (made_with parts.old.excludes.now) ≡ true }
-    ensures same { AreSame parts.old parts.new }
-    ensures job { WalksJob W.Worktree F.Find I.Interrupt D.Delegate
-        (moment parts.old) (moment parts.new)
-        (setting_of M.Matcher shared.now) blocked.now levels place.old.path class.now result }
+    requires lookup { IsLookupOfIndexIfGiven shared.now.index.now
+        shared.now.ignore_case_index_lookup.now }
+    requires excludes { has_excludes_if_given (setup_of_optional_stack parts.old.excludes.now)
+        ≡ true }
+    ensures same { KeepsPartReferences parts.old parts.new }
+    ensures job { WalksDirectoryAsJob W.Worktree F.Find I.Interrupt D.Delegate
+        (walk_state_of_parts parts.old) (walk_state_of_parts parts.new) (setting_of_shared M.Matcher
+        shared.now) blocked.now levels place.old.path class.now result }
     ensures lists { W.lists parts.new.worktree.now ≡ W.lists parts.old.worktree.now }
     ensures stays { OnOk result (place.new ≡ place.old) }
 {
@@ -110,12 +118,14 @@ fn walk_with_store_fork<W: Worktree, F: Find, I: Interrupt, M: Matcher, D: Deleg
     parts: &mut Parts<'_, '_, '_, '_, '_, '_, W, F, I, D>,
 ) -> Result<Handed, Stop>
     requires root { place.old.root ≡ shared.now.worktree_root.now }
-    requires lookup { IsLookupIf shared.now.index.now shared.now.ignore_case_index_lookup.now }
-    requires excludes { tells_excludes (made_with parts.old.excludes.now) ≡ true }
-    ensures same { AreSame parts.old parts.new }
-    ensures job { WalksJob W.Worktree F.Find I.Interrupt D.Delegate
-        (moment parts.old) (moment parts.new)
-        (setting_of M.Matcher shared.now) blocked.now levels place.old.path class.now result }
+    requires lookup { IsLookupOfIndexIfGiven shared.now.index.now
+        shared.now.ignore_case_index_lookup.now }
+    requires excludes { has_excludes_if_given (setup_of_optional_stack parts.old.excludes.now)
+        ≡ true }
+    ensures same { KeepsPartReferences parts.old parts.new }
+    ensures job { WalksDirectoryAsJob W.Worktree F.Find I.Interrupt D.Delegate
+        (walk_state_of_parts parts.old) (walk_state_of_parts parts.new) (setting_of_shared M.Matcher
+        shared.now) blocked.now levels place.old.path class.now result }
     ensures stays { OnOk result (place.new ≡ place.old) }
 {
     let mut fork = parts.objects.fork(alloc)?;
@@ -151,12 +161,14 @@ fn walk_with_interrupt_fork<W: Worktree, F: Find, I: Interrupt, M: Matcher, D: D
     parts: &mut Parts<'_, '_, '_, '_, '_, '_, W, F, I, D>,
 ) -> Result<Handed, Stop>
     requires root { place.old.root ≡ shared.now.worktree_root.now }
-    requires lookup { IsLookupIf shared.now.index.now shared.now.ignore_case_index_lookup.now }
-    requires excludes { tells_excludes (made_with parts.old.excludes.now) ≡ true }
-    ensures same { AreSame parts.old parts.new }
-    ensures job { WalksJob W.Worktree F.Find I.Interrupt D.Delegate
-        (moment parts.old) (moment parts.new)
-        (setting_of M.Matcher shared.now) blocked.now levels place.old.path class.now result }
+    requires lookup { IsLookupOfIndexIfGiven shared.now.index.now
+        shared.now.ignore_case_index_lookup.now }
+    requires excludes { has_excludes_if_given (setup_of_optional_stack parts.old.excludes.now)
+        ≡ true }
+    ensures same { KeepsPartReferences parts.old parts.new }
+    ensures job { WalksDirectoryAsJob W.Worktree F.Find I.Interrupt D.Delegate
+        (walk_state_of_parts parts.old) (walk_state_of_parts parts.new) (setting_of_shared M.Matcher
+        shared.now) blocked.now levels place.old.path class.now result }
     ensures stays { OnOk result (place.new ≡ place.old) }
 {
     let mut fork = parts.interrupt.fork(alloc)?;

@@ -2,8 +2,8 @@
 //! directory. What a name hands up is held until the directory's names are done; then the directory
 //! is folded over it, or it is put out.
 //!
-//! [`walk`] gives what it finds to a [`Delegate`]; [`walk_by_path`] keeps it in the order of paths;
-//! [`walk_at_once`] walks each subtree of the traversal root as a job of its own.
+//! [`walk`] gives what it finds to a [`Delegate`]; [`walk_sorted_by_path`] keeps it in the order of
+//! paths; [`walk_at_once`] walks each subtree of the traversal root as a job of its own.
 #![tactic(auto)]
 
 pub mod at_once;
@@ -33,5 +33,5 @@ pub use collect::{Collect, EmittedEntries};
 pub use delegate::{Action, Delegate};
 pub use function::walk;
 pub use outcome::Outcome;
-pub use report::{Report, walk_by_path};
+pub use report::{Report, walk_sorted_by_path};
 pub use strategy::Strategy;

@@ -1,24 +1,24 @@
 //! Entering a directory.
 ghost use Rattle.std.specs.Prelude.{◌≡◌, ◌≤◌, ◌-◌, ◌+◌, Some, true, IfOk, IfErr};
 ghost use Rattle.gitbase_core.specs.Path.{is_empty};
-ghost use Rattle.worktree_fs.specs.Answers.{ListsNames};
-ghost use Rattle.worktree_fs.specs.Causes.{Increased, with_more};
-ghost use Rattle.worktree_fs.specs.Kept.{Lists};
-ghost use Rattle.worktree_fs.specs.Naming.{AreNames};
-ghost use Rattle.worktree_fs.specs.Paths.{full_path};
+ghost use Rattle.worktree_fs.specs.Answers.{ListsDirectoryNamesInAnyOrder};
+ghost use Rattle.worktree_fs.specs.Causes.{CountIncreasedOrSaturated, saturating_sum};
+ghost use Rattle.worktree_fs.specs.Kept.{KeepsTreeWhileCountsMayRise};
+ghost use Rattle.worktree_fs.specs.Naming.{AreDistinctValidEntryNames};
+ghost use Rattle.worktree_fs.specs.Paths.{root_joined_with_relative};
 ghost use Rattle.worktree_fs.specs.Tree.{Names, look};
-ghost use Rattle.dir_classify.specs.Chosen.{chosen};
+ghost use Rattle.dir_classify.specs.Chosen.{walk_options_of};
 ghost use Rattle.dir_classify.specs.Class.{enters};
-ghost use Rattle.dir_walk.specs.Given.{IsAnswered};
-ghost use Rattle.dir_walk.specs.Kept.{AsksInterrupt};
-ghost use Rattle.dir_walk.specs.Opened.{OpenCaused, OpenCounts};
-ghost use Rattle.dir_walk.specs.Refused.{OpenRefuses, IsDeep, read_error};
-ghost use Rattle.dir_walk.specs.Unopened.{too_deep_count};
+ghost use Rattle.dir_walk.specs.Given.{CountsRecursionRefusal};
+ghost use Rattle.dir_walk.specs.Kept.{AsksInterruptPerRaise};
+ghost use Rattle.dir_walk.specs.Opened.{CausesOfOpeningRefusal, CountsOpeningDirectory};
+ghost use Rattle.dir_walk.specs.Refused.{IsErrorOfOpeningDirectory, IsTooDeepOrInterruptedError, walk_error_of_list_error};
+ghost use Rattle.dir_walk.specs.Unopened.{count_too_deep_error};
 
 use crate::delegate::Delegate;
 use crate::outcome::Outcome;
 use crate::place::Place;
-use dir_classify::entry::{entry_over, holds_names};
+use dir_classify::entry::{entry_ref_with_outcome, is_some_directory_kind};
 use dir_classify::{Error, ForDeletionMode, Options, ReadWhy, classify};
 use gitbase_core::{OutOfMemory, PathText};
 use std::alloc::Global;
@@ -38,23 +38,26 @@ pub(crate) fn list_directory<W: Worktree, I: Interrupt>(
     outcome: &mut Outcome,
 ) -> Result<NameList, Error>
     // What is given are names.
-    ensures names { IfOk result AreNames }
+    ensures names { IfOk result AreDistinctValidEntryNames }
     // Over a told tree they are those of the directory.
-    ensures lists { (t : Names) → W.told worktree.old ≡ Some t → IfOk result (ListsNames
-        (look t (full_path place.now.root place.now.path) (is_empty place.now.path))) }
+    ensures lists { (t : Names) → W.told worktree.old ≡ Some t
+        → IfOk result (ListsDirectoryNamesInAnyOrder
+        (look t (root_joined_with_relative place.now.root place.now.path)
+        (is_empty place.now.path))) }
     // There it is refused for what the tree has at the directory.
     ensures refused { (t : Names) → W.told worktree.old ≡ Some t
-        → IfErr result (OpenRefuses (full_path place.now.root place.now.path)
-        (look t (full_path place.now.root place.now.path) (is_empty place.now.path))) }
+        → IfErr result (IsErrorOfOpeningDirectory (root_joined_with_relative place.now.root
+        place.now.path) (look t (root_joined_with_relative place.now.root place.now.path)
+        (is_empty place.now.path))) }
     // The worktree is listed.
-    ensures worktree { Lists W.Worktree worktree.old worktree.new }
+    ensures worktree { KeepsTreeWhileCountsMayRise W.Worktree worktree.old worktree.new }
     // The interrupt is asked.
-    ensures interrupt { AsksInterrupt I.Interrupt interrupt.old interrupt.new }
+    ensures interrupt { AsksInterruptPerRaise I.Interrupt interrupt.old interrupt.new }
     // What is counted, by the worktree, by the interrupt and by the walk.
-    ensures counts { OpenCounts W.Worktree I.Interrupt worktree.old worktree.new
+    ensures counts { CountsOpeningDirectory W.Worktree I.Interrupt worktree.old worktree.new
         interrupt.old interrupt.new outcome.old outcome.new result }
     // Over any worktree, what a refusal is about, and who counted its cause.
-    ensures caused { OpenCaused W.Worktree I.Interrupt worktree.old worktree.new
+    ensures caused { CausesOfOpeningRefusal W.Worktree I.Interrupt worktree.old worktree.new
         interrupt.old interrupt.new place.now.root place.now.path result }
 {
     if interrupt.is_raised() {
@@ -64,13 +67,17 @@ pub(crate) fn list_directory<W: Worktree, I: Interrupt>(
     let follow = place.path().is_empty();
     match worktree.list(alloc, place.whole(), follow) {
         Ok(names) => Ok(names),
-        Err(refused) => Err(read_error(alloc, place.whole(), refused)?),
+        Err(refused) => Err(walk_error_of_list_error(alloc, place.whole(), refused)?),
     }
 }
 
 /// The refusal of a walk that stands for a refusal to list the directory at `path`.
-fn read_error(alloc: Global, path: &[u8], refused: ListError) -> Result<Error, OutOfMemory>
-    ensures { IfOk result (λ error. error ≡ read_error path.now refused) }
+fn walk_error_of_list_error(
+    alloc: Global,
+    path: &[u8],
+    refused: ListError,
+) -> Result<Error, OutOfMemory>
+    ensures { IfOk result (λ error. error ≡ walk_error_of_list_error path.now refused) }
 {
     let path = PathText::from_bytes(alloc, path)?;
     Ok(match refused {
@@ -98,11 +105,16 @@ fn read_error(alloc: Global, path: &[u8], refused: ListError) -> Result<Error, O
 /// See docs/DECISIONS.md#depth-limit.
 /// See docs/DIFFERENCES.md#gix-depth.
 #[inline(never)]
-pub(crate) fn too_deep<I: Interrupt>(alloc: Global, place: &Place, interrupt: &mut I) -> Error
-    ensures deep { IsDeep (full_path place.now.root place.now.path)
-        (Increased (I.raised interrupt.old) (I.raised interrupt.new)) result }
-    ensures interrupt { AsksInterrupt I.Interrupt interrupt.old interrupt.new }
-    ensures asked { with_more (I.questions interrupt.old) (too_deep_count result
+pub(crate) fn too_deep_or_interrupted_error<I: Interrupt>(
+    alloc: Global,
+    place: &Place,
+    interrupt: &mut I,
+) -> Error
+    ensures deep { IsTooDeepOrInterruptedError (root_joined_with_relative place.now.root
+        place.now.path) (CountIncreasedOrSaturated (I.raised interrupt.old)
+        (I.raised interrupt.new)) result }
+    ensures interrupt { AsksInterruptPerRaise I.Interrupt interrupt.old interrupt.new }
+    ensures asked { saturating_sum (I.questions interrupt.old) (count_too_deep_error result
         + (I.raised interrupt.new - I.raised interrupt.old)) ≤ I.questions interrupt.new }
 {
     let raised = interrupt.is_raised();
@@ -118,7 +130,7 @@ pub(crate) fn too_deep<I: Interrupt>(alloc: Global, place: &Place, interrupt: &m
 /// Whether the walk enters a path of a class: the delegate is asked for what holds names.
 #[tactic(auto, using(crate::proofs::Opens::Entering::shut))]
 #[inline(never)]
-pub(crate) fn is_entered<D: Delegate>(
+pub(crate) fn delegate_enters_directory<D: Delegate>(
     options: &Options<'_>,
     path: &[u8],
     class: &classify::Outcome,
@@ -126,8 +138,8 @@ pub(crate) fn is_entered<D: Delegate>(
     delegate: &mut D,
 ) -> bool
     ensures entered { D.is_default delegate.old ≡ true
-        → result ≡ enters (chosen options.now) class.now worktree_root_is_repository }
-    ensures answered { IsAnswered (enters (chosen options.now) class.now
+        → result ≡ enters (walk_options_of options.now) class.now worktree_root_is_repository }
+    ensures answered { CountsRecursionRefusal (enters (walk_options_of options.now) class.now
         worktree_root_is_repository) result (D.refusals delegate.old) (D.refusals delegate.new) }
     ensures refusals { D.refusals delegate.old ≤ D.refusals delegate.new }
     ensures given { D.given delegate.new ≡ D.given delegate.old }
@@ -135,20 +147,20 @@ pub(crate) fn is_entered<D: Delegate>(
     ensures stopped { D.is_stopped delegate.new ≡ D.is_stopped delegate.old }
     ensures default { D.is_default delegate.new ≡ D.is_default delegate.old }
 {
-    if !holds_names(class.disk_kind) {
+    if !is_some_directory_kind(class.disk_kind) {
         return false;
     }
     delegate.can_recurse(
-        entry_over(path, class),
-        deletion_mode(options),
+        entry_ref_with_outcome(path, class),
+        for_deletion_mode(options),
         worktree_root_is_repository,
     )
 }
 
 /// Whether the entries are to be deleted, and how.
-#[tactic(auto, unfolding(dir_classify::specs::Chosen::chosen))]
-pub(crate) fn deletion_mode(options: &Options<'_>) -> Option<ForDeletionMode>
-    ensures { result ≡ (chosen options.now).for_deletion }
+#[tactic(auto, unfolding(dir_classify::specs::Chosen::walk_options_of))]
+pub(crate) fn for_deletion_mode(options: &Options<'_>) -> Option<ForDeletionMode>
+    ensures { result ≡ (walk_options_of options.now).for_deletion }
 {
     options.for_deletion
 }

@@ -1,13 +1,13 @@
 //! Where a walk stands.
 ghost use Rattle.std.specs.Prelude.{◌≡◌, true, false, [], IfOk, OnOk, OnErr, length};
-ghost use Rattle.gitbase_core.specs.Path.{joined, components, directory_prefix, ends_in_slash};
-ghost use Rattle.worktree_fs.specs.Naming.{IsName};
-ghost use Rattle.worktree_fs.specs.Paths.{full_path, is_normal, spelled};
-ghost use Rattle.dir_walk.specs.Placed.{Standing, IsPushed};
+ghost use Rattle.gitbase_core.specs.Path.{path_joined_with_slash, components, path_with_trailing_slash, ends_in_slash};
+ghost use Rattle.worktree_fs.specs.Naming.{IsValidEntryName};
+ghost use Rattle.worktree_fs.specs.Paths.{root_joined_with_relative, is_relative_without_dots, slash_joined_components};
+ghost use Rattle.dir_walk.specs.Placed.{PlaceInWorktree, IsNameInPlace};
 
 use crate::handed::{Handed, Stop};
-use dir_classify::full_path;
-use gitbase_core::{OutOfMemory, PathText, needs_slash};
+use dir_classify::join_worktree_root;
+use gitbase_core::{OutOfMemory, PathText, needs_slash_before_component};
 use std::alloc::Global;
 use std::marker::Model;
 
@@ -25,13 +25,13 @@ pub(crate) struct Place {
 }
 
 impl Model for Place {
-    ghost use Rattle.dir_walk.specs.Placed.{Standing, standing, IsPlaced};
+    ghost use Rattle.dir_walk.specs.Placed.{PlaceInWorktree, place_from_whole_path, IsWellPlaced};
 
-    ghost Value = { Standing };
+    ghost Value = { PlaceInWorktree };
 
-    ghost view = { λ place. standing place.root_length place.start place.whole };
+    ghost view = { λ place. place_from_whole_path place.root_length place.start place.whole };
 
-    ghost invariant = { λ place. IsPlaced place.root_length place.start place.whole };
+    ghost invariant = { λ place. IsWellPlaced place.root_length place.start place.whole };
 }
 
 impl Place {
@@ -42,24 +42,24 @@ impl Place {
         worktree_root: &[u8],
         path: &[u8],
     ) -> Result<Place, OutOfMemory>
-        requires normal { is_normal path.now ≡ true }
+        requires normal { is_relative_without_dots path.now ≡ true }
         requires plain { ends_in_slash path.now ≡ false }
-        requires spelled { path.now ≡ spelled (components path.now) }
+        requires spelled { path.now ≡ slash_joined_components (components path.now) }
         ensures { IfOk result
             (λ place. place ≡ record { root = worktree_root.now; path = path.now }) }
     {
-        let whole = full_path(alloc, worktree_root, path)?;
+        let whole = join_worktree_root(alloc, worktree_root, path)?;
         let root_length = worktree_root.len();
         Ok(Place {
             whole,
             root_length,
-            start: start_behind(worktree_root),
+            start: start_of_relative_path(worktree_root),
         })
     }
 
     /// The whole path.
     pub fn whole(&self) -> &[u8]
-        ensures { result.now ≡ full_path self.now.root self.now.path }
+        ensures { result.now ≡ root_joined_with_relative self.now.root self.now.path }
     {
         self.whole.as_bytes()
     }
@@ -67,9 +67,9 @@ impl Place {
     /// The path relative to the worktree root.
     pub fn path(&self) -> &[u8]
         ensures path { result.now ≡ self.now.path }
-        ensures normal { is_normal self.now.path ≡ true }
+        ensures normal { is_relative_without_dots self.now.path ≡ true }
         ensures plain { ends_in_slash self.now.path ≡ false }
-        ensures spelled { self.now.path ≡ spelled (components self.now.path) }
+        ensures spelled { self.now.path ≡ slash_joined_components (components self.now.path) }
     {
         let whole = self.whole.as_bytes();
         if whole.len() < self.start {
@@ -82,10 +82,13 @@ impl Place {
     /// whole path is.
     #[inline(never)]
     pub fn push(&mut self, alloc: Global, name: &[u8]) -> Result<usize, OutOfMemory>
-        requires { IsName name.now }
+        requires { IsValidEntryName name.now }
         ensures pushed { OnOk result (self.new
-            ≡ record { root = self.old.root; path = joined self.old.path name.now }) }
-        ensures within { IfOk result (λ cut. IsPushed cut self.old self.new) }
+            ≡ record {
+              root = self.old.root;
+              path = path_joined_with_slash self.old.path name.now;
+            }) }
+        ensures within { IfOk result (λ cut. IsNameInPlace cut self.old self.new) }
     {
         let length = self.whole.as_bytes().len();
         self.whole.push_component(alloc, name)?;
@@ -95,11 +98,11 @@ impl Place {
     /// Goes back to the directory whose whole path has so many bytes, where the walk of a name in
     /// it ended well. A walk that is refused or broken ends wherever it stands.
     #[inline(never)]
-    pub fn truncate_to_directory(&mut self, cut: usize, handed: &Result<Handed, Stop>)
-        requires { (directory : Standing)
-            × OnOk handed.now (IsPushed cut directory self.old) }
-        ensures { (directory : Standing)
-            → OnOk handed.now (IsPushed cut directory self.old)
+    pub fn truncate_to_directory_if_ok(&mut self, cut: usize, handed: &Result<Handed, Stop>)
+        requires { (directory : PlaceInWorktree)
+            × OnOk handed.now (IsNameInPlace cut directory self.old) }
+        ensures { (directory : PlaceInWorktree)
+            → OnOk handed.now (IsNameInPlace cut directory self.old)
             → OnOk handed.now (self.new ≡ directory) }
     {
         if handed.is_err() {
@@ -110,10 +113,10 @@ impl Place {
 }
 
 /// Where a path begins that stands behind a worktree root.
-fn start_behind(root: &[u8]) -> usize
-    ensures { result ≡ length (directory_prefix root.now) }
+fn start_of_relative_path(root: &[u8]) -> usize
+    ensures { result ≡ length (path_with_trailing_slash root.now) }
 {
-    if needs_slash(root) {
+    if needs_slash_before_component(root) {
         return root.len() + 1;
     }
     root.len()

@@ -1,18 +1,18 @@
 //! The report of a worktree: its walk in the order of paths.
 ghost use Rattle.std.specs.Prelude.{◌≡◌, ◌≤◌, ◌-◌, ◌^◌, min, length, true, IfOk};
-ghost use Rattle.dir_walk.specs.Distinct.{Ascends};
-ghost use Rattle.worktree_fs.specs.Causes.{NotIncreased};
-ghost use Rattle.worktree_stack.specs.Reading.{Sources};
-ghost use Rattle.dir_classify.specs.Chosen.{chosen};
-ghost use Rattle.dir_classify.specs.Excludes.{made_with, tells_excludes};
-ghost use Rattle.dir_classify.specs.Layers.{setting_in, IsLookupIf};
-ghost use Rattle.dir_walk.specs.Puts.{hidden_in};
-ghost use Rattle.dir_walk.specs.Reports.{IsFromRoot, IsReport};
-ghost use Rattle.dir_walk.specs.WalkRefused.{by_default};
-ghost use Rattle.dir_walk.specs.Walks.{Tells, WalksWorktree};
+ghost use Rattle.dir_walk.specs.Distinct.{IsStrictlyAscendingByPath};
+ghost use Rattle.worktree_fs.specs.Causes.{CountNotIncreased};
+ghost use Rattle.worktree_stack.specs.Reading.{TreeAndObjects};
+ghost use Rattle.dir_classify.specs.Chosen.{walk_options_of};
+ghost use Rattle.dir_classify.specs.Excludes.{setup_of_optional_stack, has_excludes_if_given};
+ghost use Rattle.dir_classify.specs.Layers.{setting_of_context, IsLookupOfIndexIfGiven};
+ghost use Rattle.dir_walk.specs.Puts.{count_hidden_emissions};
+ghost use Rattle.dir_walk.specs.Reports.{IsReportFromNormalizedRoot, IsSafeReport};
+ghost use Rattle.dir_walk.specs.WalkRefused.{default_recursion};
+ghost use Rattle.dir_walk.specs.Walks.{Tells, WalksWorktreeWithCauses};
 
 use crate::collect::{Collect, EmittedEntries};
-use crate::function::walk_as;
+use crate::function::walk_by_strategy;
 use crate::outcome::Outcome;
 use crate::strategy::Strategy;
 use dir_classify::{Context, Error, Options};
@@ -43,44 +43,51 @@ pub struct Report {
 ///
 /// Those of [`walk`](crate::walk), each for the same causes; `OutOfMemory` also where none is left
 /// to sort the entries.
-pub fn walk_by_path<W: Worktree, F: Find, I: Interrupt, M: Matcher>(
+pub fn walk_sorted_by_path<W: Worktree, F: Find, I: Interrupt, M: Matcher>(
     alloc: Global,
     worktree_root: &[u8],
     ctx: Context<'_, W, F, I, M>,
     options: Options<'_>,
     strategy: Strategy,
 ) -> Result<Report, Error>
-    requires excludes { tells_excludes (made_with ctx.excludes.now) ≡ true }
-    requires lookup { IsLookupIf ctx.index.now ctx.ignore_case_index_lookup.now }
+    requires excludes { has_excludes_if_given (setup_of_optional_stack ctx.excludes.now) ≡ true }
+    requires lookup { IsLookupOfIndexIfGiven ctx.index.now ctx.ignore_case_index_lookup.now }
     // Over a told tree with which the rules are in step, and without a fault, the report is exactly that of the tree, and safe.
-    ensures gives { (s : Sources) → Tells W.Worktree F.Find ctx.entry.worktree.now
+    ensures gives { (s : TreeAndObjects) → Tells W.Worktree F.Find ctx.entry.worktree.now
         ctx.entry.objects.now ctx.entry.excludes.now s
-        → NotIncreased (W.faults ctx.entry.worktree.now) (W.faults ctx.exit.0.now)
-        → IfOk result (IsReport (setting_in M.Matcher worktree_root.now options.entry ctx.entry)
-        (made_with ctx.entry.excludes.now) s ctx.entry.explicit_traversal_root.now
-        ctx.entry.depth_limit) }
+        → CountNotIncreased (W.faults ctx.entry.worktree.now) (W.faults ctx.exit.0.now)
+        → IfOk result (IsSafeReport (setting_of_context M.Matcher worktree_root.now options.entry
+        ctx.entry) (setup_of_optional_stack ctx.entry.excludes.now) s
+        ctx.entry.explicit_traversal_root.now ctx.entry.depth_limit) }
     // Over any worktree the paths ascend strictly, and the entries are counted.
-    ensures ordered { IfOk result (λ r. Ascends r.entries) }
+    ensures ordered { IfOk result (λ r. IsStrictlyAscendingByPath r.entries) }
     ensures counted { IfOk result
         (λ r. r.outcome.returned_entries ≡ min (length r.entries) (2 ^ 64 - 1)) }
     ensures seen { IfOk result
         (λ r. min r.outcome.returned_entries (2 ^ 32 - 1) ≤ r.outcome.seen_entries) }
     // None of them is one that the options hide.
-    ensures filtered { IfOk result (λ r. hidden_in (chosen options.entry) r.entries ≡ 0) }
+    ensures filtered { IfOk result (λ r. count_hidden_emissions (walk_options_of options.entry)
+        r.entries ≡ 0) }
     // They are from the traversal root on that is named, which was asked for.
-    ensures once { IfOk result
-        (IsFromRoot (setting_in M.Matcher worktree_root.now options.entry ctx.entry)
-        ctx.entry.explicit_traversal_root.now) }
+    ensures once { IfOk result (IsReportFromNormalizedRoot (setting_of_context M.Matcher
+        worktree_root.now options.entry ctx.entry) ctx.entry.explicit_traversal_root.now) }
     // Each refusal has its cause, a tree that has a report is walked, and what stays.
-    ensures walks_worktree { WalksWorktree W.Worktree F.Find I.Interrupt
+    ensures walks_worktree { WalksWorktreeWithCauses W.Worktree F.Find I.Interrupt
         ctx.entry.worktree.now ctx.exit.0.now ctx.entry.objects.now ctx.exit.1.0.now
         ctx.entry.interrupt.now ctx.exit.1.1.0.now ctx.entry.excludes.now ctx.exit.1.1.1.1.0.now
-        strategy (setting_in M.Matcher worktree_root.now options.entry ctx.entry)
-        ctx.entry.explicit_traversal_root.now ctx.entry.depth_limit by_default (λ r. r.outcome)
-        (λ r. r.root) result }
+        strategy (setting_of_context M.Matcher worktree_root.now options.entry ctx.entry)
+        ctx.entry.explicit_traversal_root.now ctx.entry.depth_limit default_recursion
+        (λ r. r.outcome) (λ r. r.root) result }
 {
     let mut delegate = Collect::new(alloc);
-    let (outcome, root) = walk_as(alloc, worktree_root, ctx, options, strategy, &mut delegate)?;
+    let (outcome, root) = walk_by_strategy(
+        alloc,
+        worktree_root,
+        ctx,
+        options,
+        strategy,
+        &mut delegate,
+    )?;
     let entries = delegate.into_entries_by_path(alloc)?;
     Ok(Report {
         outcome,

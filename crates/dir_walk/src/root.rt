@@ -1,16 +1,16 @@
 //! Where a walk starts.
 ghost use Rattle.std.specs.Prelude.{◌≡◌, ◌⊎◌, ℕ, [], Some, true, false, IfOk, IfErr};
-ghost use Rattle.worktree_fs.specs.Causes.{NotIncreased, Increased};
-ghost use Rattle.worktree_fs.specs.Kept.{Asks};
-ghost use Rattle.worktree_fs.specs.Paths.{full_path};
+ghost use Rattle.worktree_fs.specs.Causes.{CountNotIncreased, CountIncreasedOrSaturated};
+ghost use Rattle.worktree_fs.specs.Kept.{KeepsTreeAndListCounts};
+ghost use Rattle.worktree_fs.specs.Paths.{root_joined_with_relative};
 ghost use Rattle.worktree_fs.specs.Tree.{Names};
-ghost use Rattle.dir_classify.specs.Kinds.{is_directory};
-ghost use Rattle.dir_classify.specs.Layers.{setting_of, kind_at};
-ghost use Rattle.dir_classify.specs.Refused.{OnFault};
-ghost use Rattle.dir_walk.specs.Root.{common_root, root_asked, root_at, rooted, traversal_root};
-ghost use Rattle.dir_walk.specs.Rooting.{EndsIn, IsCommon, IsNormalized, IsNotThere, IsPast, NamesIt, IsRoot, IsRootAsked, RootAbout, ThroughAbout};
+ghost use Rattle.dir_classify.specs.Kinds.{is_plain_directory_kind};
+ghost use Rattle.dir_classify.specs.Layers.{setting_of_shared, kind_of_node_at};
+ghost use Rattle.dir_classify.specs.Refused.{HoldsIfFaultError};
+ghost use Rattle.dir_walk.specs.Root.{common_directory_or_worktree_root, traversal_root_before_normalizing, traversal_root_of_normal_path, rooted, find_traversal_root};
+ghost use Rattle.dir_walk.specs.Rooting.{IsErrorOfRootResult, IsCommonDirectoryOrEmpty, IsNormalizedRoot, IsAbsentErrorAtPath, IsLinkTestOfExistingNode, IsMetadataErrorAtPath, IsNormalRootPath, IsExplicitOrCommonRoot, IsErrorOfTraversalRoot, IsErrorOfRootComponents};
 
-use dir_classify::{Error, MetadataWhy, Shared, full_path};
+use dir_classify::{Error, MetadataWhy, Shared, join_worktree_root};
 use gitbase_core::{Bytes, OutOfMemory, PathText, is_absolute};
 use glob_rules::pathspec::Matcher;
 use std::alloc::Global;
@@ -29,62 +29,68 @@ use worktree_fs::{NodeKind, ReadError, Worktree, next_component};
 /// - `OutOfMemory`: memory was refused.
 ///
 /// See docs/DIFFERENCES.md#gix-traversal-root.
-pub(crate) fn traversal_root<W: Worktree, M: Matcher>(
+pub(crate) fn find_traversal_root<W: Worktree, M: Matcher>(
     alloc: Global,
     shared: &Shared<'_, M>,
     explicit: &Option<Bytes>,
     worktree: &mut W,
 ) -> Result<PathText, Error>
-    ensures root { (t : Names) → W.told worktree.old ≡ Some t
-        → NotIncreased (W.faults worktree.old) (W.faults worktree.new)
-        → IfOk result (λ path. traversal_root (setting_of M.Matcher shared.now) t explicit.now
-        ≡ rooted path) }
+    ensures root { (t : Names) → W.told worktree.old ≡ Some t → CountNotIncreased
+        (W.faults worktree.old) (W.faults worktree.new)
+        → IfOk result (λ path. find_traversal_root (setting_of_shared M.Matcher shared.now) t
+        explicit.now ≡ rooted path) }
     ensures way { (t : Names) → W.told worktree.old ≡ Some t → IfOk result (λ path.
-        (traversal_root (setting_of M.Matcher shared.now) t explicit.now ≡ rooted path)
+        (find_traversal_root (setting_of_shared M.Matcher shared.now) t explicit.now ≡ rooted path)
         ⊎ (path ≡ [])) }
-    ensures shape { IfOk result IsRoot }
-    ensures asked { IfOk result (IsNormalized (setting_of M.Matcher shared.now) explicit.now) }
-    ensures about { IfErr result (RootAbout (setting_of M.Matcher shared.now) explicit.now) }
+    ensures shape { IfOk result IsNormalRootPath }
+    ensures asked { IfOk result (IsNormalizedRoot (setting_of_shared M.Matcher shared.now)
+        explicit.now) }
+    ensures about { IfErr result (IsErrorOfTraversalRoot (setting_of_shared M.Matcher shared.now)
+        explicit.now) }
     ensures refused { (t : Names) → W.told worktree.old ≡ Some t
-        → IfErr result (EndsIn (traversal_root (setting_of M.Matcher shared.now) t explicit.now)) }
-    ensures fault { (before now : ℕ)
-        → IfErr result (OnFault (Increased (W.faults worktree.old) (W.faults worktree.new))
-        (Increased before now)) }
-    ensures keeps { Asks W.Worktree worktree.old worktree.new }
+        → IfErr result (IsErrorOfRootResult (find_traversal_root (setting_of_shared M.Matcher
+        shared.now) t explicit.now)) }
+    ensures fault { (before now : ℕ) → IfErr result
+        (HoldsIfFaultError (CountIncreasedOrSaturated (W.faults worktree.old)
+        (W.faults worktree.new)) (CountIncreasedOrSaturated before now)) }
+    ensures keeps { KeepsTreeAndListCounts W.Worktree worktree.old worktree.new }
     ensures reads { W.reads worktree.new ≡ W.reads worktree.old }
 {
-    let asked = root_asked(alloc, shared, explicit, worktree)?;
+    let asked = traversal_root_before_normalizing(alloc, shared, explicit, worktree)?;
     match asked.normalize(alloc)? {
         None => Err(Error::NormalizeRoot { root: asked }),
         Some(path) => {
             if is_absolute(path.as_bytes()) {
                 return Err(Error::NormalizeRoot { root: asked });
             }
-            check_root_components(alloc, shared, path.as_bytes(), worktree)?;
+            refuse_link_in_root_components(alloc, shared, path.as_bytes(), worktree)?;
             Ok(path)
         }
     }
 }
 
 /// The traversal root before it is normalised.
-fn root_asked<W: Worktree, M: Matcher>(
+fn traversal_root_before_normalizing<W: Worktree, M: Matcher>(
     alloc: Global,
     shared: &Shared<'_, M>,
     explicit: &Option<Bytes>,
     worktree: &mut W,
 ) -> Result<PathText, OutOfMemory>
-    ensures root { (t : Names) → W.told worktree.old ≡ Some t
-        → NotIncreased (W.faults worktree.old) (W.faults worktree.new)
-        → IfOk result (λ root. root ≡ root_asked (setting_of M.Matcher shared.now) t explicit.now) }
-    ensures fault { (t : Names) → W.told worktree.old ≡ Some t → IfOk result (λ root.
-        (root ≡ root_asked (setting_of M.Matcher shared.now) t explicit.now) ⊎ (root ≡ [])) }
-    ensures asked { IfOk result (IsRootAsked (setting_of M.Matcher shared.now) explicit.now) }
-    ensures keeps { Asks W.Worktree worktree.old worktree.new }
+    ensures root { (t : Names) → W.told worktree.old ≡ Some t → CountNotIncreased
+        (W.faults worktree.old) (W.faults worktree.new) → IfOk result (λ root. root
+        ≡ traversal_root_before_normalizing (setting_of_shared M.Matcher shared.now) t
+        explicit.now) }
+    ensures fault { (t : Names) → W.told worktree.old ≡ Some t
+        → IfOk result (λ root. (root ≡ traversal_root_before_normalizing
+        (setting_of_shared M.Matcher shared.now) t explicit.now) ⊎ (root ≡ [])) }
+    ensures asked { IfOk result (IsExplicitOrCommonRoot (setting_of_shared M.Matcher shared.now)
+        explicit.now) }
+    ensures keeps { KeepsTreeAndListCounts W.Worktree worktree.old worktree.new }
     ensures reads { W.reads worktree.new ≡ W.reads worktree.old }
 {
     match explicit {
         Some(root) => PathText::from_bytes(alloc, root.as_bytes()),
-        None => common_root(alloc, shared, worktree),
+        None => common_directory_or_worktree_root(alloc, shared, worktree),
     }
 }
 
@@ -93,27 +99,28 @@ fn root_asked<W: Worktree, M: Matcher>(
 ///
 /// See docs/DECISIONS.md#common-link.
 /// See docs/DECISIONS.md#swallowed-faults.
-fn common_root<W: Worktree, M: Matcher>(
+fn common_directory_or_worktree_root<W: Worktree, M: Matcher>(
     alloc: Global,
     shared: &Shared<'_, M>,
     worktree: &mut W,
 ) -> Result<PathText, OutOfMemory>
-    ensures root { (t : Names) → W.told worktree.old ≡ Some t
-        → NotIncreased (W.faults worktree.old) (W.faults worktree.new)
-        → IfOk result (λ root. root ≡ common_root (setting_of M.Matcher shared.now) t
-        (setting_of M.Matcher shared.now).common) }
+    ensures root { (t : Names) → W.told worktree.old ≡ Some t → CountNotIncreased
+        (W.faults worktree.old) (W.faults worktree.new) → IfOk result (λ root. root
+        ≡ common_directory_or_worktree_root (setting_of_shared M.Matcher shared.now) t
+        (setting_of_shared M.Matcher shared.now).common) }
     ensures fault { (t : Names) → W.told worktree.old ≡ Some t → IfOk result (λ root.
-        (root ≡ common_root (setting_of M.Matcher shared.now) t
-        (setting_of M.Matcher shared.now).common) ⊎ (root ≡ [])) }
-    ensures asked { IfOk result (IsCommon (setting_of M.Matcher shared.now).common) }
-    ensures keeps { Asks W.Worktree worktree.old worktree.new }
+        (root ≡ common_directory_or_worktree_root (setting_of_shared M.Matcher shared.now) t
+        (setting_of_shared M.Matcher shared.now).common) ⊎ (root ≡ [])) }
+    ensures asked { IfOk result (IsCommonDirectoryOrEmpty (setting_of_shared M.Matcher
+        shared.now).common) }
+    ensures keeps { KeepsTreeAndListCounts W.Worktree worktree.old worktree.new }
     ensures reads { W.reads worktree.new ≡ W.reads worktree.old }
 {
     match shared.pathspec.longest_common_directory() {
         None => PathText::from_bytes(alloc, b""),
         Some(directory) => {
-            let full = full_path(alloc, shared.worktree_root, directory)?;
-            if leads_to_directory(alloc, full.as_bytes(), worktree)? {
+            let full = join_worktree_root(alloc, shared.worktree_root, directory)?;
+            if is_directory_following_links(alloc, full.as_bytes(), worktree)? {
                 return PathText::from_bytes(alloc, directory);
             }
             PathText::from_bytes(alloc, b"")
@@ -122,17 +129,17 @@ fn common_root<W: Worktree, M: Matcher>(
 }
 
 /// Whether a whole path leads to a directory. A fault reads as no.
-pub(crate) fn leads_to_directory<W: Worktree>(
+pub(crate) fn is_directory_following_links<W: Worktree>(
     alloc: Global,
     full: &[u8],
     worktree: &mut W,
 ) -> Result<bool, OutOfMemory>
     ensures is { (t : Names) → W.told worktree.old ≡ Some t
-        → NotIncreased (W.faults worktree.old) (W.faults worktree.new)
-        → IfOk result (λ is. is ≡ is_directory (kind_at t full.now true)) }
-    ensures yes { (t : Names) → W.told worktree.old ≡ Some t
-        → IfOk result (λ is. is ≡ true → is_directory (kind_at t full.now true) ≡ true) }
-    ensures keeps { Asks W.Worktree worktree.old worktree.new }
+        → CountNotIncreased (W.faults worktree.old) (W.faults worktree.new)
+        → IfOk result (λ is. is ≡ is_plain_directory_kind (kind_of_node_at t full.now true)) }
+    ensures yes { (t : Names) → W.told worktree.old ≡ Some t → IfOk result (λ is. is ≡ true
+        → is_plain_directory_kind (kind_of_node_at t full.now true) ≡ true) }
+    ensures keeps { KeepsTreeAndListCounts W.Worktree worktree.old worktree.new }
     ensures reads { W.reads worktree.new ≡ W.reads worktree.old }
 {
     match worktree.kind_following(alloc, full) {
@@ -143,22 +150,23 @@ pub(crate) fn leads_to_directory<W: Worktree>(
 }
 
 /// Goes through the components of a path, of which each is to be there and none a link.
-fn check_root_components<W: Worktree, M: Matcher>(
+fn refuse_link_in_root_components<W: Worktree, M: Matcher>(
     alloc: Global,
     shared: &Shared<'_, M>,
     path: &[u8],
     worktree: &mut W,
 ) -> Result<(), Error>
     ensures through { (t : Names) → W.told worktree.old ≡ Some t
-        → IfOk result (λ _. root_at (setting_of M.Matcher shared.now) t path.now
-        ≡ rooted path.now) }
-    ensures about { IfErr result (ThroughAbout shared.now.worktree_root.now path.now) }
+        → IfOk result (λ _. traversal_root_of_normal_path (setting_of_shared M.Matcher shared.now) t
+        path.now ≡ rooted path.now) }
+    ensures about { IfErr result (IsErrorOfRootComponents shared.now.worktree_root.now path.now) }
     ensures refused { (t : Names) → W.told worktree.old ≡ Some t
-        → IfErr result (EndsIn (root_at (setting_of M.Matcher shared.now) t path.now)) }
-    ensures fault { (before now : ℕ)
-        → IfErr result (OnFault (Increased (W.faults worktree.old) (W.faults worktree.new))
-        (Increased before now)) }
-    ensures keeps { Asks W.Worktree worktree.old worktree.new }
+        → IfErr result (IsErrorOfRootResult (traversal_root_of_normal_path
+        (setting_of_shared M.Matcher shared.now) t path.now)) }
+    ensures fault { (before now : ℕ) → IfErr result
+        (HoldsIfFaultError (CountIncreasedOrSaturated (W.faults worktree.old)
+        (W.faults worktree.new)) (CountIncreasedOrSaturated before now)) }
+    ensures keeps { KeepsTreeAndListCounts W.Worktree worktree.old worktree.new }
     ensures reads { W.reads worktree.new ≡ W.reads worktree.old }
 {
     let mut way = PathText::from_bytes(alloc, b"")?;
@@ -166,9 +174,9 @@ fn check_root_components<W: Worktree, M: Matcher>(
     let mut rest = path;
     while let Some(next) = next_component(rest) {
         way.push_component(alloc, next.name)?;
-        let full = full_path(alloc, shared.worktree_root, way.as_bytes())?;
-        if is_link(alloc, full, worktree)? {
-            return Err(link_in_root(alloc, shared.worktree_root, path, component_index)?);
+        let full = join_worktree_root(alloc, shared.worktree_root, way.as_bytes())?;
+        if is_existing_node_symlink(alloc, full, worktree)? {
+            return Err(symlink_in_root_error(alloc, shared.worktree_root, path, component_index)?);
         }
         component_index += 1;
         rest = next.rest;
@@ -177,16 +185,20 @@ fn check_root_components<W: Worktree, M: Matcher>(
 }
 
 /// Whether the node at a whole path is a link; it is to be there.
-fn is_link<W: Worktree>(alloc: Global, full: PathText, worktree: &mut W) -> Result<bool, Error>
+fn is_existing_node_symlink<W: Worktree>(
+    alloc: Global,
+    full: PathText,
+    worktree: &mut W,
+) -> Result<bool, Error>
     ensures link { (t : Names) → W.told worktree.old ≡ Some t
-        → IfOk result (IsPast (kind_at t full false)) }
-    ensures about { IfErr result (NamesIt full) }
+        → IfOk result (IsLinkTestOfExistingNode (kind_of_node_at t full false)) }
+    ensures about { IfErr result (IsMetadataErrorAtPath full) }
     ensures absent { (t : Names) → W.told worktree.old ≡ Some t
-        → IfErr result (IsNotThere (kind_at t full false) full) }
-    ensures fault { (before now : ℕ)
-        → IfErr result (OnFault (Increased (W.faults worktree.old) (W.faults worktree.new))
-        (Increased before now)) }
-    ensures keeps { Asks W.Worktree worktree.old worktree.new }
+        → IfErr result (IsAbsentErrorAtPath (kind_of_node_at t full false) full) }
+    ensures fault { (before now : ℕ) → IfErr result
+        (HoldsIfFaultError (CountIncreasedOrSaturated (W.faults worktree.old)
+        (W.faults worktree.new)) (CountIncreasedOrSaturated before now)) }
+    ensures keeps { KeepsTreeAndListCounts W.Worktree worktree.old worktree.new }
     ensures reads { W.reads worktree.new ≡ W.reads worktree.old }
 {
     match worktree.kind(alloc, full.as_bytes()) {
@@ -204,17 +216,17 @@ fn is_link<W: Worktree>(alloc: Global, full: PathText, worktree: &mut W) -> Resu
 }
 
 /// The refusal of a traversal root with a link at a component.
-fn link_in_root(
+fn symlink_in_root_error(
     alloc: Global,
     worktree_root: &[u8],
     path: &[u8],
     component_index: usize,
 ) -> Result<Error, OutOfMemory>
     ensures { IfOk result (λ error. error ≡ Error.SymlinkInRoot
-        (full_path worktree_root.now path.now) worktree_root.now component_index) }
+        (root_joined_with_relative worktree_root.now path.now) worktree_root.now component_index) }
 {
     Ok(Error::SymlinkInRoot {
-        root: full_path(alloc, worktree_root, path)?,
+        root: join_worktree_root(alloc, worktree_root, path)?,
         worktree_root: PathText::from_bytes(alloc, worktree_root)?,
         component_index,
     })

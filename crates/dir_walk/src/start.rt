@@ -1,38 +1,38 @@
 //! The walk from its traversal root on.
 ghost use Rattle.std.specs.Prelude.{◌≡◌, ◌&&◌, not, ℕ, List, [], Option, Some, true, false, IfOk, IfErr, OnOk, OnErr};
-ghost use Rattle.worktree_fs.specs.Causes.{NotIncreased, Increased};
-ghost use Rattle.worktree_fs.specs.Kept.{Asks};
-ghost use Rattle.worktree_stack.specs.Reading.{Sources};
+ghost use Rattle.worktree_fs.specs.Causes.{CountNotIncreased, CountIncreasedOrSaturated};
+ghost use Rattle.worktree_fs.specs.Kept.{KeepsTreeAndListCounts};
+ghost use Rattle.worktree_stack.specs.Reading.{TreeAndObjects};
 ghost use Rattle.worktree_stack.specs.Setup.{StackSetup};
-ghost use Rattle.dir_classify.specs.Chosen.{chosen};
-ghost use Rattle.dir_classify.specs.Excludes.{made_with, maps_blobs, tells_excludes};
+ghost use Rattle.dir_classify.specs.Chosen.{walk_options_of};
+ghost use Rattle.dir_classify.specs.Excludes.{setup_of_optional_stack, maps_rules_files_to_blobs, has_excludes_if_given};
 ghost use Rattle.gitbase_core.specs.Path.{is_empty};
-ghost use Rattle.dir_classify.specs.Kinds.{holds_names, is_symlink};
-ghost use Rattle.dir_classify.specs.Layers.{setting_of, evidence, IsLookupIf};
-ghost use Rattle.dir_classify.specs.Rooted.{reached_by, way_to};
+ghost use Rattle.dir_classify.specs.Kinds.{is_some_directory_kind, is_symlink_kind};
+ghost use Rattle.dir_classify.specs.Layers.{setting_of_shared, evidence_from_setting_and_sources, IsLookupOfIndexIfGiven};
+ghost use Rattle.dir_classify.specs.Rooted.{reached_of_root_outcome, end_of_way_to_root};
 ghost use Rattle.dir_walk.specs.declared.strategy.Strategy.TheVariants.{Held};
-ghost use Rattle.dir_walk.specs.Emissions.{plain};
-ghost use Rattle.dir_walk.specs.Emits.{Emits, shown_by};
-ghost use Rattle.dir_walk.specs.Given.{IsAnswered, OnRefused};
-ghost use Rattle.dir_walk.specs.Kept.{KeepsDelegate, HeedsDelegateBreak};
-ghost use Rattle.dir_walk.specs.Moments.{AreSame, moment};
-ghost use Rattle.dir_walk.specs.Puts.{AddsShown, Puts, once_at};
-ghost use Rattle.dir_walk.specs.Root.{is_root_entered, root_kind};
-ghost use Rattle.dir_walk.specs.RootSteps.{EntersStart, OpensStart, StartCaused, StartLeaves, StartTold, StartsNothing, StartsNowhere};
-ghost use Rattle.dir_walk.specs.Rooting.{IsRoot};
-ghost use Rattle.dir_walk.specs.Starts.{PutsRoot};
+ghost use Rattle.dir_walk.specs.Emissions.{uncollapsed_emission};
+ghost use Rattle.dir_walk.specs.Emits.{AddsEmissionsAndCounts, count_shown_passing};
+ghost use Rattle.dir_walk.specs.Given.{CountsRecursionRefusal, HoldsOfErrorIfRefused};
+ghost use Rattle.dir_walk.specs.Kept.{KeepsDelegateRunning, HeedsDelegateBreak};
+ghost use Rattle.dir_walk.specs.Moments.{KeepsPartReferences, walk_state_of_parts};
+ghost use Rattle.dir_walk.specs.Puts.{AddsNoHiddenEmission, AddsEmissionsWithinRoom, one_at_path};
+ghost use Rattle.dir_walk.specs.Root.{enters_traversal_root, disk_kind_of_traversal_root};
+ghost use Rattle.dir_walk.specs.RootSteps.{OpensAtMostEnteredFromRoot, CountsOpenedFromRoot, CausesOfRefusalFromRoot, LeavesAfterWalkFromRoot, WalksFromRootOverSources, LeavesUnstartedWalkUntouched, RefusesOnlyUnenteredRoot};
+ghost use Rattle.dir_walk.specs.Rooting.{IsNormalRootPath};
+ghost use Rattle.dir_walk.specs.Starts.{EmitsUnenteredRoot};
 
 use crate::delegate::Delegate;
 use crate::emit::emit;
-use crate::enter::walk_entered;
+use crate::enter::walk_entered_traversal_root;
 use crate::handed::Stop;
-use crate::open::is_entered;
+use crate::open::delegate_enters_directory;
 use crate::outcome::Outcome;
 use crate::parts::Parts;
-use crate::root::leads_to_directory;
+use crate::root::is_directory_following_links;
 use crate::strategy::Strategy;
 use dir_classify::classify::RootOutcome;
-use dir_classify::entry::{entry_over, holds_names};
+use dir_classify::entry::{entry_ref_with_outcome, is_some_directory_kind};
 use dir_classify::{Error, Kind, Shared, classify};
 use gitbase_core::{Find, OutOfMemory, PathText};
 use glob_rules::pathspec::Matcher;
@@ -41,33 +41,34 @@ use worktree_fs::{Interrupt, Worktree};
 
 /// The kind by which a traversal root is entered or not: for the worktree root a link to a
 /// directory counts as one. A fault of the question where it leads reads as no directory.
-fn root_kind<W: Worktree, M: Matcher>(
+fn disk_kind_of_traversal_root<W: Worktree, M: Matcher>(
     alloc: Global,
     shared: &Shared<'_, M>,
     reached: &RootOutcome,
     worktree: &mut W,
 ) -> Result<Option<Kind>, OutOfMemory>
-    ensures kind { (made : Option StackSetup) (s : Sources) → W.told worktree.old ≡ Some s.tree
-        → NotIncreased (W.faults worktree.old) (W.faults worktree.new)
-        → IfOk result (λ kind. kind ≡ root_kind
-        (evidence (setting_of M.Matcher shared.now) made s) (reached_by reached.now false)) }
-    ensures keeps { Asks W.Worktree worktree.old worktree.new }
+    ensures kind { (made : Option StackSetup) (s : TreeAndObjects) → W.told worktree.old
+        ≡ Some s.tree → CountNotIncreased (W.faults worktree.old) (W.faults worktree.new)
+        → IfOk result (λ kind. kind ≡ disk_kind_of_traversal_root (evidence_from_setting_and_sources
+        (setting_of_shared M.Matcher shared.now) made s) (reached_of_root_outcome reached.now
+        false)) }
+    ensures keeps { KeepsTreeAndListCounts W.Worktree worktree.old worktree.new }
     ensures reads { W.reads worktree.new ≡ W.reads worktree.old }
 {
     let kind = reached.outcome.disk_kind;
-    if !is_link_at_top(reached) {
+    if !is_worktree_root_symlink(reached) {
         return Ok(kind);
     }
-    if leads_to_directory(alloc, shared.worktree_root, worktree)? {
+    if is_directory_following_links(alloc, shared.worktree_root, worktree)? {
         return Ok(Some(Kind::Directory));
     }
     Ok(kind)
 }
 
 /// Whether the way ended at the worktree root, and that is a link.
-fn is_link_at_top(reached: &RootOutcome) -> bool
+fn is_worktree_root_symlink(reached: &RootOutcome) -> bool
     ensures { result
-        ≡ (is_empty reached.now.path && is_symlink reached.now.outcome.disk_kind) }
+        ≡ (is_empty reached.now.path && is_symlink_kind reached.now.outcome.disk_kind) }
 {
     let link = matches!(reached.outcome.disk_kind, Some(Kind::Symlink));
     reached.path.as_bytes().is_empty() & link
@@ -75,37 +76,40 @@ fn is_link_at_top(reached: &RootOutcome) -> bool
 
 /// Whether the walk enters the traversal root: where the way led there, and the delegate looks into
 /// it.
-fn is_root_entered<W: Worktree, M: Matcher, D: Delegate>(
+fn enters_traversal_root<W: Worktree, M: Matcher, D: Delegate>(
     alloc: Global,
     shared: &Shared<'_, M>,
     reached: &RootOutcome,
     worktree: &mut W,
     delegate: &mut D,
 ) -> Result<bool, OutOfMemory>
-    ensures entered { (made : Option StackSetup) (s : Sources) → W.told worktree.old ≡ Some s.tree
-        → NotIncreased (W.faults worktree.old) (W.faults worktree.new)
-        → D.is_default delegate.old ≡ true
-        → IfOk result (λ entered. entered ≡ is_root_entered (chosen shared.now.options)
-        (evidence (setting_of M.Matcher shared.now) made s) (reached_by reached.now false)) }
-    ensures answered { (made : Option StackSetup) (s : Sources) → W.told worktree.old ≡ Some s.tree
-        → NotIncreased (W.faults worktree.old) (W.faults worktree.new)
-        → IfOk result (λ entered. IsAnswered (is_root_entered (chosen shared.now.options)
-        (evidence (setting_of M.Matcher shared.now) made s) (reached_by reached.now false)) entered
-        (D.refusals delegate.old) (D.refusals delegate.new)) }
+    ensures entered { (made : Option StackSetup) (s : TreeAndObjects) → W.told worktree.old
+        ≡ Some s.tree → CountNotIncreased (W.faults worktree.old) (W.faults worktree.new)
+        → D.is_default delegate.old ≡ true → IfOk result (λ entered. entered ≡ enters_traversal_root
+        (walk_options_of shared.now.options) (evidence_from_setting_and_sources
+        (setting_of_shared M.Matcher shared.now) made s) (reached_of_root_outcome reached.now
+        false)) }
+    ensures answered { (made : Option StackSetup) (s : TreeAndObjects) → W.told worktree.old
+        ≡ Some s.tree → CountNotIncreased (W.faults worktree.old) (W.faults worktree.new)
+        → IfOk result (λ entered. CountsRecursionRefusal
+        (enters_traversal_root (walk_options_of shared.now.options)
+        (evidence_from_setting_and_sources (setting_of_shared M.Matcher shared.now) made s)
+        (reached_of_root_outcome reached.now false)) entered (D.refusals delegate.old)
+        (D.refusals delegate.new)) }
     ensures whole { IfOk result (λ entered. entered ≡ true → reached.now.whole ≡ true) }
-    ensures keeps { Asks W.Worktree worktree.old worktree.new }
+    ensures keeps { KeepsTreeAndListCounts W.Worktree worktree.old worktree.new }
     ensures reads { W.reads worktree.new ≡ W.reads worktree.old }
-    ensures delegate { KeepsDelegate D.Delegate delegate.old delegate.new }
+    ensures delegate { KeepsDelegateRunning D.Delegate delegate.old delegate.new }
     ensures given { D.given delegate.new ≡ D.given delegate.old }
     ensures breaks { D.breaks delegate.new ≡ D.breaks delegate.old }
 {
     if !reached.whole {
         return Ok(false);
     }
-    let kind = root_kind(alloc, shared, reached, worktree)?;
-    let class = with_disk_kind(&reached.outcome, kind);
+    let kind = disk_kind_of_traversal_root(alloc, shared, reached, worktree)?;
+    let class = outcome_with_disk_kind(&reached.outcome, kind);
     let in_repository = reached.worktree_root_is_repository;
-    Ok(is_entered(
+    Ok(delegate_enters_directory(
         &shared.options,
         reached.path.as_bytes(),
         &class,
@@ -115,7 +119,7 @@ fn is_root_entered<W: Worktree, M: Matcher, D: Delegate>(
 }
 
 /// A class with another kind on disk.
-fn with_disk_kind(class: &classify::Outcome, disk_kind: Option<Kind>) -> classify::Outcome
+fn outcome_with_disk_kind(class: &classify::Outcome, disk_kind: Option<Kind>) -> classify::Outcome
     ensures { result ≡ record class.now { disk_kind = disk_kind } }
 {
     classify::Outcome {
@@ -132,7 +136,7 @@ fn with_disk_kind(class: &classify::Outcome, disk_kind: Option<Kind>) -> classif
 /// root that is no directory is refused.
 ///
 /// See docs/DECISIONS.md#nothing-entered.
-fn emit_unentered_root<D: Delegate, M: Matcher>(
+fn emit_unentered_root_entry<D: Delegate, M: Matcher>(
     alloc: Global,
     shared: &Shared<'_, M>,
     root: &[u8],
@@ -140,26 +144,27 @@ fn emit_unentered_root<D: Delegate, M: Matcher>(
     delegate: &mut D,
     outcome: &mut Outcome,
 ) -> Result<(), Stop>
-    ensures puts { PutsRoot D.Delegate (chosen shared.now.options) shared.now.worktree_root.now
-        root.now reached.now delegate.old delegate.new outcome.old outcome.new result }
-    ensures given { Puts (once_at reached.now.path) (D.given delegate.old) (D.given delegate.new)
-        outcome.old outcome.new [] }
+    ensures puts { EmitsUnenteredRoot D.Delegate (walk_options_of shared.now.options)
+        shared.now.worktree_root.now root.now reached.now delegate.old delegate.new outcome.old
+        outcome.new result }
+    ensures given { AddsEmissionsWithinRoom (one_at_path reached.now.path) (D.given delegate.old)
+        (D.given delegate.new) outcome.old outcome.new [] }
     ensures entered { outcome.new.read_dir_calls ≡ outcome.old.read_dir_calls }
     ensures refusals { D.refusals delegate.new ≡ D.refusals delegate.old }
-    ensures delegate { KeepsDelegate D.Delegate delegate.old delegate.new }
-    ensures filtered { AddsShown (chosen shared.now.options) (D.given delegate.old)
-        (D.given delegate.new) }
+    ensures delegate { KeepsDelegateRunning D.Delegate delegate.old delegate.new }
+    ensures filtered { AddsNoHiddenEmission (walk_options_of shared.now.options)
+        (D.given delegate.old) (D.given delegate.new) }
     ensures heeds { HeedsDelegateBreak D.Delegate delegate.old delegate.new result }
 {
     let class = &reached.outcome;
-    if is_non_directory_worktree_root(root, class) {
+    if is_worktree_root_non_directory(root, class) {
         let root = PathText::from_bytes(alloc, shared.worktree_root)?;
         return Err(Stop::Refused(Error::WorktreeRootIsFile { root }));
     }
     emit(
         alloc,
         &shared.options,
-        entry_over(reached.path.as_bytes(), class),
+        entry_ref_with_outcome(reached.path.as_bytes(), class),
         None,
         delegate,
         outcome,
@@ -167,14 +172,14 @@ fn emit_unentered_root<D: Delegate, M: Matcher>(
 }
 
 /// Whether the traversal root is the worktree root, and its class has it as no directory.
-fn is_non_directory_worktree_root(root: &[u8], class: &classify::Outcome) -> bool
-    ensures { result ≡ (is_empty root.now && not (holds_names class.now.disk_kind)) }
+fn is_worktree_root_non_directory(root: &[u8], class: &classify::Outcome) -> bool
+    ensures { result ≡ (is_empty root.now && not (is_some_directory_kind class.now.disk_kind)) }
 {
-    root.is_empty() & !holds_names(class.disk_kind)
+    root.is_empty() & !is_some_directory_kind(class.disk_kind)
 }
 
 /// Walks from the traversal root `root`.
-pub(crate) fn walk_from<W: Worktree, F: Find, I: Interrupt, M: Matcher, D: Delegate>(
+pub(crate) fn walk_from_traversal_root<W: Worktree, F: Find, I: Interrupt, M: Matcher, D: Delegate>(
     alloc: Global,
     shared: &Shared<'_, M>,
     root: &[u8],
@@ -182,36 +187,41 @@ pub(crate) fn walk_from<W: Worktree, F: Find, I: Interrupt, M: Matcher, D: Deleg
     strategy: Strategy,
     parts: &mut Parts<'_, '_, '_, '_, '_, '_, W, F, I, D>,
 ) -> Result<(), Stop>
-    requires root { IsRoot root.now }
-    requires lookup { IsLookupIf shared.now.index.now shared.now.ignore_case_index_lookup.now }
-    requires excludes { tells_excludes (made_with parts.old.excludes.now) ≡ true }
+    requires root { IsNormalRootPath root.now }
+    requires lookup { IsLookupOfIndexIfGiven shared.now.index.now
+        shared.now.ignore_case_index_lookup.now }
+    requires excludes { has_excludes_if_given (setup_of_optional_stack parts.old.excludes.now)
+        ≡ true }
     // The parts are behind the same references.
-    ensures same { AreSame parts.old parts.new }
+    ensures same { KeepsPartReferences parts.old parts.new }
     // Over what is told, it gives all that is walked or a part, and is refused for what is there.
-    ensures told { StartTold W.Worktree F.Find D.Delegate (moment parts.old) (moment parts.new)
-        (setting_of M.Matcher shared.now) depth_limit root.now result }
+    ensures told { WalksFromRootOverSources W.Worktree F.Find D.Delegate
+        (walk_state_of_parts parts.old) (walk_state_of_parts parts.new) (setting_of_shared M.Matcher
+        shared.now) depth_limit root.now result }
     // Where the worktree root is refused, nothing is there to be walked.
-    ensures no_root { StartsNowhere W.Worktree D.Delegate (moment parts.old) (moment parts.new)
-        (setting_of M.Matcher shared.now) result }
+    ensures no_root { RefusesOnlyUnenteredRoot W.Worktree D.Delegate (walk_state_of_parts parts.old)
+        (walk_state_of_parts parts.new) (setting_of_shared M.Matcher shared.now) result }
     // Where there is nothing to start from, nothing was listed or asked before, and nothing given.
-    ensures unstarted { StartsNothing W.Worktree D.Delegate
-        (moment parts.old) (moment parts.new) result }
+    ensures unstarted { LeavesUnstartedWalkUntouched W.Worktree D.Delegate
+        (walk_state_of_parts parts.old) (walk_state_of_parts parts.new) result }
     // Over any worktree, what a refusal is about, and what it says of what is told.
-    ensures caused { StartCaused W.Worktree F.Find (moment parts.old)
-        (setting_of M.Matcher shared.now) depth_limit root.now result }
+    ensures caused { CausesOfRefusalFromRoot W.Worktree F.Find (walk_state_of_parts parts.old)
+        (setting_of_shared M.Matcher shared.now) depth_limit root.now result }
     // How the directories that are opened are counted, and how many they are at most.
-    ensures opens { OpensStart W.Worktree I.Interrupt (moment parts.old) (moment parts.new) strategy
-        (setting_of M.Matcher shared.now) root.now result (EntersStart W.Worktree F.Find D.Delegate
-        (moment parts.old) (moment parts.new)
-        (setting_of M.Matcher shared.now) depth_limit root.now result) }
+    ensures opens { CountsOpenedFromRoot W.Worktree I.Interrupt (walk_state_of_parts parts.old)
+        (walk_state_of_parts parts.new) strategy (setting_of_shared M.Matcher shared.now) root.now
+        result (OpensAtMostEnteredFromRoot W.Worktree F.Find D.Delegate
+        (walk_state_of_parts parts.old) (walk_state_of_parts parts.new) (setting_of_shared M.Matcher
+        shared.now) depth_limit root.now result) }
     // A store that no rules file is mapped to is not asked where all is walked over it.
-    ensures unmapped { strategy ≡ Held → maps_blobs (made_with parts.old.excludes.now) ≡ false
-        → parts.new.objects.now ≡ parts.old.objects.now }
+    ensures unmapped { strategy ≡ Held → maps_rules_files_to_blobs (setup_of_optional_stack
+        parts.old.excludes.now) ≡ false → parts.new.objects.now ≡ parts.old.objects.now }
     // Over any worktree, what the delegate is given, what stays, and how it ends.
-    ensures leaves { StartLeaves W.Worktree F.Find I.Interrupt D.Delegate
-        (moment parts.old) (moment parts.new) (setting_of M.Matcher shared.now) root.now result }
+    ensures leaves { LeavesAfterWalkFromRoot W.Worktree F.Find I.Interrupt D.Delegate
+        (walk_state_of_parts parts.old) (walk_state_of_parts parts.new) (setting_of_shared M.Matcher
+        shared.now) root.now result }
 {
-    let reached = classify::root_at(
+    let reached = classify::classify_way_to_traversal_root(
         alloc,
         root,
         shared,
@@ -219,8 +229,8 @@ pub(crate) fn walk_from<W: Worktree, F: Find, I: Interrupt, M: Matcher, D: Deleg
         parts.worktree,
         parts.objects,
     )?;
-    if is_root_entered(alloc, shared, &reached, parts.worktree, parts.delegate)? {
-        return walk_entered(
+    if enters_traversal_root(alloc, shared, &reached, parts.worktree, parts.delegate)? {
+        return walk_entered_traversal_root(
             alloc,
             shared,
             root,
@@ -230,5 +240,5 @@ pub(crate) fn walk_from<W: Worktree, F: Find, I: Interrupt, M: Matcher, D: Deleg
             parts,
         );
     }
-    emit_unentered_root(alloc, shared, root, &reached, parts.delegate, parts.outcome)
+    emit_unentered_root_entry(alloc, shared, root, &reached, parts.delegate, parts.outcome)
 }

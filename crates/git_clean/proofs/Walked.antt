@@ -3,18 +3,18 @@ use Rattle.std.proofs.Common.{◌≡◌, ℕ, List, inl, inr, Some, option_map, 
 use Rattle.gitbase_core.specs.declared.find.Find.{Ghosts as FindOf}
 use Rattle.worktree_fs.specs.declared.interrupt.Interrupt.{Ghosts as InterruptOf}
 use Rattle.worktree_fs.specs.declared.worktree.Worktree.{Ghosts as WorktreeOf}
-use Rattle.worktree_fs.specs.Causes.{Increased, NotIncreased}
-use Rattle.worktree_fs.specs.Kept.{Asks}
+use Rattle.worktree_fs.specs.Causes.{CountIncreasedOrSaturated, CountNotIncreased}
+use Rattle.worktree_fs.specs.Kept.{KeepsTreeAndListCounts}
 use Rattle.worktree_report.specs.declared.error.ReportError.{ReportError}
 use Rattle.worktree_report.specs.declared.refusal.Refusal.{Refusal}
 use Rattle.worktree_report.specs.declared.refusal.Refusal.TheVariants as refusals
 use Rattle.worktree_report.specs.declared.report.Report.{Report}
 use Rattle.worktree_report.specs.declared.report.ReportEntry.{ReportEntry}
 use Rattle.worktree_report.specs.declared.setup.Setup.{Setup}
-use Rattle.worktree_report.specs.Asked.{read_in}
-use Rattle.worktree_report.specs.Behind.{MakesFirst}
+use Rattle.worktree_report.specs.Asked.{sources_of_tree_and_setup}
+use Rattle.worktree_report.specs.Behind.{MakesReportTextFirst}
 use Rattle.worktree_report.specs.Converted as converted
-use Rattle.worktree_report.specs.Reported.{MakesReport}
+use Rattle.worktree_report.specs.Reported.{MakesReportBySetup}
 use Rattle.worktree_report.proofs.Answered.{told-blobs, Texts-refused}
 use Rattle.worktree_report.proofs.Refusing.{MakesFirst-is}
 use Rattle.worktree_report.proofs.ReportMade.{report_is}
@@ -22,24 +22,24 @@ use Rattle.ls_files.specs.declared.options.NamedSpec.{NamedSpec}
 use Rattle.git_clean.specs.declared.options.Cleaning.{Cleaning}
 use Rattle.git_clean.specs.Cleaned as words
 
-asks-none : {W : Type 0} (w : WorktreeOf W) (x : W) → Asks w x x
+asks-none : {W : Type 0} (w : WorktreeOf W) (x : W) → KeepsTreeAndListCounts w x x
 asks-none w x = record { tree = refl; faults = omega arith; list_faults = refl; reads = omega arith; lists = refl; precomposes = refl }
 
 module _ {W F I : Type 0} {w : WorktreeOf W} {f : FindOf F} {i : InterruptOf I} {w0 w1 : W} {o0 o1 : F} {i0 i1 : I} {root : List ℕ} {setup : Setup} where
   -- the report comes first, and nothing behind it
-  first : (r : Report) → MakesReport w f i w0 w1 o0 o1 i0 i1 root setup (Ok r) → f.holds o0 ≡ Some setup.blobs → MakesFirst w i (w.precomposes w0) w0 w1 i0 i1 root setup 0
+  first : (r : Report) → MakesReportBySetup w f i w0 w1 o0 o1 i0 i1 root setup (Ok r) → f.holds o0 ≡ Some setup.blobs → MakesReportTextFirst w i (w.precomposes w0) w0 w1 i0 i1 root setup 0
   first r made held = MakesFirst-is 0 r made held (asks-none w w1) (omega arith)
 
 module _ {W F I : Type 0} {w : WorktreeOf W} {f : FindOf F} {i : InterruptOf I} {w0 w1 : W} {o0 o1 : F} {i0 i1 : I} {root : List ℕ} {setup : Setup} {c : Cleaning} {prefix : List ℕ} {named : List NamedSpec} where
   -- what is told, where nothing failed
-  pub TellsCleaning-ok : (r : Report) (found : List ReportEntry) (out : List ℕ) → MakesReport w f i w0 w1 o0 o1 i0 i1 root setup (Ok r) → f.holds o0 ≡ Some setup.blobs
-      → found ≡ r.entries → out ≡ words.cleaned c prefix named setup found → NotIncreased (w.faults w0) (w.faults w1)
-      → words.TellsCleaning w i (w.precomposes w0) w0 w1 i0 i1 root setup c prefix named (Ok out)
+  pub TellsCleaning-ok : (r : Report) (found : List ReportEntry) (out : List ℕ) → MakesReportBySetup w f i w0 w1 o0 o1 i0 i1 root setup (Ok r) → f.holds o0 ≡ Some setup.blobs
+      → found ≡ r.entries → out ≡ words.dry_run_text_of_entries c prefix named setup found → CountNotIncreased (w.faults w0) (w.faults w1)
+      → words.AnswersCleanDryRun w i (w.precomposes w0) w0 w1 i0 i1 root setup c prefix named (Ok out)
   TellsCleaning-ok r found out made held same found_is quiet =
-      let is : out ≡ words.cleaned_by c prefix named setup r = found_is ∙ ap (words.cleaned c prefix named setup) same in
+      let is : out ≡ words.dry_run_text_of_report c prefix named setup r = found_is ∙ ap (words.dry_run_text_of_entries c prefix named setup) same in
       record {
         gives = λ t told.
-            ap (option_map (words.cleaned_by c prefix named setup)) (report_is (made.gives (read_in t setup) (told-blobs setup held told) quiet))
+            ap (option_map (words.dry_run_text_of_report c prefix named setup)) (report_is (made.gives (sources_of_tree_and_setup t setup) (told-blobs setup held told) quiet))
             ∙ ap (λ (x : List ℕ). Some x) (sym is);
         by_report = record { report = r; orderly = made.orderly; is = is };
         unfaulted = quiet;
@@ -52,8 +52,8 @@ module _ {W F I : Type 0} {w : WorktreeOf W} {f : FindOf F} {i : InterruptOf I} 
       }
 
   -- there is a report, and the worktree failed while it was made
-  pub TellsCleaning-failed : (r : Report) → MakesReport w f i w0 w1 o0 o1 i0 i1 root setup (Ok r) → f.holds o0 ≡ Some setup.blobs → Increased (w.faults w0) (w.faults w1)
-      → words.TellsCleaning w i (w.precomposes w0) w0 w1 i0 i1 root setup c prefix named (Err refusals.Fault)
+  pub TellsCleaning-failed : (r : Report) → MakesReportBySetup w f i w0 w1 o0 o1 i0 i1 root setup (Ok r) → f.holds o0 ≡ Some setup.blobs → CountIncreasedOrSaturated (w.faults w0) (w.faults w1)
+      → words.AnswersCleanDryRun w i (w.precomposes w0) w0 w1 i0 i1 root setup c prefix named (Err refusals.Fault)
   TellsCleaning-failed r made held rose =
       record {
         gives = λ t told. tt;
@@ -68,9 +68,9 @@ module _ {W F I : Type 0} {w : WorktreeOf W} {f : FindOf F} {i : InterruptOf I} 
       }
 
   -- the refusal that stands for that of a report
-  pub TellsCleaning-refused : (e : ReportError) (refusal : Refusal) → MakesReport w f i w0 w1 o0 o1 i0 i1 root setup (Err e) → f.holds o0 ≡ Some setup.blobs
-      → NotIncreased (f.faults o0) (f.faults o1) → refusal ≡ converted.refusal_of_report_error e
-      → words.TellsCleaning w i (w.precomposes w0) w0 w1 i0 i1 root setup c prefix named (Err refusal)
+  pub TellsCleaning-refused : (e : ReportError) (refusal : Refusal) → MakesReportBySetup w f i w0 w1 o0 o1 i0 i1 root setup (Err e) → f.holds o0 ≡ Some setup.blobs
+      → CountNotIncreased (f.faults o0) (f.faults o1) → refusal ≡ converted.refusal_of_report_error e
+      → words.AnswersCleanDryRun w i (w.precomposes w0) w0 w1 i0 i1 root setup c prefix named (Err refusal)
   TellsCleaning-refused e refusal made held kept same =
       record {
         gives = λ t told. tt;

@@ -4,96 +4,96 @@
 -- `w/x/f` beside it git looks further down, and names what lies in `w` by itself. With `w/` or `w*` beside those it takes `w` after all.
 use Rattle.std.specs.Prelude.{ℕ, List, [], ◌∷◌, Bool, true, false, not, ◌==◌, ◌&&◌, ◌||◌, nat_eq, Option, Some, None, is_none, unwrap_or}
 use Rattle.std.specs.List.{before_first, list_any, starts_with}
-use Rattle.gitbase_core.specs.Path.{basename, relative_to}
-use Rattle.glob_rules.specs.Glob.{is_special}
+use Rattle.gitbase_core.specs.Path.{basename, strip_directory_prefix}
+use Rattle.glob_rules.specs.Glob.{is_glob_special_byte}
 use Rattle.glob_rules.specs.PathSpec.{PathSpec}
-use Rattle.glob_rules.specs.PathSpecs.{can_match, common_directory, list_match}
+use Rattle.glob_rules.specs.PathSpecs.{can_match, common_directory_of_specs, match_of_path_by_specs}
 use Rattle.glob_rules.specs.declared.pathspec.Match.{Match}
 use Rattle.glob_rules.specs.declared.pathspec.MatchKind.{MatchKind}
 use Rattle.glob_rules.specs.declared.pathspec.MatchKind.TheVariants.{Always, Prefix, WildcardMatch, Verbatim}
 use Rattle.ls_files.specs.declared.options.NamedSpec.{NamedSpec}
 use Rattle.ls_files.specs.Cached.{is_including_match}
-use Rattle.ls_files.specs.Others.{ends_in_dots, is_out}
+use Rattle.ls_files.specs.Others.{ends_in_dot_component, is_excluded_match}
 
 -- ---- matches
 
 -- the path lies beneath that of the spec, or the spec has none
-abbrev pub is_above : MatchKind → Bool
-is_above Always = true
-is_above Prefix = true
-is_above WildcardMatch = false
-is_above Verbatim = false
+abbrev pub is_always_or_prefix_match_kind : MatchKind → Bool
+is_always_or_prefix_match_kind Always = true
+is_always_or_prefix_match_kind Prefix = true
+is_always_or_prefix_match_kind WildcardMatch = false
+is_always_or_prefix_match_kind Verbatim = false
 
-abbrev pub is_wild : MatchKind → Bool
-is_wild Always = false
-is_wild Prefix = false
-is_wild WildcardMatch = true
-is_wild Verbatim = false
+abbrev pub is_wildcard_match_kind : MatchKind → Bool
+is_wildcard_match_kind Always = false
+is_wildcard_match_kind Prefix = false
+is_wildcard_match_kind WildcardMatch = true
+is_wildcard_match_kind Verbatim = false
 
-abbrev pub is_by_wildcards : Option Match → Bool
-is_by_wildcards None = false
-is_by_wildcards (Some m) = not m.excluded && is_wild m.kind
+abbrev pub is_including_wildcard_match : Option Match → Bool
+is_including_wildcard_match None = false
+is_including_wildcard_match (Some m) = not m.excluded && is_wildcard_match_kind m.kind
 
 -- the spec is about the path itself
-abbrev pub is_of_path : Option Match → Bool
-is_of_path None = false
-is_of_path (Some m) = not (m.excluded || is_above m.kind)
+abbrev pub is_including_match_of_path_itself : Option Match → Bool
+is_including_match_of_path_itself None = false
+is_including_match_of_path_itself (Some m) = not (m.excluded || is_always_or_prefix_match_kind m.kind)
 
 -- it is about all beneath a directory above, or takes out
-abbrev pub is_from_above : Option Match → Bool
-is_from_above None = false
-is_from_above (Some m) = m.excluded || is_above m.kind
+abbrev pub is_excluding_always_or_prefix_match : Option Match → Bool
+is_excluding_always_or_prefix_match None = false
+is_excluding_always_or_prefix_match (Some m) = m.excluded || is_always_or_prefix_match_kind m.kind
 
 -- ---- specs that settle
 
 -- A spec asks for a directory: it matches no file at this path, or was written with `.` or `..` at the end, where git reads a slash.
-abbrev pub asks_for_directory : List ℕ → NamedSpec → Bool
-asks_for_directory d named = ends_in_dots named || is_none (list_match named.spec d (Some false))
+abbrev pub spec_matches_only_as_directory : List ℕ → NamedSpec → Bool
+spec_matches_only_as_directory d named = ends_in_dot_component named || is_none (match_of_path_by_specs named.spec d (Some false))
 
 -- such a spec is about a directory itself
-abbrev pub is_meant : List ℕ → NamedSpec → Bool
-is_meant d named = is_of_path (list_match named.spec d (Some true)) && asks_for_directory d named
+abbrev pub spec_means_directory_itself : List ℕ → NamedSpec → Bool
+spec_means_directory_itself d named = is_including_match_of_path_itself (match_of_path_by_specs named.spec d (Some true)) && spec_matches_only_as_directory d named
 
 -- A spec settles that a directory goes as a whole: it has a slash at its end, as the name has, or wildcards that match the name.
-abbrev pub takes_directory_whole : List ℕ → List ℕ → NamedSpec → Bool
-takes_directory_whole name d named = is_by_wildcards (list_match named.spec name (Some false)) || is_meant d named
+abbrev pub spec_takes_directory_whole : List ℕ → List ℕ → NamedSpec → Bool
+spec_takes_directory_whole name d named = is_including_wildcard_match (match_of_path_by_specs named.spec name (Some false)) || spec_means_directory_itself d named
 
 -- ---- specs that lead further down
 
 -- what stands of the first component with wildcards before these, in a spec as it was written
-abbrev pub plain_front : List ℕ → List ℕ
-plain_front text = basename (before_first is_special text)
+abbrev pub component_text_before_wildcard : List ℕ → List ℕ
+component_text_before_wildcard text = basename (before_first is_glob_special_byte text)
 
 -- it has no words or signs before its path
-abbrev pub is_bare : List ℕ → Bool
-is_bare [] = true
-is_bare (b ∷ text) = not (b == 58)
+abbrev pub is_spec_without_magic : List ℕ → Bool
+is_spec_without_magic [] = true
+is_spec_without_magic (b ∷ text) = not (b == 58)
 
 -- the directory that all its matches lie in
-abbrev pub stem_of : NamedSpec → List ℕ
-stem_of named = unwrap_or (common_directory named.spec) []
+abbrev pub common_directory_of_spec : NamedSpec → List ℕ
+common_directory_of_spec named = unwrap_or (common_directory_of_specs named.spec) []
 
-abbrev pub begins_otherwise : List ℕ → Option (List ℕ) → Bool
-begins_otherwise front None = false
-begins_otherwise front (Some rest) = not (starts_with nat_eq rest front)
+abbrev pub starts_unlike_front : List ℕ → Option (List ℕ) → Bool
+starts_unlike_front front None = false
+starts_unlike_front front (Some rest) = not (starts_with nat_eq rest front)
 
 -- a spec with wildcards is about names that begin otherwise than that of the directory: `u*` than `w`
-abbrev pub strays : List ℕ → NamedSpec → Bool
-strays d named = is_bare named.text && begins_otherwise (plain_front named.text) (relative_to (stem_of named) d)
+abbrev pub directory_differs_from_wildcard_start : List ℕ → NamedSpec → Bool
+directory_differs_from_wildcard_start d named = is_spec_without_magic named.text && starts_unlike_front (component_text_before_wildcard named.text) (strip_directory_prefix (common_directory_of_spec named) d)
 
 -- a spec is about what may lie further down in a directory
-abbrev pub leads : List ℕ → List ℕ → NamedSpec → Bool
-leads name d named =
+abbrev pub spec_may_match_deeper : List ℕ → List ℕ → NamedSpec → Bool
+spec_may_match_deeper name d named =
     can_match named.spec d
-    && not (takes_directory_whole name d named || (is_from_above (list_match named.spec name (Some true)) || strays d named))
+    && not (spec_takes_directory_whole name d named || (is_excluding_always_or_prefix_match (match_of_path_by_specs named.spec name (Some true)) || directory_differs_from_wildcard_start d named))
 
 -- ---- all of them
 
 -- the specs match a directory, and none leads further down
-abbrev pub is_whole : List PathSpec → List NamedSpec → List ℕ → List ℕ → Bool
-is_whole specs named name d = is_including_match (list_match specs name (Some true)) && not (list_any (leads name d) named)
+abbrev pub is_included_and_none_match_deeper : List PathSpec → List NamedSpec → List ℕ → List ℕ → Bool
+is_included_and_none_match_deeper specs named name d = is_including_match (match_of_path_by_specs specs name (Some true)) && not (list_any (spec_may_match_deeper name d) named)
 
 -- none takes it out, and one settles it, or it is matched as a whole
-abbrev pub is_taken : List PathSpec → List NamedSpec → List ℕ → List ℕ → Bool
-is_taken specs named name d =
-    not (is_out (list_match specs name (Some true))) && (list_any (takes_directory_whole name d) named || is_whole specs named name d)
+abbrev pub specs_take_directory_whole : List PathSpec → List NamedSpec → List ℕ → List ℕ → Bool
+specs_take_directory_whole specs named name d =
+    not (is_excluded_match (match_of_path_by_specs specs name (Some true))) && (list_any (spec_takes_directory_whole name d) named || is_included_and_none_match_deeper specs named name d)

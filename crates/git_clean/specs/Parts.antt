@@ -1,60 +1,60 @@
 -- What would go of a directory that cannot go itself, since a repository lies in it, or the current directory.
 use Rattle.std.specs.Prelude.{ℕ, List, [], ◌∷◌, Bool, not, ◌&&◌, ◌||◌, find, Option, Some, None, slice_index, take, unwrap_or, if◌then◌else◌}
 use Rattle.std.specs.List.{list_any}
-use Rattle.gitbase_core.specs.Among.{is_among}
-use Rattle.gitbase_core.specs.Path.{is_empty, is_path_prefix, is_slash, lies_beneath}
-use Rattle.dir_classify.specs.Kinds.{is_repository}
+use Rattle.gitbase_core.specs.Among.{is_text_in_list}
+use Rattle.gitbase_core.specs.Path.{is_empty, is_prefix_by_whole_components, is_slash, is_beneath_directory}
+use Rattle.dir_classify.specs.Kinds.{is_repository_kind}
 use Rattle.dir_classify.specs.declared.entry.Entry.{Entry}
-use Rattle.worktree_report.specs.SetupMeant.{ordered_after}
+use Rattle.worktree_report.specs.SetupMeant.{insert_paths_in_order}
 use Rattle.worktree_report.specs.declared.report.ReportEntry.{ReportEntry}
-use Rattle.ls_files.specs.Others.{directories_above_path, with_name}
-use Rattle.git_clean.specs.Going.{is_stay}
-use Rattle.git_clean.specs.Places.{is_kept}
-use Rattle.git_clean.specs.Scenes.{Scene}
+use Rattle.ls_files.specs.Others.{directories_above_path, prepend_name_if_some}
+use Rattle.git_clean.specs.Going.{is_repository_or_dot_git_kept}
+use Rattle.git_clean.specs.Places.{lies_in_kept_directory}
+use Rattle.git_clean.specs.Scenes.{CleaningInputs}
 
 -- a directory beneath another can go
-abbrev pub is_free : Scene → List ℕ → List ℕ → Bool
-is_free s directory d = lies_beneath directory d && not (is_among d s.held)
+abbrev pub is_removable_subdirectory : CleaningInputs → List ℕ → List ℕ → Bool
+is_removable_subdirectory s directory d = is_beneath_directory directory d && not (is_text_in_list d s.held)
 
 -- the directory that ends before a byte of a path can
-abbrev pub is_free_at : Scene → List ℕ → List ℕ → ℕ → Bool
-is_free_at s directory path at = is_slash (slice_index path at) && is_free s directory (take at path)
+abbrev pub is_removable_subdirectory_ending_at : CleaningInputs → List ℕ → List ℕ → ℕ → Bool
+is_removable_subdirectory_ending_at s directory path at = is_slash (slice_index path at) && is_removable_subdirectory s directory (take at path)
 
 -- the highest one above a path that can, else the path itself
-abbrev pub free_part : Scene → List ℕ → List ℕ → List ℕ
-free_part s directory path = unwrap_or (find (is_free s directory) (directories_above_path path)) path
+abbrev pub topmost_removable_part : CleaningInputs → List ℕ → List ℕ → List ℕ
+topmost_removable_part s directory path = unwrap_or (find (is_removable_subdirectory s directory) (directories_above_path path)) path
 
 -- an entry beneath a directory stays
-abbrev pub is_left : Scene → Entry → Bool
-is_left s e = is_stay s.cleaning e || (is_kept s e.rela_path || is_among e.rela_path s.held)
+abbrev pub entry_stays_in_directory : CleaningInputs → Entry → Bool
+entry_stays_in_directory s e = is_repository_or_dot_git_kept s.cleaning e || (lies_in_kept_directory s e.rela_path || is_text_in_list e.rela_path s.held)
 
-abbrev pub part_of : Scene → List ℕ → Entry → Option (List ℕ)
-part_of s directory e =
-    if lies_beneath directory e.rela_path && not (is_left s e) then Some (free_part s directory e.rela_path) else None
+abbrev pub removable_part_for_entry : CleaningInputs → List ℕ → Entry → Option (List ℕ)
+removable_part_for_entry s directory e =
+    if is_beneath_directory directory e.rela_path && not (entry_stays_in_directory s e) then Some (topmost_removable_part s directory e.rela_path) else None
 
-abbrev pub parts_of : Scene → List ℕ → List ReportEntry → List (List ℕ)
-parts_of s directory [] = []
-parts_of s directory (e ∷ found) = with_name (part_of s directory e.entry) (parts_of s directory found)
+abbrev pub removable_parts_of_entries : CleaningInputs → List ℕ → List ReportEntry → List (List ℕ)
+removable_parts_of_entries s directory [] = []
+removable_parts_of_entries s directory (e ∷ found) = prepend_name_if_some (removable_part_for_entry s directory e.entry) (removable_parts_of_entries s directory found)
 
 -- what goes of it, in the order of the bytes
-abbrev pub parts : Scene → List ℕ → List (List ℕ)
-parts s directory = ordered_after [] (parts_of s directory s.found)
+abbrev pub removable_parts_of_directory : CleaningInputs → List ℕ → List (List ℕ)
+removable_parts_of_directory s directory = insert_paths_in_order [] (removable_parts_of_entries s directory s.found)
 
-abbrev pub is_repository_in : List ℕ → Entry → Bool
-is_repository_in directory e = lies_beneath directory e.rela_path && is_repository e.disk_kind
+abbrev pub is_repository_beneath : List ℕ → Entry → Bool
+is_repository_beneath directory e = is_beneath_directory directory e.rela_path && is_repository_kind e.disk_kind
 
 -- a repository in it is named as one that is skipped
-abbrev pub is_skipped : Scene → List ℕ → Entry → Bool
-is_skipped s directory e = not (s.cleaning.repositories || not (is_repository_in directory e)) && not (is_kept s e.rela_path)
+abbrev pub is_skipped_repository_in : CleaningInputs → List ℕ → Entry → Bool
+is_skipped_repository_in s directory e = not (s.cleaning.repositories || not (is_repository_beneath directory e)) && not (lies_in_kept_directory s e.rela_path)
 
 -- something stays in the current directory
-abbrev pub stays_here : Scene → ReportEntry → Bool
-stays_here s e = is_stay s.cleaning e.entry && is_path_prefix s.prefix e.entry.rela_path
+abbrev pub stays_in_current_directory : CleaningInputs → ReportEntry → Bool
+stays_in_current_directory s e = is_repository_or_dot_git_kept s.cleaning e.entry && is_prefix_by_whole_components s.prefix e.entry.rela_path
 
-abbrev pub something_stays_here : Scene → Bool
-something_stays_here s = list_any (stays_here s) s.found
+abbrev pub any_stays_in_current_directory : CleaningInputs → Bool
+any_stays_in_current_directory s = list_any (stays_in_current_directory s) s.found
 
 -- The current directory is refused, which is the directory or lies in it, where all that it holds goes.
-abbrev pub refuses_here : Scene → List ℕ → Bool
-refuses_here s directory =
-    not (is_empty s.prefix) && (is_path_prefix directory s.prefix && not (something_stays_here s))
+abbrev pub refuses_current_directory : CleaningInputs → List ℕ → Bool
+refuses_current_directory s directory =
+    not (is_empty s.prefix) && (is_prefix_by_whole_components directory s.prefix && not (any_stays_in_current_directory s))

@@ -9,7 +9,7 @@ use Rattle.git_clean.specs.declared.options.Cleaning.{Cleaning}
 use Rattle.git_clean.specs.declared.scene.Scene as declared
 use Rattle.git_clean.specs.Directories as directories
 
-pub record Scene : Type 0 where
+pub record CleaningInputs : Type 0 where
   pub cleaning : Cleaning
   pub index : List IndexEntry
   -- the path specs, and each alone
@@ -23,8 +23,8 @@ pub record Scene : Type 0 where
   pub guarded : List (List ℕ)
   pub held : List (List ℕ)
 
-abbrev pub scene_by : declared.Scene → Scene
-scene_by s =
+abbrev pub scene_in_specification : declared.Scene → CleaningInputs
+scene_in_specification s =
     record {
       cleaning = s.cleaning.now;
       index = s.index.now;
@@ -38,8 +38,8 @@ scene_by s =
     }
 
 -- the scene of a setup and the entries of a report
-abbrev pub scene : Cleaning → List ℕ → List NamedSpec → Setup → List ReportEntry → Scene
-scene c prefix named setup found =
+abbrev pub scene_of_setup_and_entries : Cleaning → List ℕ → List NamedSpec → Setup → List ReportEntry → CleaningInputs
+scene_of_setup_and_entries c prefix named setup found =
     record {
       cleaning = c;
       index = setup.index;
@@ -47,7 +47,7 @@ scene c prefix named setup found =
       named = named;
       prefix = prefix;
       found = found;
-      marked = directories.marked c (directories.guarded found) found;
-      guarded = directories.guarded found;
+      marked = directories.directories_marked_against_removal c (directories.directories_holding_dot_git found) found;
+      guarded = directories.directories_holding_dot_git found;
       held = directories.held c prefix found;
     }

@@ -7,13 +7,13 @@ use Rattle.worktree_report.specs.declared.setup.SetupOptions.{SetupOptions}
 use Rattle.git_clean.specs.declared.options.Cleaning.{Cleaning}
 
 -- What lies in an ignored directory is asked for where that may go.
-abbrev pub deletion_for : Cleaning → ForDeletionMode
-deletion_for c = if c.ignored_only then FindNonBareRepositoriesInIgnoredDirectories else IgnoredDirectoriesCanHideNestedRepositories
+abbrev pub for_deletion_mode_of_cleaning : Cleaning → ForDeletionMode
+for_deletion_mode_of_cleaning c = if c.ignored_only then FindNonBareRepositoriesInIgnoredDirectories else IgnoredDirectoriesCanHideNestedRepositories
 
 -- Options with those set that a cleaning needs: for deletion, each path by itself and none folded or hidden but what is tracked, "-x: Don't
 -- use the standard ignore rules", and git's rule that what an ignored directory holds is ignored. All others stay.
-abbrev pub options_for_cleaning_walk : Cleaning → SetupOptions → SetupOptions
-options_for_cleaning_walk c options =
+abbrev pub walk_options_for_cleaning : Cleaning → SetupOptions → SetupOptions
+walk_options_for_cleaning c options =
     record options {
       excludes = not c.ignored_too;
       strict_parents = true;
@@ -21,7 +21,7 @@ options_for_cleaning_walk c options =
       recurse_repositories = false;
       symlinks_to_directories_are_ignored_like_directories = false;
       classify_untracked_bare_repositories = false;
-      for_deletion = Some (deletion_for c);
+      for_deletion = Some (for_deletion_mode_of_cleaning c);
       emit_pruned = true;
       emit_tracked = false;
       emit_untracked = Matching;

@@ -6,15 +6,15 @@ use Rattle.git_clean.specs.declared.wrong.WrongCleaning.{WrongCleaning}
 use Rattle.git_clean.specs.declared.wrong.WrongCleaning.TheVariants as wrong
 
 -- the first reason why there is no such cleaning of the work tree of a setup; nothing is removed here
-abbrev pub wrong_in : Cleaning → Setup → Option WrongCleaning
-wrong_in c setup =
+abbrev pub reason_cleaning_unsupported : Cleaning → Setup → Option WrongCleaning
+reason_cleaning_unsupported c setup =
     if not c.dry_run then Some wrong.Removes
     else if c.ignored_too && c.ignored_only then Some wrong.BothIgnored
     else if setup.options.ignore_case then Some wrong.FoldedCase
     else None
 
 -- what is told of it
-abbrev pub wrong_text : WrongCleaning → List ℕ
-wrong_text wrong.Removes = codes "clean is not supported without -n: nothing is removed"
-wrong_text wrong.BothIgnored = codes "-x and -X cannot be used together"
-wrong_text wrong.FoldedCase = codes "clean is not supported with core.ignoreCase"
+abbrev pub message_of_wrong_cleaning : WrongCleaning → List ℕ
+message_of_wrong_cleaning wrong.Removes = codes "clean is not supported without -n: nothing is removed"
+message_of_wrong_cleaning wrong.BothIgnored = codes "-x and -X cannot be used together"
+message_of_wrong_cleaning wrong.FoldedCase = codes "clean is not supported with core.ignoreCase"

@@ -1,9 +1,9 @@
 //! What would go of a work tree.
 ghost use Rattle.std.specs.Prelude.{◌≡◌, None};
 ghost use Rattle.git_clean.specs.Cleaned as words;
-ghost use Rattle.git_clean.specs.Wrong.{wrong_in};
+ghost use Rattle.git_clean.specs.Wrong.{reason_cleaning_unsupported};
 
-use crate::cleaned::clean_found;
+use crate::cleaned::dry_run_text_of_entries;
 use crate::options::Cleaning;
 use gitbase_core::{Bytes, Find};
 use ls_files::NamedSpec;
@@ -16,9 +16,10 @@ use worktree_report::{
 /// What `git clean -n` prints of the work tree at `root`, called in its directory `prefix`: a line
 /// for each path that git would remove, by a report that is made for it. Nothing is removed.
 ///
-/// The cleaning has to be one that there is, which [`wrong_in`](crate::wrong_in) tests. The setup
-/// is found with the options that [`walk_options`](crate::walk_options) gives for the cleaning, and
-/// with the path specs; `named` has each of these alone. Where no path spec is written, or each
+/// The cleaning has to be one that there is, which
+/// [`reason_cleaning_unsupported`](crate::reason_cleaning_unsupported) tests. The setup is found
+/// with the options that [`walk_options_for_cleaning`](crate::walk_options_for_cleaning) gives for the cleaning,
+/// and with the path specs; `named` has each of these alone. Where no path spec is written, or each
 /// excludes, git means the current directory: then a path spec of it is among them. The patterns of
 /// `-e` are the last of the setup's overrides. Its traversal root is the top of the work tree, `.`,
 /// so that the walk sees each `.git` above what it looks at. By another one a directory above it
@@ -33,7 +34,7 @@ use worktree_report::{
 /// - `OutOfMemory`: memory was refused.
 ///
 /// See docs/DECISIONS.md#dry-clean-by-leaves.
-pub fn dry_clean<W: CountsFaults, I: Interrupt>(
+pub fn clean_dry_run_text<W: CountsFaults, I: Interrupt>(
     alloc: Global,
     worktree: &mut W,
     interrupt: &mut I,
@@ -43,10 +44,10 @@ pub fn dry_clean<W: CountsFaults, I: Interrupt>(
     prefix: &[u8],
     named: &[NamedSpec],
 ) -> Result<Bytes, Refusal>
-    requires cleanable { wrong_in cleaning.now setup.now ≡ None }
-    ensures { words.TellsCleaning W.Worktree I.Interrupt (W.precomposes worktree.old) worktree.old
-        worktree.new interrupt.old interrupt.new root.now setup.now cleaning.now prefix.now
-        named.now result }
+    requires cleanable { reason_cleaning_unsupported cleaning.now setup.now ≡ None }
+    ensures { words.AnswersCleanDryRun W.Worktree I.Interrupt (W.precomposes worktree.old)
+        worktree.old worktree.new interrupt.old interrupt.new root.now setup.now cleaning.now
+        prefix.now named.now result }
 {
     let before = worktree.fault_count();
     let mut objects = setup.blobs.fork(alloc)?;
@@ -56,7 +57,7 @@ pub fn dry_clean<W: CountsFaults, I: Interrupt>(
                 return Err(Refusal::Fault);
             }
             let found = report.entries.into_vec();
-            Ok(clean_found(alloc, cleaning, prefix, named, setup, found)?)
+            Ok(dry_run_text_of_entries(alloc, cleaning, prefix, named, setup, found)?)
         }
         Err(error) => Err(refusal_of_report_error(alloc, error)?),
     }

@@ -4,66 +4,71 @@ ghost use Rattle.gitbase_core.specs.Path as paths;
 ghost use Rattle.git_clean.specs.Beneath.{AreSortedByPath};
 ghost use Rattle.git_clean.specs.Cleaned as words;
 ghost use Rattle.git_clean.specs.Lines as lines;
-ghost use Rattle.git_clean.specs.Scenes.{scene_by};
+ghost use Rattle.git_clean.specs.Scenes.{scene_in_specification};
 
-use crate::above::has;
-use crate::beneath::rise;
-use crate::inside::add_inside;
-use crate::line::{add_line, would_remove_text};
+use crate::above::set_contains_directory;
+use crate::beneath::is_sorted_by_path;
+use crate::inside::append_lines_of_unremovable_directory;
+use crate::line::{append_line_unless_quiet, would_remove_words};
 use crate::names::names;
 use crate::options::Cleaning;
-use crate::ruled::all_ruled;
+use crate::ruled::entries_ignored_by_sole_patterns;
 use crate::scene::Scene;
-use crate::sets::{guarded, held, marked};
-use git_paths::relative_from;
+use crate::sets::{directories_holding_dot_git, directories_marked_against_removal, held};
+use git_paths::path_relative_to_prefix;
 use gitbase_core::{Bytes, OutOfMemory};
 use ls_files::NamedSpec;
 use std::alloc::Global;
 use worktree_report::{ReportEntry, Setup};
 
 /// Whether a name ends in a slash.
-fn ends_in_slash(name: &[u8]) -> bool
+fn name_ends_in_slash(name: &[u8]) -> bool
     ensures { result ≡ paths.ends_in_slash name.now }
 {
     name.last() == Some(&b'/')
 }
 
 /// A name without the slash at its end, if there is one.
-fn without_slash(name: &[u8]) -> &[u8]
-    ensures { result.now ≡ paths.without_slash name.now }
+fn name_without_trailing_slash(name: &[u8]) -> &[u8]
+    ensures { result.now ≡ paths.without_trailing_slash name.now }
 {
-    if ends_in_slash(name) {
+    if name_ends_in_slash(name) {
         return &name[..name.len() - 1];
     }
     name
 }
 
 /// Whether a name is that of a directory that cannot go itself.
-fn is_held_name(alloc: Global, scene: &Scene<'_>, name: &[u8]) -> Result<bool, OutOfMemory>
-    ensures { IfOk result (λ held. held ≡ lines.is_held_name (scene_by scene.now) name.now) }
+fn is_name_of_unremovable_directory(
+    alloc: Global,
+    scene: &Scene<'_>,
+    name: &[u8],
+) -> Result<bool, OutOfMemory>
+    ensures { IfOk result (λ held. held ≡ lines.is_name_of_unremovable_directory
+        (scene_in_specification scene.now) name.now) }
 {
-    if !ends_in_slash(name) {
+    if !name_ends_in_slash(name) {
         return Ok(false);
     }
-    has(alloc, scene.held, without_slash(name))
+    set_contains_directory(alloc, scene.held, name_without_trailing_slash(name))
 }
 
 /// Adds the line of what goes.
-fn add_removed_line(
+fn append_would_remove_line(
     alloc: Global,
     text: &mut Vec<u8>,
     scene: &Scene<'_>,
     name: &[u8],
 ) -> Result<(), OutOfMemory>
     ensures { OnOk result (text.new.items ≡ text.old.items
-        ++ lines.removed_line (scene_by scene.now) name.now) }
+        ++ lines.would_remove_line (scene_in_specification scene.now) name.now) }
 {
-    let read = relative_from(alloc, name, scene.prefix)?;
-    add_line(text, scene.cleaning, would_remove_text(), read.as_bytes())
+    let read = path_relative_to_prefix(alloc, name, scene.prefix)?;
+    append_line_unless_quiet(text, scene.cleaning, would_remove_words(), read.as_bytes())
 }
 
 /// Adds the lines of a name.
-fn add_lines(
+fn append_removal_lines_of_name(
     alloc: Global,
     text: &mut Vec<u8>,
     scene: &Scene<'_>,
@@ -72,29 +77,35 @@ fn add_lines(
 ) -> Result<(), OutOfMemory>
     requires { rise ≡ true → AreSortedByPath scene.now.found.now }
     ensures { OnOk result (text.new.items ≡ text.old.items
-        ++ lines.lines_of (scene_by scene.now) name.now) }
+        ++ lines.removal_lines_of_name (scene_in_specification scene.now) name.now) }
 {
-    if is_held_name(alloc, scene, name)? {
-        return add_inside(alloc, text, scene, rise, without_slash(name));
+    if is_name_of_unremovable_directory(alloc, scene, name)? {
+        return append_lines_of_unremovable_directory(
+            alloc,
+            text,
+            scene,
+            rise,
+            name_without_trailing_slash(name),
+        );
     }
-    add_removed_line(alloc, text, scene, name)
+    append_would_remove_line(alloc, text, scene, name)
 }
 
 /// The lines of all that goes; `rise` says that paths do not fall along the entries.
-fn text_of(alloc: Global, scene: &Scene<'_>, rise: bool) -> Result<Bytes, OutOfMemory>
+fn dry_run_text_of_scene(alloc: Global, scene: &Scene<'_>, rise: bool) -> Result<Bytes, OutOfMemory>
     requires { rise ≡ true → AreSortedByPath scene.now.found.now }
-    ensures { IfOk result (λ text. text ≡ lines.text (scene_by scene.now)) }
+    ensures { IfOk result (λ text. text ≡ lines.text (scene_in_specification scene.now)) }
 {
     let mut text = Vec::new(alloc);
     for name in names(alloc, scene)? {
-        add_lines(alloc, &mut text, scene, rise, name.as_bytes())?;
+        append_removal_lines_of_name(alloc, &mut text, scene, rise, name.as_bytes())?;
     }
     Ok(Bytes::from_vec(text))
 }
 
 /// What would go by entries, as the patterns have them.
-#[tactic(auto, unfolding(crate::specs::Cleaned::cleaned_by_ruled))]
-fn clean_ruled(
+#[tactic(auto, unfolding(crate::specs::Cleaned::dry_run_text_after_patterns))]
+fn dry_run_text_after_patterns(
     alloc: Global,
     cleaning: &Cleaning,
     prefix: &[u8],
@@ -103,10 +114,10 @@ fn clean_ruled(
     found: &[ReportEntry],
 ) -> Result<Bytes, OutOfMemory>
     ensures { IfOk result (λ text. text
-        ≡ words.cleaned_by_ruled cleaning.now prefix.now named.now setup.now found.now) }
+        ≡ words.dry_run_text_after_patterns cleaning.now prefix.now named.now setup.now found.now) }
 {
-    let guarded = guarded(alloc, found)?;
-    let marked = marked(alloc, cleaning, &guarded, found)?;
+    let guarded = directories_holding_dot_git(alloc, found)?;
+    let marked = directories_marked_against_removal(alloc, cleaning, &guarded, found)?;
     let held = held(alloc, cleaning, prefix, found)?;
     let scene = Scene {
         cleaning,
@@ -119,7 +130,7 @@ fn clean_ruled(
         guarded: &guarded,
         held: &held,
     };
-    text_of(alloc, &scene, rise(found))
+    dry_run_text_of_scene(alloc, &scene, is_sorted_by_path(found))
 }
 
 /// What would go by the entries of a report, in the directory `prefix` of the work tree: the setup
@@ -132,8 +143,8 @@ fn clean_ruled(
 /// # Errors
 ///
 /// Memory was refused.
-#[tactic(auto, unfolding(crate::specs::Cleaned::cleaned))]
-pub fn clean_found(
+#[tactic(auto, unfolding(crate::specs::Cleaned::dry_run_text_of_entries))]
+pub fn dry_run_text_of_entries(
     alloc: Global,
     cleaning: &Cleaning,
     prefix: &[u8],
@@ -142,8 +153,8 @@ pub fn clean_found(
     found: Vec<ReportEntry>,
 ) -> Result<Bytes, OutOfMemory>
     ensures { IfOk result (λ text. text
-        ≡ words.cleaned cleaning.now prefix.now named.now setup.now found.items) }
+        ≡ words.dry_run_text_of_entries cleaning.now prefix.now named.now setup.now found.items) }
 {
-    let ruled = all_ruled(alloc, cleaning, setup, found)?;
-    clean_ruled(alloc, cleaning, prefix, named, setup, &ruled)
+    let ruled = entries_ignored_by_sole_patterns(alloc, cleaning, setup, found)?;
+    dry_run_text_after_patterns(alloc, cleaning, prefix, named, setup, &ruled)
 }

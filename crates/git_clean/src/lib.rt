@@ -19,8 +19,8 @@ mod sets;
 mod walk_request;
 mod wrong;
 
-pub use answer::dry_clean;
-pub use cleaned::clean_found;
+pub use answer::clean_dry_run_text;
+pub use cleaned::dry_run_text_of_entries;
 pub use options::Cleaning;
-pub use walk_request::walk_options;
-pub use wrong::{WrongCleaning, wrong_in};
+pub use walk_request::walk_options_for_cleaning;
+pub use wrong::{WrongCleaning, reason_cleaning_unsupported};

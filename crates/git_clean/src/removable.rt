@@ -1,12 +1,12 @@
 //! Which entries may go by themselves, and which keep directories from going.
 ghost use Rattle.std.specs.Prelude.{◌≡◌, IfOk};
 ghost use Rattle.dir_classify.specs.Kinds as kinds;
-ghost use Rattle.ls_files.specs.Cached.{is_matched};
+ghost use Rattle.ls_files.specs.Cached.{do_specs_match_path};
 ghost use Rattle.ls_files.specs.Others as others;
 ghost use Rattle.git_clean.specs.Going as words;
 
 use crate::options::Cleaning;
-use dir_classify::entry::{holds_names, is_repository};
+use dir_classify::entry::{is_repository_kind, is_some_directory_kind};
 use dir_classify::{Entry, Kind, Property, Status};
 use gitbase_core::{Bytes, OutOfMemory};
 use glob_rules::pathspec::{Matcher, Search};
@@ -14,8 +14,8 @@ use ls_files::Place;
 use std::alloc::Global;
 
 /// Whether an entry of this status goes.
-fn is_wanted(cleaning: &Cleaning, status: Status) -> bool
-    ensures { result ≡ words.is_wanted cleaning.now status }
+fn is_status_cleaned(cleaning: &Cleaning, status: Status) -> bool
+    ensures { result ≡ words.is_status_cleaned cleaning.now status }
 {
     match status {
         Status::Untracked => !cleaning.ignored_only,
@@ -26,8 +26,8 @@ fn is_wanted(cleaning: &Cleaning, status: Status) -> bool
 }
 
 /// Whether what stands at a path goes.
-fn is_plain(cleaning: &Cleaning, kind: Option<Kind>) -> bool
-    ensures { result ≡ words.is_plain cleaning.now kind }
+fn is_kind_cleaned(cleaning: &Cleaning, kind: Option<Kind>) -> bool
+    ensures { result ≡ words.is_kind_cleaned cleaning.now kind }
 {
     match kind {
         None => false,
@@ -40,26 +40,29 @@ fn is_plain(cleaning: &Cleaning, kind: Option<Kind>) -> bool
 }
 
 /// Whether a property says that a path is named `.git`.
-pub fn is_marked_dot_git(property: Option<Property>) -> bool
-    ensures { result ≡ kinds.is_marked_dot_git property }
+pub fn has_dot_git_property(property: Option<Property>) -> bool
+    ensures { result ≡ kinds.is_dot_git_property property }
 {
     matches!(property, Some(Property::DotGit))
 }
 
 /// Whether an entry may go by itself, if the path specs match it.
-fn may_go(cleaning: &Cleaning, entry: &Entry) -> bool
-    ensures { result ≡ words.may_go cleaning.now entry.now }
+fn may_remove_if_matched(cleaning: &Cleaning, entry: &Entry) -> bool
+    ensures { result ≡ words.may_remove_if_matched cleaning.now entry.now }
 {
-    is_wanted(cleaning, entry.status)
-        && is_plain(cleaning, entry.disk_kind)
-        && !is_marked_dot_git(entry.property)
+    is_status_cleaned(cleaning, entry.status)
+        && is_kind_cleaned(cleaning, entry.disk_kind)
+        && !has_dot_git_property(entry.property)
 }
 
 /// The path of an entry, and whether a directory stands there.
-pub fn place_at(entry: &Entry) -> Place<'_>
-    ensures { result ≡ others.place_at entry.now }
+pub fn place_of_entry(entry: &Entry) -> Place<'_>
+    ensures { result ≡ others.place_of_report_entry entry.now }
 {
-    Place::new(entry.rela_path.as_bytes(), holds_names(entry.disk_kind))
+    Place::new(
+        entry.rela_path.as_bytes(),
+        is_some_directory_kind(entry.disk_kind),
+    )
 }
 
 /// The name of what goes: that of a directory ends in a slash.
@@ -67,15 +70,15 @@ pub fn name(alloc: Global, place: &Place<'_>) -> Result<Bytes, OutOfMemory>
     ensures { IfOk result (λ name. name ≡ others.name place.now) }
 {
     let mut name = Bytes::from_slice(alloc, place.path())?;
-    if place.holds_names() {
+    if place.is_directory_path() {
         name.extend(alloc, b"/")?;
     }
     Ok(name)
 }
 
 /// Whether the path specs match a path.
-fn is_matched(specs: &Search, path: &[u8], is_dir: bool) -> bool
-    ensures { result ≡ is_matched specs.now path.now is_dir }
+fn specs_include_path(specs: &Search, path: &[u8], is_dir: bool) -> bool
+    ensures { result ≡ do_specs_match_path specs.now path.now is_dir }
 {
     match specs.pattern_matching_relative_path(path, Some(is_dir)) {
         Some(found) => !found.is_excluded(),
@@ -84,49 +87,58 @@ fn is_matched(specs: &Search, path: &[u8], is_dir: bool) -> bool
 }
 
 /// Whether the path specs match an entry.
-pub fn is_entry_matched(alloc: Global, specs: &Search, entry: &Entry) -> Result<bool, OutOfMemory>
-    ensures { IfOk result (λ matched. matched ≡ others.is_entry_matched specs.now entry.now) }
+pub fn specs_include_entry(
+    alloc: Global,
+    specs: &Search,
+    entry: &Entry,
+) -> Result<bool, OutOfMemory>
+    ensures { IfOk result (λ matched. matched ≡ others.do_specs_match_report_entry specs.now
+        entry.now) }
 {
-    let name = name(alloc, &place_at(entry))?;
-    let matched = is_matched(specs, name.as_bytes(), holds_names(entry.disk_kind));
+    let name = name(alloc, &place_of_entry(entry))?;
+    let matched = specs_include_path(
+        specs,
+        name.as_bytes(),
+        is_some_directory_kind(entry.disk_kind),
+    );
     Ok(matched)
 }
 
 /// Whether an entry may go by itself.
-pub fn is_removable(
+pub fn is_entry_removable(
     alloc: Global,
     cleaning: &Cleaning,
     specs: &Search,
     entry: &Entry,
 ) -> Result<bool, OutOfMemory>
-    ensures { IfOk result (λ may. may ≡ words.is_removable cleaning.now specs.now entry.now) }
+    ensures { IfOk result (λ may. may ≡ words.is_entry_removable cleaning.now specs.now entry.now) }
 {
-    if !may_go(cleaning, entry) {
+    if !may_remove_if_matched(cleaning, entry) {
         return Ok(false);
     }
-    is_entry_matched(alloc, specs, entry)
+    specs_include_entry(alloc, specs, entry)
 }
 
 /// Whether an entry stays, with what it holds: a repository, or what is named `.git`.
-pub fn is_stay(cleaning: &Cleaning, entry: &Entry) -> bool
-    ensures { result ≡ words.is_stay cleaning.now entry.now }
+pub fn is_repository_or_dot_git_kept(cleaning: &Cleaning, entry: &Entry) -> bool
+    ensures { result ≡ words.is_repository_or_dot_git_kept cleaning.now entry.now }
 {
     if cleaning.repositories {
         return false;
     }
-    is_repository(entry.disk_kind) || is_marked_dot_git(entry.property)
+    is_repository_kind(entry.disk_kind) || has_dot_git_property(entry.property)
 }
 
 /// Whether a status is that of an untracked path.
-pub fn is_untracked(status: Status) -> bool
-    ensures { result ≡ others.is_untracked status }
+pub fn is_untracked_status(status: Status) -> bool
+    ensures { result ≡ others.is_untracked_status status }
 {
     matches!(status, Status::Untracked)
 }
 
 /// Whether a kind is that of a file, a link, or a directory that holds nothing.
-fn is_leaf(kind: Option<Kind>) -> bool
-    ensures { result ≡ words.is_leaf kind }
+fn is_file_symlink_or_directory(kind: Option<Kind>) -> bool
+    ensures { result ≡ words.is_file_symlink_or_directory kind }
 {
     match kind {
         None => false,
@@ -139,8 +151,8 @@ fn is_leaf(kind: Option<Kind>) -> bool
 }
 
 /// Whether an entry keeps the directories above it from going whole.
-fn blocks_whole_removal(cleaning: &Cleaning, entry: &Entry) -> bool
-    ensures { result ≡ words.blocks_whole_removal cleaning.now entry.now }
+fn entry_blocks_whole_removal(cleaning: &Cleaning, entry: &Entry) -> bool
+    ensures { result ≡ words.entry_blocks_whole_removal cleaning.now entry.now }
 {
     entry.status.is_ignored() != cleaning.ignored_only
 }
@@ -149,16 +161,18 @@ fn blocks_whole_removal(cleaning: &Cleaning, entry: &Entry) -> bool
 fn proves_parents_unignored(cleaning: &Cleaning, entry: &Entry) -> bool
     ensures { result ≡ words.proves_parents_unignored cleaning.now entry.now }
 {
-    cleaning.ignored_only && is_untracked(entry.status) && is_leaf(entry.disk_kind)
+    cleaning.ignored_only
+        && is_untracked_status(entry.status)
+        && is_file_symlink_or_directory(entry.disk_kind)
 }
 
 /// Whether the directories above an entry are marked; with `-X` and without `-d` it has to lie in
 /// no directory that holds a `.git`.
-pub fn marks(cleaning: &Cleaning, entry: &Entry) -> bool
-    ensures { result ≡ words.marks cleaning.now entry.now }
+pub fn entry_marks_parents_against_removal(cleaning: &Cleaning, entry: &Entry) -> bool
+    ensures { result ≡ words.entry_marks_parents_against_removal cleaning.now entry.now }
 {
     if cleaning.directories {
-        return blocks_whole_removal(cleaning, entry);
+        return entry_blocks_whole_removal(cleaning, entry);
     }
     proves_parents_unignored(cleaning, entry)
 }

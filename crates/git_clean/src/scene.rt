@@ -25,7 +25,7 @@ pub struct Scene<'a> {
 
 impl<'a> Scene<'a> {
     /// The same with other entries.
-    pub fn with_found(&self, found: &'a [ReportEntry]) -> Scene<'a>
+    pub fn with_report_entries(&self, found: &'a [ReportEntry]) -> Scene<'a>
         ensures { result ≡ record self.now { found = found.entry } }
     {
         Scene {

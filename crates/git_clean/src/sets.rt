@@ -1,34 +1,40 @@
 //! The directories by which it is decided what goes whole.
 ghost use Rattle.std.specs.Prelude.{◌≡◌, IfOk, OnOk};
-ghost use Rattle.worktree_report.specs.SetupMeant.{ordered_after};
+ghost use Rattle.worktree_report.specs.SetupMeant.{insert_paths_in_order};
 ghost use Rattle.git_clean.specs.Directories as words;
 
-use crate::above::{add, add_above, lies_in_one};
+use crate::above::{add, add_directories_above_path, lies_beneath_any_directory};
 use crate::options::Cleaning;
-use crate::removable::{is_marked_dot_git, is_stay, marks};
+use crate::removable::{
+    entry_marks_parents_against_removal, has_dot_git_property, is_repository_or_dot_git_kept,
+};
 use gitbase_core::{Bytes, OutOfMemory, PathText};
 use std::alloc::Global;
 use std::collections::BTreeSet;
 use worktree_report::ReportEntry;
 
 /// Adds the directory that holds an entry, if that is named `.git`.
-fn add_guard(
+fn add_parent_if_dot_git(
     alloc: Global,
     directories: &mut BTreeSet<Bytes>,
     entry: &ReportEntry,
 ) -> Result<(), OutOfMemory>
     ensures { OnOk result (directories.new.keys
-        ≡ ordered_after directories.old.keys (words.guard_of entry.now)) }
+        ≡ insert_paths_in_order directories.old.keys (words.parent_of_dot_git_entry entry.now)) }
 {
-    if !is_marked_dot_git(entry.entry.property) {
+    if !has_dot_git_property(entry.entry.property) {
         return Ok(());
     }
-    add(alloc, directories, holder(&entry.entry.rela_path))
+    add(
+        alloc,
+        directories,
+        parent_directory_or_top(&entry.entry.rela_path),
+    )
 }
 
 /// The directory that holds a path.
-fn holder(path: &PathText) -> &[u8]
-    ensures { result.now ≡ words.holder path.now }
+fn parent_directory_or_top(path: &PathText) -> &[u8]
+    ensures { result.now ≡ words.parent_directory_or_top path.now }
 {
     match path.parent() {
         Some(holder) => holder,
@@ -37,93 +43,100 @@ fn holder(path: &PathText) -> &[u8]
 }
 
 /// The directories that hold a `.git`.
-#[tactic(auto, unfolding(crate::specs::Directories::guarded))]
-pub fn guarded(alloc: Global, found: &[ReportEntry]) -> Result<BTreeSet<Bytes>, OutOfMemory>
-    ensures { IfOk result (λ set. set.keys ≡ words.guarded found.now) }
+#[tactic(auto, unfolding(crate::specs::Directories::directories_holding_dot_git))]
+pub fn directories_holding_dot_git(
+    alloc: Global,
+    found: &[ReportEntry],
+) -> Result<BTreeSet<Bytes>, OutOfMemory>
+    ensures { IfOk result (λ set. set.keys ≡ words.directories_holding_dot_git found.now) }
 {
     let mut directories = BTreeSet::new(alloc);
     for entry in found {
-        add_guard(alloc, &mut directories, entry)?;
+        add_parent_if_dot_git(alloc, &mut directories, entry)?;
     }
     Ok(directories)
 }
 
 /// Whether the directories above an entry are to be marked.
-fn is_marking(
+fn marks_parents_outside_dot_git_holders(
     alloc: Global,
     cleaning: &Cleaning,
     guards: &BTreeSet<Bytes>,
     entry: &ReportEntry,
 ) -> Result<bool, OutOfMemory>
-    ensures { IfOk result
-        (λ marking. marking ≡ words.is_marking cleaning.now guards.now.keys entry.now) }
+    ensures { IfOk result (λ marking. marking ≡ words.marks_parents_outside_dot_git_holders
+        cleaning.now guards.now.keys entry.now) }
 {
-    if !marks(cleaning, &entry.entry) {
+    if !entry_marks_parents_against_removal(cleaning, &entry.entry) {
         return Ok(false);
     }
     if cleaning.directories {
         return Ok(true);
     }
-    let lies = lies_in_one(alloc, guards, entry.entry.rela_path.as_bytes())?;
+    let lies = lies_beneath_any_directory(alloc, guards, entry.entry.rela_path.as_bytes())?;
     Ok(!lies)
 }
 
 /// Marks the directories above an entry, if they are to be marked.
-fn add_marked(
+fn add_directories_marked_by_entry(
     alloc: Global,
     directories: &mut BTreeSet<Bytes>,
     cleaning: &Cleaning,
     guards: &BTreeSet<Bytes>,
     entry: &ReportEntry,
 ) -> Result<(), OutOfMemory>
-    ensures { OnOk result (directories.new.keys ≡ ordered_after directories.old.keys
-        (words.above_marked cleaning.now guards.now.keys entry.now)) }
+    ensures { OnOk result (directories.new.keys ≡ insert_paths_in_order directories.old.keys
+        (words.directories_marked_by_entry cleaning.now guards.now.keys entry.now)) }
 {
-    if !is_marking(alloc, cleaning, guards, entry)? {
+    if !marks_parents_outside_dot_git_holders(alloc, cleaning, guards, entry)? {
         return Ok(());
     }
-    add_above(alloc, directories, entry.entry.rela_path.as_bytes())
+    add_directories_above_path(alloc, directories, entry.entry.rela_path.as_bytes())
 }
 
 /// The directories that are marked, where some hold a `.git`.
-#[tactic(auto, unfolding(crate::specs::Directories::marked))]
-pub fn marked(
+#[tactic(auto, unfolding(crate::specs::Directories::directories_marked_against_removal))]
+pub fn directories_marked_against_removal(
     alloc: Global,
     cleaning: &Cleaning,
     guards: &BTreeSet<Bytes>,
     found: &[ReportEntry],
 ) -> Result<BTreeSet<Bytes>, OutOfMemory>
-    ensures { IfOk result (λ set. set.keys ≡ words.marked cleaning.now guards.now.keys found.now) }
+    ensures { IfOk result (λ set. set.keys ≡ words.directories_marked_against_removal cleaning.now
+        guards.now.keys found.now) }
 {
     let mut directories = BTreeSet::new(alloc);
     for entry in found {
-        add_marked(alloc, &mut directories, cleaning, guards, entry)?;
+        add_directories_marked_by_entry(alloc, &mut directories, cleaning, guards, entry)?;
     }
     Ok(directories)
 }
 
 /// Adds the directories above an entry, if that stays.
-fn add_held(
+fn add_directories_above_if_entry_kept(
     alloc: Global,
     directories: &mut BTreeSet<Bytes>,
     cleaning: &Cleaning,
     entry: &ReportEntry,
 ) -> Result<(), OutOfMemory>
-    ensures { OnOk result (directories.new.keys
-        ≡ ordered_after directories.old.keys (words.above_stay cleaning.now entry.now)) }
+    ensures { OnOk result (directories.new.keys ≡ insert_paths_in_order directories.old.keys
+        (words.directories_above_if_entry_kept cleaning.now entry.now)) }
 {
-    if !is_stay(cleaning, &entry.entry) {
+    if !is_repository_or_dot_git_kept(cleaning, &entry.entry) {
         return Ok(());
     }
-    add_above(alloc, directories, entry.entry.rela_path.as_bytes())
+    add_directories_above_path(alloc, directories, entry.entry.rela_path.as_bytes())
 }
 
 /// The current directory and those above it.
-fn held_here(alloc: Global, prefix: &[u8]) -> Result<BTreeSet<Bytes>, OutOfMemory>
-    ensures { IfOk result (λ set. set.keys ≡ words.held_here prefix.now) }
+fn current_directory_and_parents(
+    alloc: Global,
+    prefix: &[u8],
+) -> Result<BTreeSet<Bytes>, OutOfMemory>
+    ensures { IfOk result (λ set. set.keys ≡ words.current_directory_and_parents prefix.now) }
 {
     let mut directories = BTreeSet::new(alloc);
-    add_above(alloc, &mut directories, prefix)?;
+    add_directories_above_path(alloc, &mut directories, prefix)?;
     add(alloc, &mut directories, prefix)?;
     Ok(directories)
 }
@@ -138,9 +151,9 @@ pub fn held(
 ) -> Result<BTreeSet<Bytes>, OutOfMemory>
     ensures { IfOk result (λ set. set.keys ≡ words.held cleaning.now prefix.now found.now) }
 {
-    let mut directories = held_here(alloc, prefix)?;
+    let mut directories = current_directory_and_parents(alloc, prefix)?;
     for entry in found {
-        add_held(alloc, &mut directories, cleaning, entry)?;
+        add_directories_above_if_entry_kept(alloc, &mut directories, cleaning, entry)?;
     }
     Ok(directories)
 }

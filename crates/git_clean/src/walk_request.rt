@@ -7,8 +7,8 @@ use dir_classify::{EmissionMode, ForDeletionMode};
 use worktree_report::SetupOptions;
 
 /// How ignored directories are walked.
-fn deletion_for(cleaning: &Cleaning) -> ForDeletionMode
-    ensures { result ≡ words.deletion_for cleaning.now }
+fn for_deletion_mode_of_cleaning(cleaning: &Cleaning) -> ForDeletionMode
+    ensures { result ≡ words.for_deletion_mode_of_cleaning cleaning.now }
 {
     if cleaning.ignored_only {
         return ForDeletionMode::FindNonBareRepositoriesInIgnoredDirectories;
@@ -21,8 +21,8 @@ fn deletion_for(cleaning: &Cleaning) -> ForDeletionMode
 /// with `-x`. What git does is set; all others stay.
 ///
 /// See docs/DECISIONS.md#dry-clean-by-leaves.
-pub fn walk_options(cleaning: &Cleaning, options: &SetupOptions) -> SetupOptions
-    ensures { result ≡ words.options_for_cleaning_walk cleaning.now options.now }
+pub fn walk_options_for_cleaning(cleaning: &Cleaning, options: &SetupOptions) -> SetupOptions
+    ensures { result ≡ words.walk_options_for_cleaning cleaning.now options.now }
 {
     let mut options = *options;
     options.excludes = !cleaning.ignored_too;
@@ -31,7 +31,7 @@ pub fn walk_options(cleaning: &Cleaning, options: &SetupOptions) -> SetupOptions
     options.recurse_repositories = false;
     options.symlinks_to_directories_are_ignored_like_directories = false;
     options.classify_untracked_bare_repositories = false;
-    options.for_deletion = Some(deletion_for(cleaning));
+    options.for_deletion = Some(for_deletion_mode_of_cleaning(cleaning));
     options.emit_pruned = true;
     options.emit_tracked = false;
     options.emit_untracked = EmissionMode::Matching;

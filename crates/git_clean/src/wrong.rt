@@ -19,7 +19,7 @@ pub enum WrongCleaning {
 impl WrongCleaning {
     /// What is told of it, behind `fatal: `; of what git refuses too in git's words.
     pub fn text(&self) -> &'static [u8]
-        ensures { result.now ≡ words.wrong_text self.now }
+        ensures { result.now ≡ words.message_of_wrong_cleaning self.now }
     {
         match self {
             WrongCleaning::Removes => b"clean is not supported without -n: nothing is removed",
@@ -33,8 +33,8 @@ impl WrongCleaning {
 /// one.
 ///
 /// See docs/DIFFERENCES.md#dry-clean-forms.
-pub fn wrong_in(cleaning: &Cleaning, setup: &Setup) -> Option<WrongCleaning>
-    ensures { result ≡ words.wrong_in cleaning.now setup.now }
+pub fn reason_cleaning_unsupported(cleaning: &Cleaning, setup: &Setup) -> Option<WrongCleaning>
+    ensures { result ≡ words.reason_cleaning_unsupported cleaning.now setup.now }
 {
     if !cleaning.dry_run {
         return Some(WrongCleaning::Removes);

@@ -2,11 +2,13 @@
 use crate::answers::{ROWS, TREES};
 use crate::words::{all_named, cleaning_of, patterns_of, specs_of};
 use bstr::ByteSlice;
-use git_clean::{Cleaning, dry_clean, walk_options, wrong_in};
+use git_clean::{
+    Cleaning, clean_dry_run_text, reason_cleaning_unsupported, walk_options_for_cleaning,
+};
 use gitbase_core::Bytes;
 use ls_files::NamedSpec;
 use std::alloc::Global;
-use test_cases::{lines_of, split_at_byte, tree_of};
+use test_cases::{replace_marks_by_line_feeds, split_at_byte, tree_from_steps};
 use worktree_fs::PlannedInterrupt;
 use worktree_report::Setup;
 
@@ -18,9 +20,9 @@ fn setup_for(
     options: &[u8],
     specs: &[u8],
 ) -> Option<Setup> {
-    let lines = lines_of(alloc, text, b'$')?;
+    let lines = replace_marks_by_line_feeds(alloc, text, b'$')?;
     let mut setup = Setup::parse(alloc, &lines).ok()?;
-    setup.options = walk_options(cleaning, &setup.options);
+    setup.options = walk_options_for_cleaning(cleaning, &setup.options);
     setup.overrides = patterns_of(alloc, options)?;
     setup.specs = specs_of(alloc, specs)?;
     setup.root = Some(Bytes::from_slice(alloc, b".").ok()?);
@@ -36,12 +38,12 @@ fn cleaned_of(
     prefix: &[u8],
     named: &[NamedSpec],
 ) -> Option<Bytes> {
-    if let Some(_) = wrong_in(cleaning, setup) {
+    if let Some(_) = reason_cleaning_unsupported(cleaning, setup) {
         return None;
     }
-    let mut tree = tree_of(alloc, steps, b'$')?;
+    let mut tree = tree_from_steps(alloc, steps, b'$')?;
     let mut interrupt = PlannedInterrupt::never();
-    dry_clean(
+    clean_dry_run_text(
         alloc,
         &mut tree,
         &mut interrupt,
@@ -71,7 +73,7 @@ fn cleaned_in(
 
 /// Whether a text is what a row has, with `$` in the place of each line feed.
 fn is_text(alloc: Global, text: &[u8], want: &[u8]) -> bool {
-    match lines_of(alloc, want, b'$') {
+    match replace_marks_by_line_feeds(alloc, want, b'$') {
         Some(lines) => lines.as_slice() == text,
         None => false,
     }

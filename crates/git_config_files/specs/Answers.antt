@@ -6,10 +6,10 @@ use Rattle.git_places.specs.Answers.{IsFoundOrOutOfMemory}
 use Rattle.git_config_files.specs.declared.error.FilesError.{FilesError}
 use Rattle.git_config_files.specs.declared.error.FilesError.TheVariants as errors
 
-abbrev pub Decides : {A : Type 0} → Result A FilesError → Result A FilesError → Type 0
-Decides result found = IsFoundOrOutOfMemory errors.Fault errors.OutOfMemory result found
+abbrev pub AgreesUnlessFaultOrOutOfMemory : {A : Type 0} → Result A FilesError → Result A FilesError → Type 0
+AgreesUnlessFaultOrOutOfMemory result found = IsFoundOrOutOfMemory errors.Fault errors.OutOfMemory result found
 
 -- the refusal that a refused look at the worktree is
-abbrev pub of_read : ReadError → FilesError
-of_read read.Fault = errors.Fault
-of_read read.OutOfMemory = errors.OutOfMemory
+abbrev pub files_error_of_read_error : ReadError → FilesError
+files_error_of_read_error read.Fault = errors.Fault
+files_error_of_read_error read.OutOfMemory = errors.OutOfMemory

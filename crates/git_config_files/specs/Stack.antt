@@ -3,96 +3,96 @@ use Rattle.std.specs.Prelude.{◌≡◌, ℕ, Bool, true, codes, bytes_eq, List,
 use Rattle.std.specs.List.{list_any}
 use Rattle.gitbase_core.specs.Among as among
 use Rattle.git_config_lite.specs.declared.metadata.Source.{Source}
-use Rattle.git_config_lite.specs.Sections.{Section, Configuration, joint_meta}
-use Rattle.git_places.specs.GitDirectory.{dot_git}
-use Rattle.git_places.specs.Places.{Layout}
+use Rattle.git_config_lite.specs.Sections.{Section, Configuration, metadata_of_joined_files}
+use Rattle.git_places.specs.GitDirectory.{dot_git_path}
+use Rattle.git_places.specs.Places.{RepositoryPlaces}
 use Rattle.git_places.specs.Surroundings.{Surroundings}
-use Rattle.worktree_fs.specs.Changes.{from_directory, real_path}
-use Rattle.worktree_fs.specs.Repository.{behind_front, file_at, not_empty, trimmed}
+use Rattle.worktree_fs.specs.Changes.{resolve_path_from_directory, real_path}
+use Rattle.worktree_fs.specs.Repository.{text_after_prefix, bytes_of_file_lookup, path_unless_empty, without_trailing_line_ends}
 use Rattle.worktree_fs.specs.Tree.{Names, is_empty, look}
-use Rattle.git_config_files.specs.Conditions.{Known, Repository}
-use Rattle.git_config_files.specs.Files.{Configured, stack_in}
+use Rattle.git_config_files.specs.Conditions.{IncludeContext, Repository}
+use Rattle.git_config_files.specs.Files.{ConfiguredFile, keys_of_files_with_includes}
 use Rattle.gitbase_core.specs.Steps.{and_then}
-use Rattle.git_config_files.specs.Which.{files_of}
+use Rattle.git_config_files.specs.Which.{config_files_of_work_tree}
 use Rattle.git_config_files.specs.declared.error.FilesError.{FilesError}
 use Rattle.git_config_files.specs.declared.error.FilesError.TheVariants as errors
 
 -- ---- by what includes are judged
 
 -- a path without its links, taken from a directory; as it is where nothing is there
-abbrev pub real_or_same : Names → List ℕ → List ℕ → List ℕ
-real_or_same t path directory = unwrap_or (real_path t path directory) path
+abbrev pub real_path_or_same : Names → List ℕ → List ℕ → List ℕ
+real_path_or_same t path directory = unwrap_or (real_path t path directory) path
 
 -- the branch that the text of a `HEAD` names, if it names one
-abbrev pub branch_by : Option (List ℕ) → Option (List ℕ)
-branch_by None = None
-branch_by (Some text) = option_and_then not_empty (behind_front (codes "ref: refs/heads/") (trimmed text))
+abbrev pub branch_named_by_head_text : Option (List ℕ) → Option (List ℕ)
+branch_named_by_head_text None = None
+branch_named_by_head_text (Some text) = option_and_then path_unless_empty (text_after_prefix (codes "ref: refs/heads/") (without_trailing_line_ends text))
 
-abbrev pub branch_in : Names → List ℕ → Option (List ℕ)
-branch_in t git = branch_by (file_at (look t (from_directory (codes "HEAD") git) true))
+abbrev pub checked_out_branch : Names → List ℕ → Option (List ℕ)
+checked_out_branch t git = branch_named_by_head_text (bytes_of_file_lookup (look t (resolve_path_from_directory (codes "HEAD") git) true))
 
 -- the git directory as git spells it: `.git` in the top of the work tree, and another one without its links
-abbrev pub spelled_of : List ℕ → List ℕ → List ℕ → List ℕ
-spelled_of root git real = if bytes_eq git (dot_git root) then git else real
+abbrev pub git_directory_as_git_spells : List ℕ → List ℕ → List ℕ → List ℕ
+git_directory_as_git_spells root git real = if bytes_eq git (dot_git_path root) then git else real
 
-abbrev pub real_home : Names → List ℕ → Option (List ℕ) → Option (List ℕ)
-real_home t root None = None
-real_home t root (Some home) = Some (if is_empty home then home else real_or_same t home root)
+abbrev pub home_without_links : Names → List ℕ → Option (List ℕ) → Option (List ℕ)
+home_without_links t root None = None
+home_without_links t root (Some home) = Some (if is_empty home then home else real_path_or_same t home root)
 
-abbrev pub repository_of : Names → Layout → Repository
-repository_of t layout =
+abbrev pub repository_for_conditions : Names → RepositoryPlaces → Repository
+repository_for_conditions t layout =
     record {
-      git = real_or_same t layout.git (47 ∷ []);
-      spelled = spelled_of layout.root layout.git (real_or_same t layout.git (47 ∷ []));
-      branch = branch_in t layout.git;
+      git = real_path_or_same t layout.git (47 ∷ []);
+      spelled = git_directory_as_git_spells layout.root layout.git (real_path_or_same t layout.git (47 ∷ []));
+      branch = checked_out_branch t layout.git;
     }
 
 -- relative homes are taken from a directory; an empty one stays so
-abbrev pub known_with : Names → Option Repository → List ℕ → Option (List ℕ) → Known
-known_with t repository directory home = record { repository = repository; home = home; real_home = real_home t directory home }
+abbrev pub include_context_of_repository : Names → Option Repository → List ℕ → Option (List ℕ) → IncludeContext
+include_context_of_repository t repository directory home = record { repository = repository; home = home; real_home = home_without_links t directory home }
 
-abbrev pub known_of : Names → Layout → Surroundings → Known
-known_of t layout around = known_with t (Some (repository_of t layout)) layout.root around.home
+abbrev pub include_context_of_work_tree : Names → RepositoryPlaces → Surroundings → IncludeContext
+include_context_of_work_tree t layout around = include_context_of_repository t (Some (repository_for_conditions t layout)) layout.root around.home
 
 -- ---- the files in which keys stand
 
-abbrev pub is_among : List ℕ → List Configured → Bool
-is_among path files = list_any (λ at. bytes_eq path at.path) files
+abbrev pub is_path_of_some_file : List ℕ → List ConfiguredFile → Bool
+is_path_of_some_file path files = list_any (λ at. bytes_eq path at.path) files
 
 -- texts are the paths of files, in any order
-abbrev pub ArePathsOf : List (List ℕ) → List Configured → Type 0
-ArePathsOf texts files = (path : List ℕ) → among.is_among path texts ≡ is_among path files
+abbrev pub ArePathsOfFiles : List (List ℕ) → List ConfiguredFile → Type 0
+ArePathsOfFiles texts files = (path : List ℕ) → among.is_text_in_list path texts ≡ is_path_of_some_file path files
 
-abbrev pub file_at_path : Source → List ℕ → Configured
+abbrev pub file_at_path : Source → List ℕ → ConfiguredFile
 file_at_path source path = record { source = source; path = path }
 
 -- files, and another one behind them, unless it is among them
-abbrev pub with_file : List Configured → Source → Option (List ℕ) → List Configured
-with_file files source None = files
-with_file files source (Some path) = if is_among path files then files else files ++ file_at_path source path ∷ []
+abbrev pub files_with_file_added_once : List ConfiguredFile → Source → Option (List ℕ) → List ConfiguredFile
+files_with_file_added_once files source None = files
+files_with_file_added_once files source (Some path) = if is_path_of_some_file path files then files else files ++ file_at_path source path ∷ []
 
 -- files, and behind them those in which keys stand, in the order in which they first appear
-abbrev pub appearing : List Configured → List Section → List Configured
-appearing files [] = files
-appearing files (key ∷ keys) = appearing (with_file files key.meta.source key.meta.path) keys
+abbrev pub files_in_order_of_appearance : List ConfiguredFile → List Section → List ConfiguredFile
+files_in_order_of_appearance files [] = files
+files_in_order_of_appearance files (key ∷ keys) = files_in_order_of_appearance (files_with_file_added_once files key.meta.source key.meta.path) keys
 
 -- ---- all of it
 
 pub record Stack : Type 0 where
   pub file : Configuration  -- what all the files say, each key by itself, with what is included in place
-  pub files : List Configured  -- the files in which these keys stand, in the order in which they first appear
+  pub files : List ConfiguredFile  -- the files in which these keys stand, in the order in which they first appear
 
-abbrev pub stack_of : List Section → Stack
-stack_of keys = record { file = record { meta = joint_meta; sections = keys }; files = appearing [] keys }
+abbrev pub stack_of_keys : List Section → Stack
+stack_of_keys keys = record { file = record { meta = metadata_of_joined_files; sections = keys }; files = files_in_order_of_appearance [] keys }
 
-abbrev pub stack_by : Names → Known → List Configured → Result Stack FilesError
-stack_by t known files = and_then (λ keys. Ok (stack_of keys)) (stack_in t known files)
+abbrev pub read_stack_of_files : Names → IncludeContext → List ConfiguredFile → Result Stack FilesError
+read_stack_of_files t known files = and_then (λ keys. Ok (stack_of_keys keys)) (keys_of_files_with_includes t known files)
 
 -- a variable that points git elsewhere is refused
-abbrev pub unless_elsewhere : {A : Type 0} → Option (List ℕ) → Result A FilesError → Result A FilesError
-unless_elsewhere None answer = answer
-unless_elsewhere (Some name) answer = Err (errors.Elsewhere name)
+abbrev pub answer_or_elsewhere_error : {A : Type 0} → Option (List ℕ) → Result A FilesError → Result A FilesError
+answer_or_elsewhere_error None answer = answer
+answer_or_elsewhere_error (Some name) answer = Err (errors.Elsewhere name)
 
-abbrev pub stack_at : Names → Layout → Surroundings → Result Stack FilesError
-stack_at t layout around =
-    unless_elsewhere around.elsewhere (and_then (stack_by t (known_of t layout around)) (files_of layout around))
+abbrev pub read_stack_of_work_tree : Names → RepositoryPlaces → Surroundings → Result Stack FilesError
+read_stack_of_work_tree t layout around =
+    answer_or_elsewhere_error around.elsewhere (and_then (read_stack_of_files t (include_context_of_work_tree t layout around)) (config_files_of_work_tree layout around))

@@ -17,7 +17,7 @@ pub struct Configured {
 impl Model for Configured {
     ghost use Rattle.git_config_files.specs.Files as words;
 
-    ghost Value = { words.Configured };
+    ghost Value = { words.ConfiguredFile };
 
     ghost view = { λ file. record { source = file.source; path = file.path } };
 }
@@ -32,7 +32,7 @@ impl Model for ConfigFiles {
     ghost use Rattle.std.specs.Prelude.{List};
     ghost use Rattle.git_config_files.specs.Files as words;
 
-    ghost Value = { List words.Configured };
+    ghost Value = { List words.ConfiguredFile };
 
     ghost view = { λ files. files.items.items };
 }

@@ -86,9 +86,9 @@ impl From<OutOfMemory> for FilesError {
 
 impl From<ReadError> for FilesError {
     ghost use Rattle.std.specs.Prelude.{◌≡◌};
-    ghost use Rattle.git_config_files.specs.Answers.{of_read};
+    ghost use Rattle.git_config_files.specs.Answers.{files_error_of_read_error};
 
-    ghost from_gives = { λ refused e. e ≡ of_read refused };
+    ghost from_gives = { λ refused e. e ≡ files_error_of_read_error refused };
 
     fn from(refused: ReadError) -> FilesError {
         match refused {

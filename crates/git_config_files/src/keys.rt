@@ -67,7 +67,7 @@ impl Keys {
     }
 }
 
-fn copied(alloc: Global, text: &Option<Bytes>) -> Result<Option<Bytes>, OutOfMemory>
+fn copy_optional_bytes(alloc: Global, text: &Option<Bytes>) -> Result<Option<Bytes>, OutOfMemory>
     ensures { IfOk result (λ copy. copy ≡ text.now) }
 {
     match text {
@@ -76,7 +76,10 @@ fn copied(alloc: Global, text: &Option<Bytes>) -> Result<Option<Bytes>, OutOfMem
     }
 }
 
-fn subsection_of(alloc: Global, section: &Section) -> Result<Option<Bytes>, OutOfMemory>
+fn copy_subsection_of_section(
+    alloc: Global,
+    section: &Section,
+) -> Result<Option<Bytes>, OutOfMemory>
     ensures { IfOk result (λ copy. copy ≡ section.now.subsection) }
 {
     match section.subsection_name() {
@@ -85,12 +88,12 @@ fn subsection_of(alloc: Global, section: &Section) -> Result<Option<Bytes>, OutO
     }
 }
 
-fn entry_of(alloc: Global, entry: &Entry) -> Result<Entry, OutOfMemory>
+fn copy_entry(alloc: Global, entry: &Entry) -> Result<Entry, OutOfMemory>
     ensures { IfOk result (λ copy. copy ≡ entry.now) }
 {
     Ok(Entry {
         key: Bytes::from_slice(alloc, entry.key.as_bytes())?,
-        value: copied(alloc, &entry.value)?,
+        value: copy_optional_bytes(alloc, &entry.value)?,
     })
 }
 
@@ -102,15 +105,19 @@ fn single_key_section(
 ) -> Result<Section, OutOfMemory>
     ensures { IfOk result (λ key. key ≡ words.single_key_section section.now entry.now) }
 {
-    let subsection = subsection_of(alloc, section)?;
-    let entry = entry_of(alloc, entry)?;
+    let subsection = copy_subsection_of_section(alloc, section)?;
+    let entry = copy_entry(alloc, entry)?;
     let mut key = Section::new(alloc, section.name(), subsection, section.meta())?;
     key.push(entry)?;
     Ok(key)
 }
 
 /// Keys, and those of a section behind them.
-fn with_section(alloc: Global, keys: Keys, section: &Section) -> Result<Keys, OutOfMemory>
+fn keys_with_those_of_section(
+    alloc: Global,
+    keys: Keys,
+    section: &Section,
+) -> Result<Keys, OutOfMemory>
     ensures { IfOk result (λ all. all ≡ keys ++ map (words.single_key_section section.now) section.now.entries) }
 {
     let mut all = keys;
@@ -121,12 +128,12 @@ fn with_section(alloc: Global, keys: Keys, section: &Section) -> Result<Keys, Ou
 }
 
 /// The keys of a file.
-pub fn keys_of(alloc: Global, file: &File) -> Result<Keys, OutOfMemory>
-    ensures { IfOk result (λ keys. keys ≡ words.keys_of file.now.sections) }
+pub fn single_key_sections_of_file(alloc: Global, file: &File) -> Result<Keys, OutOfMemory>
+    ensures { IfOk result (λ keys. keys ≡ words.single_key_sections file.now.sections) }
 {
     let mut keys = Keys::new(alloc);
     for section in file.sections() {
-        keys = with_section(alloc, keys, section)?;
+        keys = keys_with_those_of_section(alloc, keys, section)?;
     }
     Ok(keys)
 }

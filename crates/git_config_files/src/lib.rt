@@ -16,6 +16,6 @@ mod which;
 
 pub use config_files::{ConfigFiles, Configured};
 pub use error::FilesError;
-pub use rules::{Rules, RulesFile, rules_files};
+pub use rules::{Rules, RulesFile, read_rules_outside_work_tree};
 pub use safe::require_trusted_top;
 pub use stack::{Stack, read_stack};

@@ -1,16 +1,16 @@
 //! What all configurations of a work tree say.
 ghost use Rattle.std.specs.Prelude.{◌≡◌, [], IfOk};
 ghost use Rattle.git_config_files.specs.Files as joint;
-ghost use Rattle.git_config_files.specs.Finds.{Finds};
+ghost use Rattle.git_config_files.specs.Finds.{AnswersFromWorktree};
 ghost use Rattle.git_config_files.specs.Stack as words;
 
-use crate::appearance::appearing;
+use crate::appearance::files_in_order_of_appearance;
 use crate::config_files::{ConfigFiles, Configured};
 use crate::error::FilesError;
-use crate::includes::expanded;
+use crate::includes::read_keys_expanding_includes;
 use crate::keys::Keys;
-use crate::known::{Known, known_of};
-use crate::which::files_of;
+use crate::known::{Known, include_context_of_work_tree};
+use crate::which::config_files_of_work_tree;
 use git_config_lite::{File, Metadata, Source};
 use git_places::{Places, Surroundings};
 use gitbase_core::{Bytes, OutOfMemory};
@@ -38,65 +38,71 @@ impl Model for Stack {
 }
 
 /// What files say, one behind another, gone through one by one.
-fn keys_in_turn<W: Worktree>(
+fn read_keys_file_by_file<W: Worktree>(
     alloc: Global,
     worktree: &mut W,
     known: &Known,
     files: &[Configured],
 ) -> Result<Keys, FilesError>
-    ensures { Finds W.Worktree worktree.old worktree.new
-        (λ t. joint.stacked t known.now [] files.now) result }
+    ensures { AnswersFromWorktree W.Worktree worktree.old worktree.new
+        (λ t. joint.keys_of_files_behind_done t known.now [] files.now) result }
 {
     let mut done = Keys::new(alloc);
     for file in files {
-        let more = expanded(alloc, worktree, known, file.source, file.path.as_bytes())?;
+        let more = read_keys_expanding_includes(
+            alloc,
+            worktree,
+            known,
+            file.source,
+            file.path.as_bytes(),
+        )?;
         done.append(more)?;
     }
     Ok(done)
 }
 
 /// What files say, one behind another, each with what it includes in place.
-fn keys_of_stack<W: Worktree>(
+fn read_keys_of_files<W: Worktree>(
     alloc: Global,
     worktree: &mut W,
     known: &Known,
     files: &[Configured],
 ) -> Result<Keys, FilesError>
-    ensures { Finds W.Worktree worktree.old worktree.new
-        (λ t. joint.stack_in t known.now files.now) result }
+    ensures { AnswersFromWorktree W.Worktree worktree.old worktree.new
+        (λ t. joint.keys_of_files_with_includes t known.now files.now) result }
 {
-    keys_in_turn(alloc, worktree, known, files)
+    read_keys_file_by_file(alloc, worktree, known, files)
 }
 
 /// The stack of some keys.
-fn stack_of(alloc: Global, keys: Keys) -> Result<Stack, OutOfMemory>
-    ensures { IfOk result (λ stack. stack ≡ words.stack_of keys) }
+fn stack_of_keys(alloc: Global, keys: Keys) -> Result<Stack, OutOfMemory>
+    ensures { IfOk result (λ stack. stack ≡ words.stack_of_keys keys) }
 {
     let meta = Metadata {
         source: Source::Api,
         path: None,
     };
     let file = File::from_sections(alloc, meta, keys.into_sections());
-    let files = appearing(alloc, &file)?;
+    let files = files_in_order_of_appearance(alloc, &file)?;
     Ok(Stack { file, files })
 }
 
 /// What the configurations say that are read, by what their includes are judged by.
-pub fn stack_by<W: Worktree>(
+pub fn read_stack_of_files<W: Worktree>(
     alloc: Global,
     worktree: &mut W,
     known: &Known,
     files: &ConfigFiles,
 ) -> Result<Stack, FilesError>
-    ensures { Finds W.Worktree worktree.old worktree.new
-        (λ t. words.stack_by t known.now files.now) result }
+    ensures { AnswersFromWorktree W.Worktree worktree.old worktree.new
+        (λ t. words.read_stack_of_files t known.now files.now) result }
 {
-    let keys = keys_of_stack(alloc, worktree, known, files.as_slice())?;
-    Ok(stack_of(alloc, keys)?)
+    let keys = read_keys_of_files(alloc, worktree, known, files.as_slice())?;
+    Ok(stack_of_keys(alloc, keys)?)
 }
 
 /// The refusal of a variable that points git elsewhere.
-pub fn elsewhere(alloc: Global, name: &[u8]) -> Result<FilesError, OutOfMemory>
+pub fn elsewhere_error(alloc: Global, name: &[u8]) -> Result<FilesError, OutOfMemory>
     ensures { IfOk result (λ e. e ≡ FilesError.Elsewhere name.now) }
 {
     Ok(FilesError::Elsewhere {
@@ -134,13 +140,13 @@ pub fn read_stack<W: Worktree>(
     places: &Places,
     around: &Surroundings,
 ) -> Result<Stack, FilesError>
-    ensures { Finds W.Worktree worktree.old worktree.new
-        (λ t. words.stack_at t places.now around.now) result }
+    ensures { AnswersFromWorktree W.Worktree worktree.old worktree.new
+        (λ t. words.read_stack_of_work_tree t places.now around.now) result }
 {
     if let Some(name) = &around.elsewhere {
-        return Err(elsewhere(alloc, name.as_bytes())?);
+        return Err(elsewhere_error(alloc, name.as_bytes())?);
     }
-    let files = files_of(alloc, places, around)?;
-    let known = known_of(alloc, worktree, places, around)?;
-    stack_by(alloc, worktree, &known, &files)
+    let files = config_files_of_work_tree(alloc, places, around)?;
+    let known = include_context_of_work_tree(alloc, worktree, places, around)?;
+    read_stack_of_files(alloc, worktree, &known, &files)
 }

@@ -1,21 +1,24 @@
 //! Which file a key includes.
 ghost use Rattle.std.specs.Prelude.{◌≡◌, ◌&&◌, codes, Ok, Some, IfOk, option_copied};
-ghost use Rattle.git_config_files.specs.Answers.{Decides};
-ghost use Rattle.git_config_files.specs.Finds.{Finds};
+ghost use Rattle.git_config_files.specs.Answers.{AgreesUnlessFaultOrOutOfMemory};
+ghost use Rattle.git_config_files.specs.Finds.{AnswersFromWorktree};
 ghost use Rattle.git_config_files.specs.Targets as words;
 
-use crate::conditions::{behind, bytes_of, holds, is_unknown_home, joined};
+use crate::conditions::{
+    begins_with_unsupported_home, concatenate_texts, include_condition_holds,
+    optional_bytes_as_slice, text_after_prefix,
+};
 use crate::error::FilesError;
 use crate::known::Known;
 use crate::which::value_error;
 use git_config_lite::{Entry, Section};
-use git_places::path_copied;
+use git_places::copy_optional_path;
 use gitbase_core::{Bytes, OutOfMemory, PathText, eq_ignore_case};
 use std::alloc::Global;
 use worktree_fs::{Worktree, resolve_from_file_parent};
 
 /// The refusal of a path that has a home which is not known.
-fn home_error(alloc: Global, from: &[u8]) -> Result<FilesError, OutOfMemory>
+fn unknown_home_error(alloc: Global, from: &[u8]) -> Result<FilesError, OutOfMemory>
     ensures { IfOk result (λ e. e ≡ FilesError.Home from.now) }
 {
     Ok(FilesError::Home {
@@ -25,21 +28,22 @@ fn home_error(alloc: Global, from: &[u8]) -> Result<FilesError, OutOfMemory>
 
 /// A path that a key has as its value, with the home in the place of a `~` at its front; none where
 /// that home is not known.
-fn expanded_path(
+fn path_with_tilde_expanded(
     alloc: Global,
     home: Option<&[u8]>,
     path: &[u8],
 ) -> Result<Option<Bytes>, OutOfMemory>
-    ensures { IfOk result (λ made. made ≡ words.expanded_path (option_copied home.entry) path.now) }
+    ensures { IfOk result (λ made. made ≡ words.path_with_tilde_expanded (option_copied home.entry)
+        path.now) }
 {
-    if is_unknown_home(path) {
+    if begins_with_unsupported_home(path) {
         return Ok(None);
     }
-    let Some(rest) = behind(path, b"~".as_slice()) else {
+    let Some(rest) = text_after_prefix(path, b"~".as_slice()) else {
         return Ok(Some(Bytes::from_slice(alloc, path)?));
     };
     match home {
-        Some(home) => Ok(Some(joined(alloc, home, rest)?)),
+        Some(home) => Ok(Some(concatenate_texts(alloc, home, rest)?)),
         None => Ok(None),
     }
 }
@@ -51,19 +55,20 @@ fn has_nul(text: &[u8]) -> bool
 }
 
 /// The path that the value of a key in a file is, where it has no NUL.
-fn expanded_or(
+fn expanded_path_or_user_dir_error(
     alloc: Global,
     file: Option<&PathText>,
     home: Option<&[u8]>,
     text: &[u8],
 ) -> Result<Bytes, FilesError>
-    ensures { Decides result (words.expanded_or (option_copied file.entry) text.now
-        (words.expanded_path (option_copied home.entry) text.now)) }
+    ensures { AgreesUnlessFaultOrOutOfMemory result (words.expanded_path_or_user_dir_error
+        (option_copied file.entry) text.now (words.path_with_tilde_expanded
+        (option_copied home.entry) text.now)) }
 {
-    match expanded_path(alloc, home, text)? {
+    match path_with_tilde_expanded(alloc, home, text)? {
         Some(path) => Ok(path),
         None => Err(FilesError::UserDir {
-            path: path_copied(alloc, file)?,
+            path: copy_optional_path(alloc, file)?,
             value: Bytes::from_slice(alloc, text)?,
         }),
     }
@@ -71,34 +76,35 @@ fn expanded_or(
 
 /// The path that the value of a key in a file is; a NUL in it is refused by the key, and a home
 /// that is not known by the text.
-#[tactic(auto, unfolding(crate::specs::Targets::path_of_value))]
-pub fn path_of_value(
+#[tactic(auto, unfolding(crate::specs::Targets::path_of_config_value))]
+pub fn path_of_config_value(
     alloc: Global,
     file: Option<&PathText>,
     key: &[u8],
     home: Option<&[u8]>,
     text: &[u8],
 ) -> Result<Bytes, FilesError>
-    ensures { Decides result (words.path_of_value (option_copied file.entry) key.now
-        (option_copied home.entry) text.now) }
+    ensures { AgreesUnlessFaultOrOutOfMemory result (words.path_of_config_value
+        (option_copied file.entry) key.now (option_copied home.entry) text.now) }
 {
     if has_nul(text) {
         return Err(value_error(alloc, file, key)?);
     }
-    expanded_or(alloc, file, home, text)
+    expanded_path_or_user_dir_error(alloc, file, home, text)
 }
 
 /// The file that a value names.
-fn named(
+fn included_file_of_value(
     alloc: Global,
     known: &Known,
     from: &[u8],
     value: &Option<Bytes>,
 ) -> Result<Option<Bytes>, FilesError>
-    ensures { Decides result (words.named known.now from.now value.now) }
+    ensures { AgreesUnlessFaultOrOutOfMemory result (words.included_file_of_value known.now from.now
+        value.now) }
 {
     match value {
-        Some(text) => named_by(alloc, known, from, text.as_bytes()),
+        Some(text) => included_file_of_text(alloc, known, from, text.as_bytes()),
         None => Err(FilesError::Include {
             path: PathText::from_bytes(alloc, from)?,
         }),
@@ -106,7 +112,7 @@ fn named(
 }
 
 /// The refusal of the path of an include that has a NUL.
-fn nul_error(alloc: Global, from: &[u8]) -> Result<FilesError, OutOfMemory>
+fn include_path_nul_error(alloc: Global, from: &[u8]) -> Result<FilesError, OutOfMemory>
     ensures { IfOk result (λ e. e ≡ FilesError.Value (Some from.now) (codes "include.path")) }
 {
     let path = PathText::from_bytes(alloc, from)?;
@@ -114,25 +120,26 @@ fn nul_error(alloc: Global, from: &[u8]) -> Result<FilesError, OutOfMemory>
 }
 
 /// The file that the text of a value names.
-fn named_by(
+fn included_file_of_text(
     alloc: Global,
     known: &Known,
     from: &[u8],
     text: &[u8],
 ) -> Result<Option<Bytes>, FilesError>
-    ensures { Decides result (words.named known.now from.now (Some text.now)) }
+    ensures { AgreesUnlessFaultOrOutOfMemory result (words.included_file_of_value known.now from.now
+        (Some text.now)) }
 {
     if has_nul(text) {
-        return Err(nul_error(alloc, from)?);
+        return Err(include_path_nul_error(alloc, from)?);
     }
-    match expanded_path(alloc, bytes_of(&known.home), text)? {
+    match path_with_tilde_expanded(alloc, optional_bytes_as_slice(&known.home), text)? {
         Some(path) => Ok(Some(resolve_from_file_parent(alloc, path.as_bytes(), from)?)),
-        None => Err(home_error(alloc, from)?),
+        None => Err(unknown_home_error(alloc, from)?),
     }
 }
 
 /// The file that a key `path` of a section with a condition includes.
-fn if_holds<W: Worktree>(
+fn included_file_if_condition_holds<W: Worktree>(
     alloc: Global,
     worktree: &mut W,
     known: &Known,
@@ -140,17 +147,18 @@ fn if_holds<W: Worktree>(
     condition: &[u8],
     entry: &Entry,
 ) -> Result<Option<Bytes>, FilesError>
-    ensures { Finds W.Worktree worktree.old worktree.new
-        (λ t. words.if_condition t known.now from.now condition.now entry.now) result }
+    ensures { AnswersFromWorktree W.Worktree worktree.old worktree.new
+        (λ t. words.included_file_if_condition_holds t known.now from.now condition.now entry.now)
+        result }
 {
-    if !holds(alloc, worktree, known, from, condition)? {
+    if !include_condition_holds(alloc, worktree, known, from, condition)? {
         return Ok(None);
     }
-    named(alloc, known, from, &entry.value)
+    included_file_of_value(alloc, known, from, &entry.value)
 }
 
 /// The file that a key `path` of a section includes.
-fn of_section<W: Worktree>(
+fn included_file_of_path_key<W: Worktree>(
     alloc: Global,
     worktree: &mut W,
     known: &Known,
@@ -158,19 +166,22 @@ fn of_section<W: Worktree>(
     section: &Section,
     entry: &Entry,
 ) -> Result<Option<Bytes>, FilesError>
-    ensures { Finds W.Worktree worktree.old worktree.new (λ t. words.of_section t known.now from.now
-        section.now.name section.now.subsection entry.now) result }
+    ensures { AnswersFromWorktree W.Worktree worktree.old worktree.new
+        (λ t. words.included_file_of_path_key t known.now from.now section.now.name
+        section.now.subsection entry.now) result }
 {
     match section.subsection_name() {
         None => {
             if eq_ignore_case(section.name(), b"include") {
-                return named(alloc, known, from, &entry.value);
+                return included_file_of_value(alloc, known, from, &entry.value);
             }
             Ok(None)
         }
         Some(condition) => {
             if eq_ignore_case(section.name(), b"includeif") {
-                return if_holds(alloc, worktree, known, from, condition, entry);
+                return included_file_if_condition_holds(
+                    alloc, worktree, known, from, condition, entry,
+                );
             }
             Ok(None)
         }
@@ -186,11 +197,11 @@ pub fn target<W: Worktree>(
     section: &Section,
     entry: &Entry,
 ) -> Result<Option<Bytes>, FilesError>
-    ensures { Finds W.Worktree worktree.old worktree.new
+    ensures { AnswersFromWorktree W.Worktree worktree.old worktree.new
         (λ t. words.target t known.now from.now section.now entry.now) result }
 {
     if !eq_ignore_case(entry.key.as_bytes(), b"path") {
         return Ok(None);
     }
-    of_section(alloc, worktree, known, from, section, entry)
+    included_file_of_path_key(alloc, worktree, known, from, section, entry)
 }

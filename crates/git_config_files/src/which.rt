@@ -1,40 +1,41 @@
 //! Which configurations git reads, and where a user's files lie.
 ghost use Rattle.std.specs.Prelude.{◌≡◌, ◌++◌, Some, None, IfOk, OnOk, option_copied, option_and_then};
-ghost use Rattle.worktree_fs.specs.Changes.{from_directory};
-ghost use Rattle.git_config_files.specs.Answers.{Decides};
+ghost use Rattle.worktree_fs.specs.Changes.{resolve_path_from_directory};
+ghost use Rattle.git_config_files.specs.Answers.{AgreesUnlessFaultOrOutOfMemory};
 ghost use Rattle.git_config_files.specs.Which as words;
-ghost use Rattle.worktree_fs.specs.Repository.{not_empty};
+ghost use Rattle.worktree_fs.specs.Repository.{path_unless_empty};
 
-use crate::conditions::{bytes_of, joined};
+use crate::conditions::{concatenate_texts, optional_bytes_as_slice};
 use crate::config_files::{ConfigFiles, Configured};
 use crate::error::FilesError;
 use git_config_lite::Source;
-use git_places::{Places, Surroundings, path_copied, truth_of_text};
+use git_places::{Places, Surroundings, copy_optional_path, parse_boolean_text};
 use gitbase_core::{Bytes, OutOfMemory, PathText};
 use std::alloc::Global;
-use worktree_fs::from_directory;
+use worktree_fs::resolve_path_from_directory;
 
 /// Adds the file at a path.
-fn add_named(
+fn add_file_at_path_unless_empty(
     alloc: Global,
     files: &mut ConfigFiles,
     root: &[u8],
     source: Source,
     path: &[u8],
 ) -> Result<(), OutOfMemory>
-    ensures { OnOk result (files.new ≡ files.old ++ words.named_file root.now source path.now) }
+    ensures { OnOk result (files.new ≡ files.old ++ words.file_at_path_unless_empty root.now source
+        path.now) }
 {
     if path.is_empty() {
         return Ok(());
     }
-    let path = from_directory(alloc, path, root)?;
+    let path = resolve_path_from_directory(alloc, path, root)?;
     files.push(Configured {
         source,
         path: PathText::from_bytes(alloc, path.as_bytes())?,
     })
 }
 
-fn add_maybe(
+fn add_file_of_optional_path(
     alloc: Global,
     files: &mut ConfigFiles,
     root: &[u8],
@@ -42,10 +43,10 @@ fn add_maybe(
     path: Option<&[u8]>,
 ) -> Result<(), OutOfMemory>
     ensures { OnOk result (files.new
-        ≡ files.old ++ words.maybe_file root.now source (option_copied path.entry)) }
+        ≡ files.old ++ words.file_of_optional_path root.now source (option_copied path.entry)) }
 {
     match path {
-        Some(path) => add_named(alloc, files, root, source, path),
+        Some(path) => add_file_at_path_unless_empty(alloc, files, root, source, path),
         None => Ok(()),
     }
 }
@@ -59,33 +60,35 @@ pub fn value_error(
     ensures { IfOk result (λ e. e ≡ FilesError.Value (option_copied file.entry) key.now) }
 {
     Ok(FilesError::Value {
-        path: path_copied(alloc, file)?,
+        path: copy_optional_path(alloc, file)?,
         key: Bytes::from_slice(alloc, key)?,
     })
 }
 
 /// What a text says as a boolean, as the value of a key does.
-fn truth_of(alloc: Global, text: &[u8]) -> Result<bool, FilesError>
-    ensures { Decides result (words.skips_system (Some text.now)) }
+fn boolean_of_nosystem_variable(alloc: Global, text: &[u8]) -> Result<bool, FilesError>
+    ensures { AgreesUnlessFaultOrOutOfMemory result (words.is_system_config_skipped
+        (Some text.now)) }
 {
-    match truth_of_text(alloc, text)? {
+    match parse_boolean_text(alloc, text)? {
         Some(truth) => Ok(truth),
         None => Err(value_error(alloc, None, b"GIT_CONFIG_NOSYSTEM")?),
     }
 }
 
 /// Whether the configuration of the system is not read.
-fn skips_system(alloc: Global, text: Option<&[u8]>) -> Result<bool, FilesError>
-    ensures { Decides result (words.skips_system (option_copied text.entry)) }
+fn is_system_config_skipped(alloc: Global, text: Option<&[u8]>) -> Result<bool, FilesError>
+    ensures { AgreesUnlessFaultOrOutOfMemory result (words.is_system_config_skipped
+        (option_copied text.entry)) }
 {
     match text {
-        Some(text) => truth_of(alloc, text),
+        Some(text) => boolean_of_nosystem_variable(alloc, text),
         None => Ok(false),
     }
 }
 
-fn system_path(told: Option<&[u8]>) -> &[u8]
-    ensures { result.now ≡ words.system_path (option_copied told.entry) }
+fn path_of_system_config(told: Option<&[u8]>) -> &[u8]
+    ensures { result.now ≡ words.path_of_system_config (option_copied told.entry) }
 {
     match told {
         Some(path) => path,
@@ -94,25 +97,31 @@ fn system_path(told: Option<&[u8]>) -> &[u8]
 }
 
 /// Adds the file of the system, unless it is not read.
-fn add_system(
+fn add_system_config_unless_skipped(
     alloc: Global,
     files: &mut ConfigFiles,
     root: &[u8],
     told: Option<&[u8]>,
     skips: bool,
 ) -> Result<(), OutOfMemory>
-    ensures { OnOk result (files.new
-        ≡ files.old ++ words.system_files root.now (option_copied told.entry) skips) }
+    ensures { OnOk result (files.new ≡ files.old ++ words.system_config_unless_skipped root.now
+        (option_copied told.entry) skips) }
 {
     if skips {
         return Ok(());
     }
-    add_named(alloc, files, root, Source::System, system_path(told))
+    add_file_at_path_unless_empty(
+        alloc,
+        files,
+        root,
+        Source::System,
+        path_of_system_config(told),
+    )
 }
 
 /// A text, unless it is empty.
-fn not_empty(text: Option<&[u8]>) -> Option<&[u8]>
-    ensures { option_copied result ≡ option_and_then not_empty (option_copied text.entry) }
+fn text_unless_empty(text: Option<&[u8]>) -> Option<&[u8]>
+    ensures { option_copied result ≡ option_and_then path_unless_empty (option_copied text.entry) }
 {
     match text {
         Some([]) => None,
@@ -121,14 +130,14 @@ fn not_empty(text: Option<&[u8]>) -> Option<&[u8]>
 }
 
 /// A file of git's beneath a directory of configurations, or beneath the home.
-fn beneath(
+fn file_in_config_directory_or_home(
     alloc: Global,
     directory: Option<&[u8]>,
     home: Option<&[u8]>,
     name: &[u8],
 ) -> Result<Option<Bytes>, OutOfMemory>
-    ensures { IfOk result (λ path. path
-        ≡ words.beneath (option_copied directory.entry) (option_copied home.entry) name.now) }
+    ensures { IfOk result (λ path. path ≡ words.file_in_config_directory_or_home
+        (option_copied directory.entry) (option_copied home.entry) name.now) }
 {
     match (directory, home) {
         (Some(directory), _) => Ok(Some(join_three_texts(alloc, directory, b"/git/", name)?)),
@@ -153,61 +162,84 @@ fn join_three_texts(
 }
 
 /// A file of git's in the user's directory of configurations, if there is one.
-pub fn in_config_home(
+pub fn path_in_user_config_directory(
     alloc: Global,
     around: &Surroundings,
     name: &[u8],
 ) -> Result<Option<Bytes>, OutOfMemory>
-    ensures { IfOk result (λ path. path ≡ words.in_config_home around.now name.now) }
+    ensures { IfOk result (λ path. path ≡ words.path_in_user_config_directory around.now name.now) }
 {
-    let directory = not_empty(bytes_of(&around.config_home));
-    beneath(alloc, directory, bytes_of(&around.home), name)
+    let directory = text_unless_empty(optional_bytes_as_slice(&around.config_home));
+    file_in_config_directory_or_home(
+        alloc,
+        directory,
+        optional_bytes_as_slice(&around.home),
+        name,
+    )
 }
 
-fn in_home(alloc: Global, home: Option<&[u8]>) -> Result<Option<Bytes>, OutOfMemory>
-    ensures { IfOk result (λ path. path ≡ words.in_home (option_copied home.entry)) }
+fn path_of_home_gitconfig(alloc: Global, home: Option<&[u8]>) -> Result<Option<Bytes>, OutOfMemory>
+    ensures { IfOk result (λ path. path ≡ words.path_of_home_gitconfig (option_copied home.entry)) }
 {
     match home {
-        Some(home) => Ok(Some(joined(alloc, home, b"/.gitconfig")?)),
+        Some(home) => Ok(Some(concatenate_texts(alloc, home, b"/.gitconfig")?)),
         None => Ok(None),
     }
 }
 
 /// Adds both files of the user.
-fn add_both(
+fn add_both_user_configs(
     alloc: Global,
     files: &mut ConfigFiles,
     root: &[u8],
     around: &Surroundings,
 ) -> Result<(), OutOfMemory>
-    ensures { OnOk result (files.new ≡ files.old ++ words.user_files_by root.now around.now None) }
+    ensures { OnOk result (files.new ≡ files.old ++ words.user_configs_by_global_variable root.now
+        around.now None) }
 {
-    let first = in_config_home(alloc, around, b"config")?;
-    add_maybe(alloc, files, root, Source::User, bytes_of(&first))?;
-    let last = in_home(alloc, bytes_of(&around.home))?;
-    add_maybe(alloc, files, root, Source::User, bytes_of(&last))
+    let first = path_in_user_config_directory(alloc, around, b"config")?;
+    add_file_of_optional_path(
+        alloc,
+        files,
+        root,
+        Source::User,
+        optional_bytes_as_slice(&first),
+    )?;
+    let last = path_of_home_gitconfig(alloc, optional_bytes_as_slice(&around.home))?;
+    add_file_of_optional_path(
+        alloc,
+        files,
+        root,
+        Source::User,
+        optional_bytes_as_slice(&last),
+    )
 }
 
 /// Adds those of the user.
-fn add_user(
+fn add_user_configs(
     alloc: Global,
     files: &mut ConfigFiles,
     root: &[u8],
     around: &Surroundings,
 ) -> Result<(), OutOfMemory>
-    ensures { OnOk result (files.new ≡ files.old ++ words.user_files root.now around.now) }
+    ensures { OnOk result (files.new ≡ files.old ++ words.user_configs root.now around.now) }
 {
-    match bytes_of(&around.config_global) {
-        Some(path) => add_named(alloc, files, root, Source::User, path),
-        None => add_both(alloc, files, root, around),
+    match optional_bytes_as_slice(&around.config_global) {
+        Some(path) => add_file_at_path_unless_empty(alloc, files, root, Source::User, path),
+        None => add_both_user_configs(alloc, files, root, around),
     }
 }
 
 /// A file of the repository.
-fn local_file(alloc: Global, name: &[u8], directory: &[u8]) -> Result<Configured, OutOfMemory>
-    ensures { IfOk result (λ at. at ≡ words.local_file (from_directory name.now directory.now)) }
+fn repository_config_file(
+    alloc: Global,
+    name: &[u8],
+    directory: &[u8],
+) -> Result<Configured, OutOfMemory>
+    ensures { IfOk result (λ at. at ≡ words.repository_config_file (resolve_path_from_directory
+        name.now directory.now)) }
 {
-    let path = from_directory(alloc, name, directory)?;
+    let path = resolve_path_from_directory(alloc, name, directory)?;
     Ok(Configured {
         source: Source::Local,
         path: PathText::from_bytes(alloc, path.as_bytes())?,
@@ -215,25 +247,30 @@ fn local_file(alloc: Global, name: &[u8], directory: &[u8]) -> Result<Configured
 }
 
 /// Adds that of the work tree by itself, if it has one.
-fn add_own(alloc: Global, files: &mut ConfigFiles, git: &[u8], has: bool) -> Result<(), OutOfMemory>
-    ensures { OnOk result (files.new ≡ files.old ++ words.own_files git.now has) }
+fn add_worktree_config_if_present(
+    alloc: Global,
+    files: &mut ConfigFiles,
+    git: &[u8],
+    has: bool,
+) -> Result<(), OutOfMemory>
+    ensures { OnOk result (files.new ≡ files.old ++ words.worktree_config_if_present git.now has) }
 {
     if !has {
         return Ok(());
     }
-    files.push(local_file(alloc, b"config.worktree", git)?)
+    files.push(repository_config_file(alloc, b"config.worktree", git)?)
 }
 
 /// Adds those of the repository.
-fn add_repository_files(
+fn add_repository_configs(
     alloc: Global,
     files: &mut ConfigFiles,
     places: &Places,
 ) -> Result<(), OutOfMemory>
-    ensures { OnOk result (files.new ≡ files.old ++ words.local_files places.now) }
+    ensures { OnOk result (files.new ≡ files.old ++ words.repository_configs places.now) }
 {
-    files.push(local_file(alloc, b"config", places.common_dir.as_bytes())?)?;
-    add_own(
+    files.push(repository_config_file(alloc, b"config", places.common_dir.as_bytes())?)?;
+    add_worktree_config_if_present(
         alloc,
         files,
         places.git_dir.as_bytes(),
@@ -242,7 +279,7 @@ fn add_repository_files(
 }
 
 /// Adds those that no repository has.
-fn add_outer(
+fn add_configs_outside_repository(
     alloc: Global,
     files: &mut ConfigFiles,
     directory: &[u8],
@@ -250,21 +287,25 @@ fn add_outer(
     skips: bool,
 ) -> Result<(), OutOfMemory>
     ensures { OnOk result (files.new
-        ≡ files.old ++ words.outer_without directory.now around.now skips) }
+        ≡ files.old ++ words.configs_outside_repository directory.now around.now skips) }
 {
-    let system = bytes_of(&around.config_system);
-    add_system(alloc, files, directory, system, skips)?;
-    add_user(alloc, files, directory, around)
+    let system = optional_bytes_as_slice(&around.config_system);
+    add_system_config_unless_skipped(alloc, files, directory, system, skips)?;
+    add_user_configs(alloc, files, directory, around)
 }
 
 /// The configurations that have a say in what is safe: those that no repository has, in their
 /// order.
-pub fn outer_files(alloc: Global, around: &Surroundings) -> Result<ConfigFiles, FilesError>
-    ensures { Decides result (words.outer_files around.now) }
+pub fn config_files_outside_repository(
+    alloc: Global,
+    around: &Surroundings,
+) -> Result<ConfigFiles, FilesError>
+    ensures { AgreesUnlessFaultOrOutOfMemory result (words.config_files_outside_repository
+        around.now) }
 {
-    let skips = skips_system(alloc, bytes_of(&around.no_system))?;
+    let skips = is_system_config_skipped(alloc, optional_bytes_as_slice(&around.no_system))?;
     let mut files = ConfigFiles::new(alloc);
-    add_outer(
+    add_configs_outside_repository(
         alloc,
         &mut files,
         around.directory.as_bytes(),
@@ -275,16 +316,17 @@ pub fn outer_files(alloc: Global, around: &Surroundings) -> Result<ConfigFiles, 
 }
 
 /// The configurations that git reads, in its order.
-pub fn files_of(
+pub fn config_files_of_work_tree(
     alloc: Global,
     places: &Places,
     around: &Surroundings,
 ) -> Result<ConfigFiles, FilesError>
-    ensures { Decides result (words.files_of places.now around.now) }
+    ensures { AgreesUnlessFaultOrOutOfMemory result (words.config_files_of_work_tree places.now
+        around.now) }
 {
-    let skips = skips_system(alloc, bytes_of(&around.no_system))?;
+    let skips = is_system_config_skipped(alloc, optional_bytes_as_slice(&around.no_system))?;
     let mut files = ConfigFiles::new(alloc);
-    add_outer(alloc, &mut files, places.root.as_bytes(), around, skips)?;
-    add_repository_files(alloc, &mut files, places)?;
+    add_configs_outside_repository(alloc, &mut files, places.root.as_bytes(), around, skips)?;
+    add_repository_configs(alloc, &mut files, places)?;
     Ok(files)
 }

@@ -2,10 +2,12 @@
 use crate::owned_answers as git;
 use crate::surroundings::{surroundings_of, wanted};
 use git_config_files::{FilesError, require_trusted_top};
-use git_places::{Limits, PlacesError, Surroundings, Top, find_top, limits_of};
+use git_places::{
+    Limits, PlacesError, Surroundings, Top, find_work_tree_top, search_limits_of_surroundings,
+};
 use gitbase_core::Bytes;
 use std::alloc::Global;
-use test_cases::{split_at_byte, tree_of};
+use test_cases::{split_at_byte, tree_from_steps};
 use worktree_fs::{MemoryOwners, MemoryWorktree, OwnedNode, Ownership, Worktree};
 
 /// The number that digits spell.
@@ -124,7 +126,7 @@ fn is_found(
     want: &[u8],
 ) -> bool {
     let current = around.directory.as_bytes();
-    match find_top(alloc, tree, owners, current, limits) {
+    match find_work_tree_top(alloc, tree, owners, current, limits) {
         Ok(top) => is_own(alloc, tree, owners, around, top, want),
         Err(error) => is_refused(&error, want),
     }
@@ -137,7 +139,7 @@ fn answers(
     around: &Surroundings,
     want: &[u8],
 ) -> bool {
-    match limits_of(alloc, tree, owners, around) {
+    match search_limits_of_surroundings(alloc, tree, owners, around) {
         Ok(limits) => is_found(alloc, tree, owners, around, &limits, want),
         Err(error) => is_refused(&error, want),
     }
@@ -151,7 +153,7 @@ fn answers_in(
     steps: &[u8],
     want: &[u8],
 ) -> bool {
-    match tree_of(alloc, steps, b'$') {
+    match tree_from_steps(alloc, steps, b'$') {
         Some(tree) => {
             let mut tree = tree;
             answers(alloc, &mut tree, owners, around, want)

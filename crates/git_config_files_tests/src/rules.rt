@@ -2,10 +2,10 @@
 use crate::answers as git;
 use crate::stacks::is_refused;
 use crate::surroundings::{places_in, surroundings_of, wanted};
-use git_config_files::{FilesError, Rules, RulesFile, read_stack, rules_files};
+use git_config_files::{FilesError, Rules, RulesFile, read_rules_outside_work_tree, read_stack};
 use git_places::{Places, Surroundings};
 use std::alloc::Global;
-use test_cases::{split_at_byte, tree_of};
+use test_cases::{split_at_byte, tree_from_steps};
 use worktree_fs::{MemoryWorktree, Worktree};
 
 /// Rows: the file in which stands what is refused, or `-`; what is set in the environment; and the
@@ -52,7 +52,7 @@ fn rules_in(
     around: &Surroundings,
 ) -> Result<Rules, FilesError> {
     let stack = read_stack(alloc, tree, places, around)?;
-    rules_files(alloc, tree, places, around, &stack.file)
+    read_rules_outside_work_tree(alloc, tree, places, around, &stack.file)
 }
 
 fn answers(
@@ -69,8 +69,10 @@ fn answers(
 }
 
 fn is_answered(alloc: Global, want: &[u8], words: &[u8], steps: &[u8]) -> bool {
-    let (Some(tree), Some(around)) = (tree_of(alloc, steps, b'$'), surroundings_of(alloc, words))
-    else {
+    let (Some(tree), Some(around)) = (
+        tree_from_steps(alloc, steps, b'$'),
+        surroundings_of(alloc, words),
+    ) else {
         return false;
     };
     let mut tree = tree;
@@ -105,8 +107,10 @@ fn stands_in(error: &FilesError, want: &[u8]) -> bool {
 }
 
 fn is_refused_in(alloc: Global, want: &[u8], words: &[u8], steps: &[u8]) -> bool {
-    let (Some(tree), Some(around)) = (tree_of(alloc, steps, b'$'), surroundings_of(alloc, words))
-    else {
+    let (Some(tree), Some(around)) = (
+        tree_from_steps(alloc, steps, b'$'),
+        surroundings_of(alloc, words),
+    ) else {
         return false;
     };
     let mut tree = tree;

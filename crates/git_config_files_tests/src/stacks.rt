@@ -5,7 +5,7 @@ use git_config_files::{FilesError, Stack, read_stack};
 use git_config_lite::{Entry, Metadata, Section, Source};
 use git_places::{Places, PlacesError, Surroundings};
 use std::alloc::Global;
-use test_cases::{lines_of, split_at_byte, tree_of};
+use test_cases::{replace_marks_by_line_feeds, split_at_byte, tree_from_steps};
 use worktree_fs::{MemoryWorktree, Worktree};
 
 /// Rows that git cannot be asked, since what they need is not there or is given up.
@@ -150,9 +150,9 @@ fn answers(
 /// Whether the answer of a row is the one that is wanted.
 fn is_answered(alloc: Global, want: &[u8], words: &[u8], steps: &[u8]) -> bool {
     let (Some(tree), Some(around), Some(want)) = (
-        tree_of(alloc, steps, b'$'),
+        tree_from_steps(alloc, steps, b'$'),
         surroundings_of(alloc, words),
-        lines_of(alloc, want, b'$'),
+        replace_marks_by_line_feeds(alloc, want, b'$'),
     ) else {
         return false;
     };

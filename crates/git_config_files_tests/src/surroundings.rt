@@ -1,6 +1,9 @@
 //! What is set in the environment, and where the work tree lies, from the words of a row.
 use bstr::ByteSlice;
-use git_places::{Ceilings, Limits, Places, PlacesError, Surroundings, find_top, places_of};
+use git_places::{
+    Ceilings, Limits, Places, PlacesError, Surroundings, find_work_tree_top,
+    places_of_work_tree_top,
+};
 use gitbase_core::{Bytes, PathText};
 use std::alloc::Global;
 use test_cases::split_at_byte;
@@ -48,8 +51,8 @@ pub fn places_in(alloc: Global, tree: &mut MemoryWorktree) -> Result<Places, Pla
         device: None,
     };
     let mut owners = MemoryOwners::new(Vec::new(alloc));
-    let top = find_top(alloc, tree, &mut owners, b"/w/r", &limits)?;
-    places_of(alloc, tree, top)
+    let top = find_work_tree_top(alloc, tree, &mut owners, b"/w/r", &limits)?;
+    places_of_work_tree_top(alloc, tree, top)
 }
 
 /// The answer that is wanted: of two that differ, the one of the definitions.

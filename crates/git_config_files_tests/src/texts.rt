@@ -3,7 +3,7 @@ use crate::surroundings::{places_in, surroundings_of};
 use git_config_files::{ConfigFiles, FilesError, read_stack};
 use gitbase_core::{Bytes, PathText};
 use std::alloc::Global;
-use test_cases::{split_at_byte, tree_of};
+use test_cases::{split_at_byte, tree_from_steps};
 
 /// Rows, parted by bars: an error and its text, parted by a backquote.
 const ROWS: &[u8] = b"\
@@ -66,7 +66,7 @@ fn are_files(files: &ConfigFiles, want: &[u8]) -> bool {
 
 fn appear(alloc: Global, steps: &[u8], want: &[u8]) -> bool {
     let (Some(tree), Some(around)) = (
-        tree_of(alloc, steps, b'$'),
+        tree_from_steps(alloc, steps, b'$'),
         surroundings_of(alloc, b"home=/w/h"),
     ) else {
         return false;

@@ -6,44 +6,44 @@
 use Rattle.std.specs.Prelude.{ℕ, ◌-◌, List, [], ◌∷◌, Bool, true, false, not, ◌==◌, ◌||◌, bytes_eq, codes, length, take, slice_get, map, Option, Some, None, if◌then◌else◌}
 use Rattle.std.specs.Char.{to_ascii_lowercase}
 use Rattle.std.specs.List.{list_all, list_any}
-use Rattle.git_config_lite.specs.Texts.{is_digit}
+use Rattle.git_config_lite.specs.Texts.{is_decimal_digit}
 
 -- equal but for the case of ASCII letters
-abbrev pub folds : List ℕ → List ℕ → Bool
-folds a b = bytes_eq (map to_ascii_lowercase a) (map to_ascii_lowercase b)
+abbrev pub is_equal_ignoring_ascii_case : List ℕ → List ℕ → Bool
+is_equal_ignoring_ascii_case a b = bytes_eq (map to_ascii_lowercase a) (map to_ascii_lowercase b)
 
 abbrev pub is_true_word : List ℕ → Bool
-is_true_word text = folds text (codes "yes") || (folds text (codes "on") || folds text (codes "true"))
+is_true_word text = is_equal_ignoring_ascii_case text (codes "yes") || (is_equal_ignoring_ascii_case text (codes "on") || is_equal_ignoring_ascii_case text (codes "true"))
 
 abbrev pub is_false_word : List ℕ → Bool
-is_false_word text = folds text (codes "no") || (folds text (codes "off") || (folds text (codes "false") || folds text []))
+is_false_word text = is_equal_ignoring_ascii_case text (codes "no") || (is_equal_ignoring_ascii_case text (codes "off") || (is_equal_ignoring_ascii_case text (codes "false") || is_equal_ignoring_ascii_case text []))
 
-abbrev pub is_sign : ℕ → Bool
-is_sign b = b == 43 || b == 45
+abbrev pub is_plus_or_minus : ℕ → Bool
+is_plus_or_minus b = b == 43 || b == 45
 
-abbrev pub without_sign : List ℕ → List ℕ
-without_sign [] = []
-without_sign (b ∷ bytes) = if is_sign b then bytes else b ∷ bytes
+abbrev pub without_leading_sign : List ℕ → List ℕ
+without_leading_sign [] = []
+without_leading_sign (b ∷ bytes) = if is_plus_or_minus b then bytes else b ∷ bytes
 
 -- `k`, `m` or `g`
-abbrev pub is_suffix : ℕ → Bool
-is_suffix b = b == 107 || (b == 75 || (b == 109 || (b == 77 || (b == 103 || b == 71))))
+abbrev pub is_number_suffix : ℕ → Bool
+is_number_suffix b = b == 107 || (b == 75 || (b == 109 || (b == 77 || (b == 103 || b == 71))))
 
-abbrev pub is_suffix_there : Option ℕ → Bool
-is_suffix_there None = false
-is_suffix_there (Some b) = is_suffix b
+abbrev pub is_optional_byte_number_suffix : Option ℕ → Bool
+is_optional_byte_number_suffix None = false
+is_optional_byte_number_suffix (Some b) = is_number_suffix b
 
-abbrev pub without_suffix : List ℕ → List ℕ
-without_suffix text = if is_suffix_there (slice_get text (length text - 1)) then take (length text - 1) text else text
+abbrev pub without_number_suffix : List ℕ → List ℕ
+without_number_suffix text = if is_optional_byte_number_suffix (slice_get text (length text - 1)) then take (length text - 1) text else text
 
 -- whether some digit is not 0, where these are digits
-abbrev pub digits_truth : List ℕ → Option Bool
-digits_truth [] = None
-digits_truth (d ∷ digits) = if list_all is_digit (d ∷ digits) then Some (list_any (λ b. not (b == 48)) (d ∷ digits)) else None
+abbrev pub truth_of_decimal_digits : List ℕ → Option Bool
+truth_of_decimal_digits [] = None
+truth_of_decimal_digits (d ∷ digits) = if list_all is_decimal_digit (d ∷ digits) then Some (list_any (λ b. not (b == 48)) (d ∷ digits)) else None
 
 -- what a text says as a boolean; none where it is no boolean
-abbrev pub truth : List ℕ → Option Bool
-truth text =
+abbrev pub parse_boolean : List ℕ → Option Bool
+parse_boolean text =
     if is_true_word text then Some true
     else if is_false_word text then Some false
-    else digits_truth (without_suffix (without_sign text))
+    else truth_of_decimal_digits (without_number_suffix (without_leading_sign text))

@@ -6,88 +6,88 @@ use Rattle.std.specs.Prelude.{ℕ, ◌+◌, List, [], ◌∷◌, ◌++◌, drop,
 use Rattle.git_config_lite.specs.declared.element.Element.{Element}
 use Rattle.git_config_lite.specs.declared.metadata.Metadata.{Metadata}
 use Rattle.git_config_lite.specs.declared.entry.Entry.{Entry}
-use Rattle.git_config_lite.specs.Texts.{text_lines, begins_with, past_blanks, says_nothing}
-use Rattle.git_config_lite.specs.Headers.{Headed, header_at}
-use Rattle.git_config_lite.specs.Values.{Piece, piece_of, before_piece, value_of}
-use Rattle.git_config_lite.specs.Keys.{Keyed, key_at}
-use Rattle.git_config_lite.specs.Sections.{Section, empty_section, adding_entry}
+use Rattle.git_config_lite.specs.Texts.{lines_without_terminators, begins_with_byte, without_leading_blanks, is_empty_or_comment}
+use Rattle.git_config_lite.specs.Headers.{HeaderAndRest, parse_header_after_bracket}
+use Rattle.git_config_lite.specs.Values.{ValuePiece, parse_value_piece, piece_with_elements_before, value_of_elements}
+use Rattle.git_config_lite.specs.Keys.{KeyAndText, parse_key_and_text}
+use Rattle.git_config_lite.specs.Sections.{Section, empty_section, sections_with_entry_in_last}
 
 -- a key whose value goes on on the next line, and the elements that it has so far
-pub record Pending : Type 0 where
+pub record PendingValue : Type 0 where
   pub key : List ℕ
   pub elements : List Element
 
 -- what some lines say: the sections, and the value that goes on, if one does
-pub record Draft : Type 0 where
+pub record DraftConfiguration : Type 0 where
   pub sections : List Section
-  pub pending : Option Pending
+  pub pending : Option PendingValue
 
 abbrev pub entry : List ℕ → Option (List ℕ) → Entry
 entry key value = record { key = key; value = value }
 
-abbrev pub draft_without_pending : List Section → Draft
+abbrev pub draft_without_pending : List Section → DraftConfiguration
 draft_without_pending sections = record { sections = sections; pending = None }
 
 -- a key with one more piece of its value
-abbrev pub with_piece : List Section → List ℕ → Option Piece → Option Draft
-with_piece sections key None = None
-with_piece sections key (Some piece) =
+abbrev pub draft_with_value_piece : List Section → List ℕ → Option ValuePiece → Option DraftConfiguration
+draft_with_value_piece sections key None = None
+draft_with_value_piece sections key (Some piece) =
     if piece.continues then Some (record { sections = sections; pending = Some (record { key = key; elements = piece.elements }) })
-    else Some (draft_without_pending (adding_entry (entry key (Some (value_of piece.elements))) sections))
+    else Some (draft_without_pending (sections_with_entry_in_last (entry key (Some (value_of_elements piece.elements))) sections))
 
 -- a key, by the text behind its `=`
-abbrev pub with_text : List Section → List ℕ → Option (List ℕ) → Option Draft
-with_text sections key None = Some (draft_without_pending (adding_entry (entry key None) sections))
-with_text sections key (Some text) = with_piece sections key (piece_of text)
+abbrev pub draft_with_key_and_text : List Section → List ℕ → Option (List ℕ) → Option DraftConfiguration
+draft_with_key_and_text sections key None = Some (draft_without_pending (sections_with_entry_in_last (entry key None) sections))
+draft_with_key_and_text sections key (Some text) = draft_with_value_piece sections key (parse_value_piece text)
 
-abbrev pub with_key : List Section → Option Keyed → Option Draft
-with_key sections None = None
-with_key sections (Some keyed) = with_text sections keyed.key keyed.text
+abbrev pub draft_with_parsed_key : List Section → Option KeyAndText → Option DraftConfiguration
+draft_with_parsed_key sections None = None
+draft_with_parsed_key sections (Some keyed) = draft_with_key_and_text sections keyed.key keyed.text
 
 -- a key, which needs a section
-abbrev pub key_line : List Section → List ℕ → Option Draft
-key_line [] bytes = None
-key_line (section ∷ more) bytes = with_key (section ∷ more) (key_at bytes)
+abbrev pub parse_key_line_in_section : List Section → List ℕ → Option DraftConfiguration
+parse_key_line_in_section [] bytes = None
+parse_key_line_in_section (section ∷ more) bytes = draft_with_parsed_key (section ∷ more) (parse_key_and_text bytes)
 
 -- what may follow a header on its line
-abbrev pub behind_header : List Section → List ℕ → Option Draft
-behind_header sections bytes = if says_nothing bytes then Some (draft_without_pending sections) else key_line sections bytes
+abbrev pub parse_rest_of_header_line : List Section → List ℕ → Option DraftConfiguration
+parse_rest_of_header_line sections bytes = if is_empty_or_comment bytes then Some (draft_without_pending sections) else parse_key_line_in_section sections bytes
 
-abbrev pub with_header : Metadata → List Section → Option Headed → Option Draft
-with_header meta sections None = None
-with_header meta sections (Some headed) = behind_header (sections ++ empty_section headed.name headed.subsection meta ∷ []) (past_blanks headed.rest)
+abbrev pub draft_with_header_line : Metadata → List Section → Option HeaderAndRest → Option DraftConfiguration
+draft_with_header_line meta sections None = None
+draft_with_header_line meta sections (Some headed) = parse_rest_of_header_line (sections ++ empty_section headed.name headed.subsection meta ∷ []) (without_leading_blanks headed.rest)
 
 -- a line that begins with no blank and is not more of a value
-abbrev pub fresh_line : Metadata → List Section → List ℕ → Option Draft
-fresh_line meta sections bytes =
-    if begins_with 91 bytes then with_header meta sections (header_at (drop 1 bytes))
-    else behind_header sections bytes
+abbrev pub parse_line_outside_value : Metadata → List Section → List ℕ → Option DraftConfiguration
+parse_line_outside_value meta sections bytes =
+    if begins_with_byte 91 bytes then draft_with_header_line meta sections (parse_header_after_bracket (drop 1 bytes))
+    else parse_rest_of_header_line sections bytes
 
 -- what is said with one more line; none where that is outside the grammar
-abbrev pub taken_by : Metadata → List Section → Option Pending → List ℕ → Option Draft
-taken_by meta sections None line = fresh_line meta sections (past_blanks line)
-taken_by meta sections (Some pending) line = with_piece sections pending.key (option_map (before_piece pending.elements) (piece_of line))
+abbrev pub draft_after_line_by_pending : Metadata → List Section → Option PendingValue → List ℕ → Option DraftConfiguration
+draft_after_line_by_pending meta sections None line = parse_line_outside_value meta sections (without_leading_blanks line)
+draft_after_line_by_pending meta sections (Some pending) line = draft_with_value_piece sections pending.key (option_map (piece_with_elements_before pending.elements) (parse_value_piece line))
 
-abbrev pub parse_next_line : Metadata → Draft → List ℕ → Option Draft
-parse_next_line meta draft line = taken_by meta draft.sections draft.pending line
+abbrev pub parse_next_line : Metadata → DraftConfiguration → List ℕ → Option DraftConfiguration
+parse_next_line meta draft line = draft_after_line_by_pending meta draft.sections draft.pending line
 
 -- the end of a text ends a value too
-abbrev pub finished_by : List Section → Option Pending → List Section
-finished_by sections None = sections
-finished_by sections (Some pending) = adding_entry (entry pending.key (Some (value_of pending.elements))) sections
+abbrev pub sections_with_pending_value : List Section → Option PendingValue → List Section
+sections_with_pending_value sections None = sections
+sections_with_pending_value sections (Some pending) = sections_with_entry_in_last (entry pending.key (Some (value_of_elements pending.elements))) sections
 
-abbrev pub finished : Draft → List Section
-finished draft = finished_by draft.sections draft.pending
+abbrev pub sections_of_finished_draft : DraftConfiguration → List Section
+sections_of_finished_draft draft = sections_with_pending_value draft.sections draft.pending
 
-abbrev pub unless_outside : ℕ → (Draft → Result (List Section) ℕ) → Option Draft → Result (List Section) ℕ
-unless_outside number behind None = Err number
-unless_outside number behind (Some draft) = behind draft
+abbrev pub error_if_outside_grammar : ℕ → (DraftConfiguration → Result (List Section) ℕ) → Option DraftConfiguration → Result (List Section) ℕ
+error_if_outside_grammar number behind None = Err number
+error_if_outside_grammar number behind (Some draft) = behind draft
 
 -- what some lines say behind a draft, or the number of the first that is outside the grammar; the first has this number
-abbrev pub said_from : Metadata → ℕ → Draft → List (List ℕ) → Result (List Section) ℕ
-said_from meta number draft [] = Ok (finished draft)
-said_from meta number draft (line ∷ lines) = unless_outside number (λ next. said_from meta (number + 1) next lines) (parse_next_line meta draft line)
+abbrev pub parse_lines_from_number : Metadata → ℕ → DraftConfiguration → List (List ℕ) → Result (List Section) ℕ
+parse_lines_from_number meta number draft [] = Ok (sections_of_finished_draft draft)
+parse_lines_from_number meta number draft (line ∷ lines) = error_if_outside_grammar number (λ next. parse_lines_from_number meta (number + 1) next lines) (parse_next_line meta draft line)
 
 -- The sections that a text says, or the number of its first line outside the grammar, counted from 1.
 abbrev pub parse_text_sections : Metadata → List ℕ → Result (List Section) ℕ
-parse_text_sections meta text = said_from meta 1 (draft_without_pending []) (text_lines text)
+parse_text_sections meta text = parse_lines_from_number meta 1 (draft_without_pending []) (lines_without_terminators text)

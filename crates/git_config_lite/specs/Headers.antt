@@ -4,18 +4,18 @@
 -- subsection, and nowhere else. In a subsection a backslash stands for the byte behind it; it ends at the first double
 -- quote that no backslash precedes, on its line. NUL may not stand there.
 use Rattle.std.specs.Prelude.{ℕ, List, [], ◌∷◌, ◌++◌, Bool, true, false, ◌==◌, ◌&&◌, take, drop, Option, Some, None, option_map, if◌then◌else◌}
-use Rattle.git_config_lite.specs.Texts.{is_blank, is_name_byte, begins, begins_with, past_blanks, run_length}
+use Rattle.git_config_lite.specs.Texts.{is_space_or_tab, is_section_name_byte, first_byte_passes, begins_with_byte, without_leading_blanks, length_of_leading_run}
 use Rattle.git_config_lite.specs.declared.subsection.SubsectionByte.{SubsectionByte}
 use Rattle.git_config_lite.specs.declared.subsection.SubsectionByte.TheVariants.{Outside, Closes, Escapes, Stands}
 
 -- a subsection, and what is behind its closing quote
-pub record Quoted : Type 0 where
+pub record QuotedSubsection : Type 0 where
   pub text : List ℕ
   pub rest : List ℕ
 
 -- what a byte of a subsection does, behind a backslash or not
-abbrev pub subsection_byte : Bool → ℕ → SubsectionByte
-subsection_byte escaped b =
+abbrev pub effect_of_subsection_byte : Bool → ℕ → SubsectionByte
+effect_of_subsection_byte escaped b =
     if b == 0 then Outside
     else if escaped then Stands
     else if b == 34 then Closes
@@ -23,42 +23,42 @@ subsection_byte escaped b =
     else Stands
 
 -- a subsection with more text before it
-abbrev pub behind_text : List ℕ → Quoted → Quoted
-behind_text more found = record { text = more ++ found.text; rest = found.rest }
+abbrev pub quoted_with_text_before : List ℕ → QuotedSubsection → QuotedSubsection
+quoted_with_text_before more found = record { text = more ++ found.text; rest = found.rest }
 
 -- a subsection, by what its first byte does, the rest of it behind a backslash or not, and the rest of the line
-abbrev pub quoted_by : ℕ → (Bool → Option Quoted) → List ℕ → SubsectionByte → Option Quoted
-quoted_by b behind bytes Outside = None
-quoted_by b behind bytes Closes = Some (record { text = []; rest = bytes })
-quoted_by b behind bytes Escapes = behind true
-quoted_by b behind bytes Stands = option_map (behind_text (b ∷ [])) (behind false)
+abbrev pub quoted_subsection_by_byte_effect : ℕ → (Bool → Option QuotedSubsection) → List ℕ → SubsectionByte → Option QuotedSubsection
+quoted_subsection_by_byte_effect b behind bytes Outside = None
+quoted_subsection_by_byte_effect b behind bytes Closes = Some (record { text = []; rest = bytes })
+quoted_subsection_by_byte_effect b behind bytes Escapes = behind true
+quoted_subsection_by_byte_effect b behind bytes Stands = option_map (quoted_with_text_before (b ∷ [])) (behind false)
 
 -- a subsection up to its closing quote, behind a backslash or not
-unfoldable pub quoted_from : Bool → List ℕ → Option Quoted
-quoted_from escaped [] = None
-quoted_from escaped (b ∷ bytes) = quoted_by b (λ e. quoted_from e bytes) bytes (subsection_byte escaped b)
+unfoldable pub parse_quoted_subsection : Bool → List ℕ → Option QuotedSubsection
+parse_quoted_subsection escaped [] = None
+parse_quoted_subsection escaped (b ∷ bytes) = quoted_subsection_by_byte_effect b (λ e. parse_quoted_subsection e bytes) bytes (effect_of_subsection_byte escaped b)
 
 -- a header, and what is behind its bracket
-pub record Headed : Type 0 where
+pub record HeaderAndRest : Type 0 where
   pub name : List ℕ
   pub subsection : Option (List ℕ)
   pub rest : List ℕ
 
 -- the bracket behind a subsection
-abbrev pub with_subsection : List ℕ → Option Quoted → Option Headed
-with_subsection name None = None
-with_subsection name (Some found) =
-    if begins_with 93 found.rest then Some (record { name = name; subsection = Some found.text; rest = drop 1 found.rest }) else None
+abbrev pub header_with_subsection : List ℕ → Option QuotedSubsection → Option HeaderAndRest
+header_with_subsection name None = None
+header_with_subsection name (Some found) =
+    if begins_with_byte 93 found.rest then Some (record { name = name; subsection = Some found.text; rest = drop 1 found.rest }) else None
 
 -- what is behind the name: the bracket, or blanks, a subsection and the bracket
-abbrev pub header_behind : List ℕ → List ℕ → Option Headed
-header_behind name rest =
-    if begins_with 93 rest then Some (record { name = name; subsection = None; rest = drop 1 rest })
-    else if begins is_blank rest && begins_with 34 (past_blanks rest) then with_subsection name (quoted_from false (drop 1 (past_blanks rest)))
+abbrev pub parse_header_after_name : List ℕ → List ℕ → Option HeaderAndRest
+parse_header_after_name name rest =
+    if begins_with_byte 93 rest then Some (record { name = name; subsection = None; rest = drop 1 rest })
+    else if first_byte_passes is_space_or_tab rest && begins_with_byte 34 (without_leading_blanks rest) then header_with_subsection name (parse_quoted_subsection false (drop 1 (without_leading_blanks rest)))
     else None
 
 -- a header, behind its opening bracket
-abbrev pub header_at : List ℕ → Option Headed
-header_at bytes =
-    if begins is_name_byte bytes then header_behind (take (run_length is_name_byte bytes) bytes) (drop (run_length is_name_byte bytes) bytes)
+abbrev pub parse_header_after_bracket : List ℕ → Option HeaderAndRest
+parse_header_after_bracket bytes =
+    if first_byte_passes is_section_name_byte bytes then parse_header_after_name (take (length_of_leading_run is_section_name_byte bytes) bytes) (drop (length_of_leading_run is_section_name_byte bytes) bytes)
     else None

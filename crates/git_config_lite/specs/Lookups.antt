@@ -6,117 +6,117 @@ use Rattle.std.specs.Prelude.{ℕ, List, [], ◌∷◌, ◌++◌, Bool, true, fa
 use Rattle.git_config_lite.specs.declared.metadata.Source.{Source}
 use Rattle.git_config_lite.specs.declared.entry.Entry.{Entry}
 use Rattle.git_config_lite.specs.Sections.{Section}
-use Rattle.git_config_lite.specs.Booleans.{folds, truth}
+use Rattle.git_config_lite.specs.Booleans.{is_equal_ignoring_ascii_case, parse_boolean}
 
 -- a subsection, or none, is this one
-abbrev pub is_subsection : Option (List ℕ) → Option (List ℕ) → Bool
-is_subsection None None = true
-is_subsection None (Some b) = false
-is_subsection (Some a) None = false
-is_subsection (Some a) (Some b) = bytes_eq a b
+abbrev pub is_same_subsection : Option (List ℕ) → Option (List ℕ) → Bool
+is_same_subsection None None = true
+is_same_subsection None (Some b) = false
+is_same_subsection (Some a) None = false
+is_same_subsection (Some a) (Some b) = bytes_eq a b
 
-abbrev pub is_section : List ℕ → Option (List ℕ) → Section → Bool
-is_section name subsection section = folds section.name name && is_subsection section.subsection subsection
+abbrev pub is_section_of_name_and_subsection : List ℕ → Option (List ℕ) → Section → Bool
+is_section_of_name_and_subsection name subsection section = is_equal_ignoring_ascii_case section.name name && is_same_subsection section.subsection subsection
 
-abbrev pub is_key : List ℕ → Entry → Bool
-is_key key e = folds e.key key
+abbrev pub entry_has_key : List ℕ → Entry → Bool
+entry_has_key key e = is_equal_ignoring_ascii_case e.key key
 
 -- the text of a value, where there is one
-abbrev pub text_of : Option (List ℕ) → List ℕ
-text_of value = unwrap_or value []
+abbrev pub value_or_empty_text : Option (List ℕ) → List ℕ
+value_or_empty_text value = unwrap_or value []
 
 -- ---- all values
 
 -- the values of a key among some keys, in order
-abbrev pub texts_of : List ℕ → List Entry → List (List ℕ)
-texts_of key [] = []
-texts_of key (e ∷ es) = if is_key key e then text_of e.value ∷ texts_of key es else texts_of key es
+abbrev pub values_of_key_in_entries : List ℕ → List Entry → List (List ℕ)
+values_of_key_in_entries key [] = []
+values_of_key_in_entries key (e ∷ es) = if entry_has_key key e then value_or_empty_text e.value ∷ values_of_key_in_entries key es else values_of_key_in_entries key es
 
 -- the keys of a section, if it is the one that is asked for
-abbrev pub entries_of : List ℕ → Option (List ℕ) → Section → List Entry
-entries_of name subsection section = if is_section name subsection section then section.entries else []
+abbrev pub entries_if_section_matches : List ℕ → Option (List ℕ) → Section → List Entry
+entries_if_section_matches name subsection section = if is_section_of_name_and_subsection name subsection section then section.entries else []
 
 -- All values of a key, in order.
-abbrev pub strings : List ℕ → Option (List ℕ) → List ℕ → List Section → List (List ℕ)
-strings name subsection key [] = []
-strings name subsection key (section ∷ sections) = texts_of key (entries_of name subsection section) ++ strings name subsection key sections
+abbrev pub all_string_values : List ℕ → Option (List ℕ) → List ℕ → List Section → List (List ℕ)
+all_string_values name subsection key [] = []
+all_string_values name subsection key (section ∷ sections) = values_of_key_in_entries key (entries_if_section_matches name subsection section) ++ all_string_values name subsection key sections
 
 -- ---- the last value
 
 -- the last of some keys that is this one
-abbrev pub last_entry : List ℕ → List Entry → Option Entry
-last_entry key es = find (λ e. is_key key e) (reverse es)
+abbrev pub last_entry_with_key : List ℕ → List Entry → Option Entry
+last_entry_with_key key es = find (λ e. entry_has_key key e) (reverse es)
 
 -- The text of a section's last value of a key.
-abbrev pub section_value : List ℕ → Section → Option (List ℕ)
-section_value key section = option_map (λ (e : Entry). text_of e.value) (last_entry key section.entries)
+abbrev pub last_value_in_section : List ℕ → Section → Option (List ℕ)
+last_value_in_section key section = option_map (λ (e : Entry). value_or_empty_text e.value) (last_entry_with_key key section.entries)
 
 -- a value, and what the section belongs to where it was found
-pub record Found : Type 0 where
+pub record FoundValueAndSource : Type 0 where
   pub value : Option (List ℕ)
   pub source : Source
 
-abbrev pub found_as : Source → Entry → Found
-found_as source e = record { value = e.value; source = source }
+abbrev pub found_value_of_entry : Source → Entry → FoundValueAndSource
+found_value_of_entry source e = record { value = e.value; source = source }
 
 -- the last value of a key in a section, if it is the one that is asked for
-abbrev pub found_in : List ℕ → Option (List ℕ) → List ℕ → Section → Option Found
-found_in name subsection key section = option_map (found_as section.meta.source) (last_entry key (entries_of name subsection section))
+abbrev pub last_value_in_matching_section : List ℕ → Option (List ℕ) → List ℕ → Section → Option FoundValueAndSource
+last_value_in_matching_section name subsection key section = option_map (found_value_of_entry section.meta.source) (last_entry_with_key key (entries_if_section_matches name subsection section))
 
 -- the first if there is one, else the other
-abbrev pub found_or : Option Found → Option Found → Option Found
-found_or None other = other
-found_or (Some found) other = Some found
+abbrev pub first_found_or_other : Option FoundValueAndSource → Option FoundValueAndSource → Option FoundValueAndSource
+first_found_or_other None other = other
+first_found_or_other (Some found) other = Some found
 
 -- what the first section gives that gives something
-abbrev pub first_found : List ℕ → Option (List ℕ) → List ℕ → List Section → Option Found
-first_found name subsection key [] = None
-first_found name subsection key (section ∷ sections) = found_or (found_in name subsection key section) (first_found name subsection key sections)
+abbrev pub value_of_first_section_with_key : List ℕ → Option (List ℕ) → List ℕ → List Section → Option FoundValueAndSource
+value_of_first_section_with_key name subsection key [] = None
+value_of_first_section_with_key name subsection key (section ∷ sections) = first_found_or_other (last_value_in_matching_section name subsection key section) (value_of_first_section_with_key name subsection key sections)
 
 -- The last value of a key: that of the last section that has one.
-abbrev pub last_found : List ℕ → Option (List ℕ) → List ℕ → List Section → Option Found
-last_found name subsection key sections = first_found name subsection key (reverse sections)
+abbrev pub last_value_in_sections : List ℕ → Option (List ℕ) → List ℕ → List Section → Option FoundValueAndSource
+last_value_in_sections name subsection key sections = value_of_first_section_with_key name subsection key (reverse sections)
 
-abbrev pub text_found : Found → List ℕ
-text_found found = text_of found.value
+abbrev pub text_of_found_value : FoundValueAndSource → List ℕ
+text_of_found_value found = value_or_empty_text found.value
 
-abbrev pub string : List ℕ → Option (List ℕ) → List ℕ → List Section → Option (List ℕ)
-string name subsection key sections = option_map text_found (last_found name subsection key sections)
+abbrev pub last_string_value : List ℕ → Option (List ℕ) → List ℕ → List Section → Option (List ℕ)
+last_string_value name subsection key sections = option_map text_of_found_value (last_value_in_sections name subsection key sections)
 
-abbrev pub text_and_source : Found → List ℕ × Source
-text_and_source found = (text_found found, found.source)
+abbrev pub text_and_source_of_found : FoundValueAndSource → List ℕ × Source
+text_and_source_of_found found = (text_of_found_value found, found.source)
 
-abbrev pub string_with_source : List ℕ → Option (List ℕ) → List ℕ → List Section → Option (List ℕ × Source)
-string_with_source name subsection key sections = option_map text_and_source (last_found name subsection key sections)
+abbrev pub last_string_with_source : List ℕ → Option (List ℕ) → List ℕ → List Section → Option (List ℕ × Source)
+last_string_with_source name subsection key sections = option_map text_and_source_of_found (last_value_in_sections name subsection key sections)
 
 -- ---- booleans
 
 -- a truth, or that the text is none
-abbrev pub truth_or : List ℕ → Option Bool → Result (Option Bool) (List ℕ)
-truth_or text None = Err text
-truth_or text (Some b) = Ok (Some b)
+abbrev pub boolean_or_text_error : List ℕ → Option Bool → Result (Option Bool) (List ℕ)
+boolean_or_text_error text None = Err text
+boolean_or_text_error text (Some b) = Ok (Some b)
 
-abbrev pub value_truth : Option (List ℕ) → Result (Option Bool) (List ℕ)
-value_truth None = Ok (Some true)
-value_truth (Some text) = truth_or text (truth text)
+abbrev pub boolean_of_value : Option (List ℕ) → Result (Option Bool) (List ℕ)
+boolean_of_value None = Ok (Some true)
+boolean_of_value (Some text) = boolean_or_text_error text (parse_boolean text)
 
-abbrev pub truth_found : Option Found → Result (Option Bool) (List ℕ)
-truth_found None = Ok None
-truth_found (Some found) = value_truth found.value
+abbrev pub boolean_of_found_value : Option FoundValueAndSource → Result (Option Bool) (List ℕ)
+boolean_of_found_value None = Ok None
+boolean_of_found_value (Some found) = boolean_of_value found.value
 
 -- What a key says as a boolean; its text, where that is none.
-abbrev pub boolean : List ℕ → Option (List ℕ) → List ℕ → List Section → Result (Option Bool) (List ℕ)
-boolean name subsection key sections = truth_found (last_found name subsection key sections)
+abbrev pub last_boolean_value : List ℕ → Option (List ℕ) → List ℕ → List Section → Result (Option Bool) (List ℕ)
+last_boolean_value name subsection key sections = boolean_of_found_value (last_value_in_sections name subsection key sections)
 
 -- ---- sections
 
 -- a section has the name that is asked for, if one is
-abbrev pub is_asked_for : Option (List ℕ) → Section → Bool
-is_asked_for None section = true
-is_asked_for (Some name) section = folds section.name name
+abbrev pub has_name_if_given : Option (List ℕ) → Section → Bool
+has_name_if_given None section = true
+has_name_if_given (Some name) section = is_equal_ignoring_ascii_case section.name name
 
 -- the sections that are asked for, in order
-abbrev pub sections_named : Option (List ℕ) → List Section → List Section
-sections_named name [] = []
-sections_named name (section ∷ sections) =
-    if is_asked_for name section then section ∷ sections_named name sections else sections_named name sections
+abbrev pub sections_of_name : Option (List ℕ) → List Section → List Section
+sections_of_name name [] = []
+sections_of_name name (section ∷ sections) =
+    if has_name_if_given name section then section ∷ sections_of_name name sections else sections_of_name name sections

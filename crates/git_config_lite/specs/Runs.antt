@@ -5,18 +5,18 @@
 use Rattle.std.specs.Prelude.{ℕ, ◌≡◌, ◌≤◌, ◌++◌, List, [], ◌∷◌, length, take, drop, ⊤}
 use Rattle.git_config_lite.specs.declared.run.Run.{Run}
 use Rattle.git_config_lite.specs.Sections.{Section}
-use Rattle.git_config_lite.specs.SectionPlaces.{IsIndexOf}
+use Rattle.git_config_lite.specs.SectionPlaces.{IsSortedIndexOfSections}
 
 -- a run is that of all sections behind some
-abbrev pub IsRunFrom : ℕ → List Section → Run → Type 0
-IsRunFrom start sections run = (run.start ≡ start) × IsIndexOf run.index (drop start sections)
+abbrev pub IsIndexRunFrom : ℕ → List Section → Run → Type 0
+IsIndexRunFrom start sections run = (run.start ≡ start) × IsSortedIndexOfSections run.index (drop start sections)
 
 -- runs, the last first, are those of sections
-abbrev pub AreRunsOf : List Run → List Section → Type 0
-AreRunsOf [] sections = ⊤
-AreRunsOf (run ∷ runs) sections =
-    (run.start ≤ length sections) × IsIndexOf run.index (drop run.start sections) × AreRunsOf runs (take run.start sections)
+abbrev pub AreIndexRunsOfSections : List Run → List Section → Type 0
+AreIndexRunsOfSections [] sections = ⊤
+AreIndexRunsOfSections (run ∷ runs) sections =
+    (run.start ≤ length sections) × IsSortedIndexOfSections run.index (drop run.start sections) × AreIndexRunsOfSections runs (take run.start sections)
 
 -- the last of some runs starts behind so many sections
-abbrev pub EndsWithRunAt : List Run → ℕ → Type 0
-EndsWithRunAt runs start = (before : List Run) × (last : Run) × (runs ≡ before ++ last ∷ []) × (last.start ≡ start)
+abbrev pub LastRunStartsAt : List Run → ℕ → Type 0
+LastRunStartsAt runs start = (before : List Run) × (last : Run) × (runs ≡ before ++ last ∷ []) × (last.start ≡ start)

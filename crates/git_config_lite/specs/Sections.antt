@@ -17,19 +17,19 @@ pub record Configuration : Type 0 where
   pub sections : List Section
 
 -- where several files are read together: in no file, and put together by the calling program
-abbrev pub joint_meta : Metadata
-joint_meta = record { source = Api; path = None }
+abbrev pub metadata_of_joined_files : Metadata
+metadata_of_joined_files = record { source = Api; path = None }
 
 -- a section without keys
 abbrev pub empty_section : List ℕ → Option (List ℕ) → Metadata → Section
 empty_section name subsection meta = record { name = name; subsection = subsection; meta = meta; entries = [] }
 
 -- a section with one more key at its end
-abbrev pub with_entry : Entry → Section → Section
-with_entry e section = record { name = section.name; subsection = section.subsection; meta = section.meta; entries = section.entries ++ e ∷ [] }
+abbrev pub section_with_entry : Entry → Section → Section
+section_with_entry e section = record { name = section.name; subsection = section.subsection; meta = section.meta; entries = section.entries ++ e ∷ [] }
 
 -- sections, the last of which has one more key
-abbrev pub adding_entry : Entry → List Section → List Section
-adding_entry e [] = []
-adding_entry e (section ∷ []) = with_entry e section ∷ []
-adding_entry e (section ∷ next ∷ more) = section ∷ adding_entry e (next ∷ more)
+abbrev pub sections_with_entry_in_last : Entry → List Section → List Section
+sections_with_entry_in_last e [] = []
+sections_with_entry_in_last e (section ∷ []) = section_with_entry e section ∷ []
+sections_with_entry_in_last e (section ∷ next ∷ more) = section ∷ sections_with_entry_in_last e (next ∷ more)

@@ -4,23 +4,23 @@ use Rattle.std.specs.Borrow.{Bor}
 use Rattle.git_config_lite.specs.declared.subsection.QuotedText.{QuotedText}
 use Rattle.git_config_lite.specs.declared.header.HeadedLine.{HeadedLine}
 use Rattle.git_config_lite.specs.declared.key.KeyedLine.{KeyedLine}
-use Rattle.git_config_lite.specs.Headers.{Quoted, Headed}
-use Rattle.git_config_lite.specs.Keys.{Keyed}
+use Rattle.git_config_lite.specs.Headers.{QuotedSubsection, HeaderAndRest}
+use Rattle.git_config_lite.specs.Keys.{KeyAndText}
 use Rattle.git_config_lite.specs.declared.metadata.Source.{Source}
 use Rattle.git_config_lite.specs.declared.found.FoundValue.{FoundValue}
-use Rattle.git_config_lite.specs.Lookups.{Found}
+use Rattle.git_config_lite.specs.Lookups.{FoundValueAndSource}
 
-abbrev pub quoted : QuotedText → Quoted
-quoted q = record { text = q.text; rest = q.rest.now }
+abbrev pub subsection_of_quoted_text : QuotedText → QuotedSubsection
+subsection_of_quoted_text q = record { text = q.text; rest = q.rest.now }
 
-abbrev pub headed : HeadedLine → Headed
-headed h = record { name = h.name.now; subsection = h.subsection; rest = h.rest.now }
+abbrev pub header_of_headed_line : HeadedLine → HeaderAndRest
+header_of_headed_line h = record { name = h.name.now; subsection = h.subsection; rest = h.rest.now }
 
-abbrev pub keyed : KeyedLine → Keyed
-keyed k = record { key = k.key.now; text = option_copied k.text }
+abbrev pub key_of_keyed_line : KeyedLine → KeyAndText
+key_of_keyed_line k = record { key = k.key.now; text = option_copied k.text }
 
-abbrev pub found : FoundValue → Found
+abbrev pub found : FoundValue → FoundValueAndSource
 found f = record { value = option_copied f.value; source = f.source }
 
-abbrev pub text_and_source_of : Bor (List ℕ) × Source → List ℕ × Source
-text_and_source_of p = (p.0.now, p.1)
+abbrev pub text_and_source_from_reference : Bor (List ℕ) × Source → List ℕ × Source
+text_and_source_from_reference p = (p.0.now, p.1)

@@ -4,43 +4,43 @@
 -- tabs at the start of a line are skipped. A comment begins with `#` or `;`.
 use Rattle.std.specs.Prelude.{ℕ, List, [], ◌∷◌, Bool, true, false, not, ◌==◌, ◌||◌, length, map, position, unwrap_or, if◌then◌else◌}
 use Rattle.bstr.specs.Text.{lines_of, without_terminator}
-pub use Rattle.gitbase_core.specs.Letters.{is_blank, is_letter, is_digit}
-pub use Rattle.gitbase_core.specs.Text.{without_mark}
+pub use Rattle.gitbase_core.specs.Letters.{is_space_or_tab, is_ascii_letter, is_decimal_digit}
+pub use Rattle.gitbase_core.specs.Text.{without_byte_order_mark}
 
 -- the lines of a text, without their ends
-abbrev pub text_lines : List ℕ → List (List ℕ)
-text_lines text = map without_terminator (lines_of (without_mark text))
+abbrev pub lines_without_terminators : List ℕ → List (List ℕ)
+lines_without_terminators text = map without_terminator (lines_of (without_byte_order_mark text))
 
 -- `#` or `;`
-abbrev pub begins_comment : ℕ → Bool
-begins_comment b = b == 35 || b == 59
+abbrev pub is_comment_mark : ℕ → Bool
+is_comment_mark b = b == 35 || b == 59
 
 -- a byte of a key: a letter, a digit or a hyphen
 abbrev pub is_key_byte : ℕ → Bool
-is_key_byte b = is_letter b || (is_digit b || b == 45)
+is_key_byte b = is_ascii_letter b || (is_decimal_digit b || b == 45)
 
 -- a byte of the name of a section: one of a key, or a dot
-abbrev pub is_name_byte : ℕ → Bool
-is_name_byte b = is_key_byte b || b == 46
+abbrev pub is_section_name_byte : ℕ → Bool
+is_section_name_byte b = is_key_byte b || b == 46
 
 -- the first byte there is passes a test
-abbrev pub begins : (ℕ → Bool) → List ℕ → Bool
-begins test [] = false
-begins test (b ∷ _) = test b
+abbrev pub first_byte_passes : (ℕ → Bool) → List ℕ → Bool
+first_byte_passes test [] = false
+first_byte_passes test (b ∷ _) = test b
 
-abbrev pub begins_with : ℕ → List ℕ → Bool
-begins_with c bytes = begins (λ b. b == c) bytes
+abbrev pub begins_with_byte : ℕ → List ℕ → Bool
+begins_with_byte c bytes = first_byte_passes (λ b. b == c) bytes
 
 -- what is behind the spaces and tabs at the start
-abbrev pub past_blanks : List ℕ → List ℕ
-past_blanks [] = []
-past_blanks (b ∷ bytes) = if is_blank b then past_blanks bytes else b ∷ bytes
+abbrev pub without_leading_blanks : List ℕ → List ℕ
+without_leading_blanks [] = []
+without_leading_blanks (b ∷ bytes) = if is_space_or_tab b then without_leading_blanks bytes else b ∷ bytes
 
 -- nothing is left of a line, or a comment
-abbrev pub says_nothing : List ℕ → Bool
-says_nothing [] = true
-says_nothing (b ∷ _) = begins_comment b
+abbrev pub is_empty_or_comment : List ℕ → Bool
+is_empty_or_comment [] = true
+is_empty_or_comment (b ∷ _) = is_comment_mark b
 
 -- how many bytes stand before the first one that is not of a kind
-abbrev pub run_length : (ℕ → Bool) → List ℕ → ℕ
-run_length test bytes = unwrap_or (position (λ b. not (test b)) bytes) (length bytes)
+abbrev pub length_of_leading_run : (ℕ → Bool) → List ℕ → ℕ
+length_of_leading_run test bytes = unwrap_or (position (λ b. not (test b)) bytes) (length bytes)

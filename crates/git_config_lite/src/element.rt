@@ -2,7 +2,7 @@
 ghost use Rattle.std.specs.Prelude.{◌≡◌};
 ghost use Rattle.git_config_lite.specs.Values as values;
 
-use crate::text::{begins_comment, is_blank};
+use crate::text::{is_comment_mark, is_space_or_tab};
 
 /// A part of a value.
 #[derive(Clone, Copy, Debug, PartialEq, Eq)]
@@ -38,8 +38,8 @@ pub enum ValueByte {
 }
 
 /// What a byte does behind a backslash.
-fn escaped_byte(byte: u8) -> ValueByte
-    ensures { result ≡ values.escape (values.unescaped byte) }
+fn effect_of_byte_after_backslash(byte: u8) -> ValueByte
+    ensures { result ≡ values.effect_of_unescaped_byte (values.byte_for_escape_letter byte) }
 {
     match byte {
         b'"' => ValueByte::Gives(Element::Plain(b'"')),
@@ -52,12 +52,12 @@ fn escaped_byte(byte: u8) -> ValueByte
 }
 
 /// What a byte does outside double quotes that is no quote and no backslash.
-fn bare_byte(byte: u8) -> ValueByte
-    ensures { result ≡ values.bare_byte byte }
+fn effect_of_unquoted_byte(byte: u8) -> ValueByte
+    ensures { result ≡ values.effect_of_unquoted_byte byte }
 {
-    if is_blank(byte) {
+    if is_space_or_tab(byte) {
         ValueByte::Gives(Element::Blank(byte))
-    } else if begins_comment(byte) {
+    } else if is_comment_mark(byte) {
         ValueByte::Ends
     } else {
         ValueByte::Gives(Element::Plain(byte))
@@ -65,11 +65,11 @@ fn bare_byte(byte: u8) -> ValueByte
 }
 
 /// What a byte does at a place.
-pub fn value_byte(place: Place, byte: u8) -> ValueByte
-    ensures { result ≡ values.value_byte place byte }
+pub fn effect_of_value_byte(place: Place, byte: u8) -> ValueByte
+    ensures { result ≡ values.effect_of_value_byte place byte }
 {
     if place.is_escaped {
-        escaped_byte(byte)
+        effect_of_byte_after_backslash(byte)
     } else if byte == b'\\' {
         ValueByte::Escapes
     } else if byte == b'"' {
@@ -77,13 +77,13 @@ pub fn value_byte(place: Place, byte: u8) -> ValueByte
     } else if place.is_quoted {
         ValueByte::Gives(Element::Plain(byte))
     } else {
-        bare_byte(byte)
+        effect_of_unquoted_byte(byte)
     }
 }
 
 /// The place behind an element.
-pub fn behind_element(place: Place, element: Element) -> Place
-    ensures { result ≡ values.behind_element place element }
+pub fn place_after_element(place: Place, element: Element) -> Place
+    ensures { result ≡ values.place_after_element place element }
 {
     let is_quoted = match element {
         Element::Quote => !place.is_quoted,

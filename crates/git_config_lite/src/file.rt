@@ -2,7 +2,7 @@
 ghost use Rattle.std.specs.Prelude.{◌≡◌, ◌<◌, [], Some, length, option_copied, option_map, IfOk, IsTrue, OnOk, OnErr};
 ghost use Rattle.git_config_lite.specs.Lookups as lookups;
 ghost use Rattle.git_config_lite.specs.Writers as writers;
-ghost use Rattle.git_config_lite.specs.Gives.{ParseGives, truth_seen};
+ghost use Rattle.git_config_lite.specs.Gives.{ParseAgreesWithGrammar, boolean_with_error_text};
 ghost use Rattle.git_config_lite.specs.Seen as seen;
 
 use crate::draft::read;
@@ -10,11 +10,11 @@ use crate::entry::Entry;
 use crate::error::{ParseError, ValueError};
 use crate::found::FoundValue;
 use crate::iterators::{Sections, Values};
-use crate::lookup::{text_of, truth_found};
+use crate::lookup::{boolean_of_found_value, value_or_empty_text};
 use crate::metadata::{Metadata, Source};
 use crate::run::Run;
-use crate::runs::{last_in_runs, runs_of};
-use crate::section::{Section, add_entry};
+use crate::runs::{extend_runs_to_all_sections, last_value_in_runs};
+use crate::section::{Section, push_entry_to_last_section};
 use gitbase_core::{Bytes, OutOfMemory};
 use std::alloc::Global;
 use std::marker::Model;
@@ -35,13 +35,13 @@ pub struct File {
 impl Model for File {
     ghost use Rattle.std.specs.Prelude.{reverse};
     ghost use Rattle.git_config_lite.specs.Sections.{Configuration};
-    ghost use Rattle.git_config_lite.specs.Runs.{AreRunsOf};
+    ghost use Rattle.git_config_lite.specs.Runs.{AreIndexRunsOfSections};
 
     ghost Value = { Configuration };
 
     ghost view = { λ file. record { meta = file.meta; sections = file.sections.items } };
 
-    ghost invariant = { λ file. AreRunsOf (reverse file.runs.items) file.sections.items };
+    ghost invariant = { λ file. AreIndexRunsOfSections (reverse file.runs.items) file.sections.items };
 }
 
 impl File {
@@ -65,7 +65,7 @@ impl File {
     ///   goes on over several lines is named by the line on which it stands.
     /// - `OutOfMemory` for want of memory.
     pub fn from_bytes(alloc: Global, bytes: &[u8], meta: Metadata) -> Result<File, ParseError>
-        ensures { ParseGives result meta bytes.now }
+        ensures { ParseAgreesWithGrammar result meta bytes.now }
     {
         let draft = read(alloc, &meta, bytes)?;
         Ok(File::from_sections(alloc, meta, draft.sections))
@@ -77,7 +77,7 @@ impl File {
         ensures sections { result.sections ≡ sections.items }
         ensures meta { result.meta ≡ meta }
     {
-        let runs = runs_of(alloc, Vec::new(alloc), &sections, 0);
+        let runs = extend_runs_to_all_sections(alloc, Vec::new(alloc), &sections, 0);
         File {
             meta,
             sections,
@@ -87,10 +87,10 @@ impl File {
 
     /// The last value of a key in the sections of a name and subsection.
     fn found(&self, section: &[u8], subsection: Option<&[u8]>, key: &[u8]) -> Option<FoundValue<'_>>
-        ensures { option_map seen.found result ≡ lookups.last_found section.now
+        ensures { option_map seen.found result ≡ lookups.last_value_in_sections section.now
             (option_copied subsection.entry) key.now self.now.sections }
     {
-        last_in_runs(&self.runs, &self.sections, section, subsection, key)
+        last_value_in_runs(&self.runs, &self.sections, section, subsection, key)
     }
 
     /// The sections, in their order; takes no memory.
@@ -110,9 +110,9 @@ impl File {
     /// The sections of a name, in order, whatever their subsections. The name is compared without
     /// regard to the case of ASCII letters.
     pub fn sections_by_name<'a>(&'a self, name: &'a [u8]) -> Sections<'a>
-        ensures { result ≡ lookups.sections_named (Some name.now) self.now.sections }
+        ensures { result ≡ lookups.sections_of_name (Some name.now) self.now.sections }
     {
-        Sections::named(&self.sections, name)
+        Sections::filtered_by_name(&self.sections, name)
     }
 
     /// All sections, in order.
@@ -128,11 +128,11 @@ impl File {
     /// Names and keys are compared without regard to the case of ASCII letters, subsections by
     /// their bytes; without a subsection only sections without one are asked.
     pub fn string(&self, section: &[u8], subsection: Option<&[u8]>, key: &[u8]) -> Option<&[u8]>
-        ensures { option_copied result ≡ lookups.string section.now
+        ensures { option_copied result ≡ lookups.last_string_value section.now
             (option_copied subsection.entry) key.now self.now.sections }
     {
         match self.found(section, subsection, key) {
-            Some(found) => Some(text_of(found.value)),
+            Some(found) => Some(value_or_empty_text(found.value)),
             None => None,
         }
     }
@@ -144,12 +144,12 @@ impl File {
         subsection: Option<&[u8]>,
         key: &[u8],
     ) -> Option<(&[u8], Source)>
-        ensures { option_map seen.text_and_source_of result
-            ≡ lookups.string_with_source section.now (option_copied subsection.entry) key.now
+        ensures { option_map seen.text_and_source_from_reference result
+            ≡ lookups.last_string_with_source section.now (option_copied subsection.entry) key.now
             self.now.sections }
     {
         match self.found(section, subsection, key) {
-            Some(found) => Some((text_of(found.value), found.source)),
+            Some(found) => Some((value_or_empty_text(found.value), found.source)),
             None => None,
         }
     }
@@ -162,7 +162,7 @@ impl File {
         subsection: Option<&'a [u8]>,
         key: &'a [u8],
     ) -> Values<'a>
-        ensures { result ≡ lookups.strings section.now
+        ensures { result ≡ lookups.all_string_values section.now
             (option_copied subsection.entry) key.now self.now.sections }
     {
         Values::new(&self.sections, section, subsection, key)
@@ -179,10 +179,10 @@ impl File {
         subsection: Option<&[u8]>,
         key: &[u8],
     ) -> Result<Option<bool>, ValueError<'_>>
-        ensures { truth_seen result ≡ lookups.boolean section.now
+        ensures { boolean_with_error_text result ≡ lookups.last_boolean_value section.now
             (option_copied subsection.entry) key.now self.now.sections }
     {
-        truth_found(self.found(section, subsection, key))
+        boolean_of_found_value(self.found(section, subsection, key))
     }
 
     /// Adds the sections of another configuration behind these. They keep where they were read, and
@@ -192,7 +192,8 @@ impl File {
     /// configurations that are appended one after another each section is sorted anew only where no
     /// fewer stand behind it, so a logarithm of their number of times.
     pub fn append(&mut self, alloc: Global, other: File) -> Result<(), OutOfMemory>
-        ensures appended { OnOk result (self.new ≡ writers.appended self.old other) }
+        ensures appended { OnOk result (self.new ≡ writers.configuration_with_other_appended
+            self.old other) }
         ensures refused { OnErr result (self.new ≡ self.old) }
     {
         let File {
@@ -208,7 +209,7 @@ impl File {
         let runs = mem::replace(&mut self.runs, Vec::new(alloc));
         self.sections.append(&mut sections)?;
         if is_indexed {
-            self.runs = runs_of(alloc, runs, &self.sections, start);
+            self.runs = extend_runs_to_all_sections(alloc, runs, &self.sections, start);
         }
         Ok(())
     }
@@ -226,9 +227,9 @@ impl File {
         name: &[u8],
         subsection: &[u8],
     ) -> Result<(), OutOfMemory>
-        requires { IsTrue (writers.is_name name.now) }
+        requires { IsTrue (writers.is_section_name name.now) }
         ensures pushed { OnOk result
-            (self.new ≡ writers.with_section self.old name.now subsection.now) }
+            (self.new ≡ writers.configuration_with_empty_section self.old name.now subsection.now) }
         ensures refused { OnErr result (self.new ≡ self.old) }
     {
         let subsection = Bytes::from_slice(alloc, subsection)?;
@@ -245,7 +246,8 @@ impl File {
     pub fn push_value(&mut self, alloc: Global, key: &[u8], value: &[u8]) -> Result<(), OutOfMemory>
         requires section { 0 < length self.old.sections }
         requires key { IsTrue (writers.is_key_name key.now) }
-        ensures pushed { OnOk result (self.new ≡ writers.with_value self.old key.now value.now) }
+        ensures pushed { OnOk result (self.new ≡ writers.configuration_with_value self.old key.now
+            value.now) }
         ensures refused { OnErr result (self.new ≡ self.old) }
     {
         let entry = Entry {
@@ -253,6 +255,6 @@ impl File {
             value: Some(Bytes::from_slice(alloc, value)?),
         };
         self.runs.clear();
-        add_entry(&mut self.sections, entry)
+        push_entry_to_last_section(&mut self.sections, entry)
     }
 }

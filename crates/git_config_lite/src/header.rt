@@ -3,9 +3,10 @@ ghost use Rattle.std.specs.Prelude.{◌≡◌, option_map, IfOk};
 ghost use Rattle.git_config_lite.specs.Headers as headers;
 ghost use Rattle.git_config_lite.specs.Seen as seen;
 
-use crate::subsection::{QuotedText, quoted};
+use crate::subsection::{QuotedText, parse_quoted_subsection};
 use crate::text::{
-    begins_with, begins_with_blank, begins_with_name, behind_first, name_length, past_blanks,
+    begins_with_byte, begins_with_section_name_byte, begins_with_space_or_tab,
+    bytes_after_first_byte, length_of_leading_section_name, without_leading_blanks,
 };
 use gitbase_core::{Bytes, OutOfMemory};
 use std::alloc::Global;
@@ -19,61 +20,68 @@ pub struct HeadedLine<'a> {
 }
 
 /// The header of a name and a subsection, where the bracket follows.
-fn with_subsection<'a>(name: &'a [u8], found: Option<QuotedText<'a>>) -> Option<HeadedLine<'a>>
-    ensures { option_map seen.headed result
-        ≡ headers.with_subsection name.now (option_map seen.quoted found.entry) }
+fn header_with_subsection<'a>(
+    name: &'a [u8],
+    found: Option<QuotedText<'a>>,
+) -> Option<HeadedLine<'a>>
+    ensures { option_map seen.header_of_headed_line result ≡ headers.header_with_subsection name.now
+        (option_map seen.subsection_of_quoted_text found.entry) }
 {
     let Some(found) = found else {
         return None;
     };
-    if !begins_with(b']', found.rest) {
+    if !begins_with_byte(b']', found.rest) {
         return None;
     }
     Some(HeadedLine {
         name,
         subsection: Some(found.text),
-        rest: behind_first(found.rest),
+        rest: bytes_after_first_byte(found.rest),
     })
 }
 
 /// The header of a name, by what is behind that.
 /// See docs/DIFFERENCES.md#config-nameless-header.
 /// See docs/DIFFERENCES.md#config-dotted-section.
-fn header_behind<'a>(
+fn parse_header_after_name<'a>(
     alloc: Global,
     name: &'a [u8],
     rest: &'a [u8],
 ) -> Result<Option<HeadedLine<'a>>, OutOfMemory>
-    ensures { IfOk result
-        (λ found. option_map seen.headed found ≡ headers.header_behind name.now rest.now) }
+    ensures { IfOk result (λ found. option_map seen.header_of_headed_line found
+        ≡ headers.parse_header_after_name name.now rest.now) }
 {
-    if begins_with(b']', rest) {
+    if begins_with_byte(b']', rest) {
         return Ok(Some(HeadedLine {
             name,
             subsection: None,
-            rest: behind_first(rest),
+            rest: bytes_after_first_byte(rest),
         }));
     }
-    if !begins_with_blank(rest) {
+    if !begins_with_space_or_tab(rest) {
         return Ok(None);
     }
-    let opened = past_blanks(rest);
-    if !begins_with(b'"', opened) {
+    let opened = without_leading_blanks(rest);
+    if !begins_with_byte(b'"', opened) {
         return Ok(None);
     }
-    let found = quoted(alloc, behind_first(opened))?;
-    Ok(with_subsection(name, found))
+    let found = parse_quoted_subsection(alloc, bytes_after_first_byte(opened))?;
+    Ok(header_with_subsection(name, found))
 }
 
 /// The header at the start of some bytes, behind its opening bracket. None where it is outside the
 /// grammar. See docs/DIFFERENCES.md#config-second-header. See
 /// docs/DIFFERENCES.md#config-open-header.
-pub fn header_at(alloc: Global, bytes: &[u8]) -> Result<Option<HeadedLine<'_>>, OutOfMemory>
-    ensures { IfOk result (λ found. option_map seen.headed found ≡ headers.header_at bytes.now) }
+pub fn parse_header_after_bracket(
+    alloc: Global,
+    bytes: &[u8],
+) -> Result<Option<HeadedLine<'_>>, OutOfMemory>
+    ensures { IfOk result (λ found. option_map seen.header_of_headed_line found
+        ≡ headers.parse_header_after_bracket bytes.now) }
 {
-    if !begins_with_name(bytes) {
+    if !begins_with_section_name_byte(bytes) {
         return Ok(None);
     }
-    let (name, rest) = bytes.split_at(name_length(bytes));
-    header_behind(alloc, name, rest)
+    let (name, rest) = bytes.split_at(length_of_leading_section_name(bytes));
+    parse_header_after_name(alloc, name, rest)
 }

@@ -5,7 +5,7 @@ ghost use Rattle.std.specs.List.Sorted.{IsSortedBy};
 ghost use Rattle.std.specs.Cmp.Lexicographic.{slice_cmp};
 ghost use Rattle.std.specs.Ordering.{nat_cmp, is_lt};
 ghost use Rattle.git_config_lite.specs.SectionPlaces as spots;
-ghost use Rattle.git_config_lite.specs.Lookups.{last_found};
+ghost use Rattle.git_config_lite.specs.Lookups.{last_value_in_sections};
 ghost use Rattle.git_config_lite.specs.Seen as seen;
 
 use crate::found::FoundValue;
@@ -27,18 +27,18 @@ impl Model for Index {
     ghost use Rattle.std.specs.Prelude.{List};
     ghost use Rattle.std.specs.List.Sorted.{IsSortedBy};
     ghost use Rattle.git_config_lite.specs.declared.section_place.SectionPlace as declared;
-    ghost use Rattle.git_config_lite.specs.SectionPlaces.{is_before};
+    ghost use Rattle.git_config_lite.specs.SectionPlaces.{is_place_key_before};
 
     ghost Value = { List declared.SectionPlace };
 
     ghost view = { λ index. index.places.items };
 
-    ghost invariant = { λ index. IsSortedBy is_before index.places.items };
+    ghost invariant = { λ index. IsSortedBy is_place_key_before index.places.items };
 }
 
 /// The text by which a section of a subsection is found.
-fn key_of(subsection: Option<&[u8]>) -> &[u8]
-    ensures { result.now ≡ spots.key_of (option_copied subsection.entry) }
+fn subsection_or_empty_text(subsection: Option<&[u8]>) -> &[u8]
+    ensures { result.now ≡ spots.subsection_or_empty_text (option_copied subsection.entry) }
 {
     match subsection {
         Some(text) => text,
@@ -47,13 +47,13 @@ fn key_of(subsection: Option<&[u8]>) -> &[u8]
 }
 
 /// The places of sections, in their order.
-fn places_of(alloc: Global, sections: &[Section]) -> Result<Vec<SectionPlace>, OutOfMemory>
-    ensures { IfOk result (λ made. made.items ≡ spots.places_from 0 sections.now) }
+fn places_of_sections(alloc: Global, sections: &[Section]) -> Result<Vec<SectionPlace>, OutOfMemory>
+    ensures { IfOk result (λ made. made.items ≡ spots.places_numbered_from 0 sections.now) }
 {
     let mut made = Vec::with_capacity(alloc, sections.len())?;
     for section in sections {
         let place = SectionPlace {
-            key: Bytes::from_slice(alloc, key_of(section.subsection_name()))?,
+            key: Bytes::from_slice(alloc, subsection_or_empty_text(section.subsection_name()))?,
             number: made.len(),
         };
         made.push(place)?;
@@ -62,27 +62,27 @@ fn places_of(alloc: Global, sections: &[Section]) -> Result<Vec<SectionPlace>, O
 }
 
 /// Whether the text of a place is less than this one.
-fn is_below(place: &SectionPlace, key: &[u8]) -> bool
+fn is_place_key_below(place: &SectionPlace, key: &[u8]) -> bool
     ensures { result ≡ is_lt (slice_cmp nat_cmp place.now.key key.now) }
 {
     place.key.as_bytes().cmp(&key).is_lt()
 }
 
 /// Whether the text of a place is not greater than this one.
-fn is_up_to(place: &SectionPlace, key: &[u8]) -> bool
+fn is_place_key_at_most(place: &SectionPlace, key: &[u8]) -> bool
     ensures { result ≡ not (is_lt (slice_cmp nat_cmp key.now place.now.key)) }
 {
     !key.cmp(&place.key.as_bytes()).is_lt()
 }
 
 /// The places of a text, which stand beside one another.
-fn run_of<'a>(places: &'a [SectionPlace], key: &[u8]) -> &'a [SectionPlace]
-    requires { IsSortedBy spots.is_before places.now }
-    ensures { result.now ≡ filter (spots.has_key key.now) places.now }
+fn places_with_key<'a>(places: &'a [SectionPlace], key: &[u8]) -> &'a [SectionPlace]
+    requires { IsSortedBy spots.is_place_key_before places.now }
+    ensures { result.now ≡ filter (spots.place_has_key key.now) places.now }
 {
-    let start = places.partition_point(|place| is_below(place, key));
+    let start = places.partition_point(|place| is_place_key_below(place, key));
     let (_, rest) = places.split_at(start);
-    let length = rest.partition_point(|place| is_up_to(place, key));
+    let length = rest.partition_point(|place| is_place_key_at_most(place, key));
     let (run, _) = rest.split_at(length);
     run
 }
@@ -90,26 +90,26 @@ fn run_of<'a>(places: &'a [SectionPlace], key: &[u8]) -> &'a [SectionPlace]
 impl Index {
     /// The index of sections; fails only where memory is refused.
     pub fn new(alloc: Global, sections: &[Section]) -> Result<Index, OutOfMemory>
-        ensures { IfOk result (λ index. spots.IsIndexOf index sections.now) }
+        ensures { IfOk result (λ index. spots.IsSortedIndexOfSections index sections.now) }
     {
-        let mut made = places_of(alloc, sections)?;
+        let mut made = places_of_sections(alloc, sections)?;
         made.sort_by(|a, b| a.key.as_bytes().cmp(b.key.as_bytes()))?;
         Ok(Index { places: made })
     }
 
     /// The last value of a key in the sections of a name and subsection, of which these are all.
-    pub fn last_found<'a>(
+    pub fn last_value_by_index<'a>(
         &self,
         sections: &'a [Section],
         name: &[u8],
         subsection: Option<&[u8]>,
         key: &[u8],
     ) -> Option<FoundValue<'a>>
-        requires { spots.IsIndexOf self.now sections.now }
-        ensures { option_map seen.found result
-            ≡ last_found name.now (option_copied subsection.entry) key.now sections.now }
+        requires { spots.IsSortedIndexOfSections self.now sections.now }
+        ensures { option_map seen.found result ≡ last_value_in_sections name.now
+            (option_copied subsection.entry) key.now sections.now }
     {
-        let run = run_of(&self.places, key_of(subsection));
+        let run = places_with_key(&self.places, subsection_or_empty_text(subsection));
         last_value_at_places(sections, run, name, subsection, key)
     }
 }
@@ -122,15 +122,14 @@ fn last_value_at_places<'a>(
     subsection: Option<&[u8]>,
     key: &[u8],
 ) -> Option<FoundValue<'a>>
-    ensures { option_map seen.found result
-        ≡ spots.first_placed name.now (option_copied subsection.entry) key.now sections.now
-        (reverse run.now) }
+    ensures { option_map seen.found result ≡ spots.value_of_first_place_with_key name.now
+        (option_copied subsection.entry) key.now sections.now (reverse run.now) }
 {
     let mut at = run.len();
     while at > 0 {
         at -= 1;
-        let section = section_at(sections, run[at].number);
-        if let Some(found) = found_at(section, name, subsection, key) {
+        let section = section_with_number(sections, run[at].number);
+        if let Some(found) = last_value_in_optional_section(section, name, subsection, key) {
             return Some(found);
         }
     }
@@ -138,21 +137,21 @@ fn last_value_at_places<'a>(
 }
 
 /// The section before which so many others stand.
-fn section_at(sections: &[Section], number: usize) -> Option<&Section>
+fn section_with_number(sections: &[Section], number: usize) -> Option<&Section>
     ensures { option_copied result ≡ slice_get sections.now number }
 {
     sections.get(number)
 }
 
 /// The last value of a key in a section, if it is there and the one that is asked for.
-fn found_at<'a>(
+fn last_value_in_optional_section<'a>(
     section: Option<&'a Section>,
     name: &[u8],
     subsection: Option<&[u8]>,
     key: &[u8],
 ) -> Option<FoundValue<'a>>
     ensures { option_map seen.found result
-        ≡ spots.found_at name.now (option_copied subsection.entry) key.now
+        ≡ spots.last_value_in_optional_section name.now (option_copied subsection.entry) key.now
         (option_copied section.entry) }
 {
     match section {

@@ -3,7 +3,7 @@ ghost use Rattle.std.specs.Prelude.{◌≡◌, ◌∷◌, [], Some, option_copie
 ghost use Rattle.std.specs.Iterator.{YieldsFirstRef, item_count};
 ghost use Rattle.git_config_lite.specs.Lookups as lookups;
 
-use crate::left::{Left, next_value};
+use crate::left::{Left, next_value_and_rest};
 use crate::section::Section;
 use std::marker::Model;
 
@@ -19,11 +19,11 @@ pub struct Sections<'a> {
 impl<'a> Model for Sections<'a> {
     ghost use Rattle.std.specs.Prelude.{List, option_copied};
     ghost use Rattle.git_config_lite.specs.Sections as words;
-    ghost use Rattle.git_config_lite.specs.Lookups.{sections_named};
+    ghost use Rattle.git_config_lite.specs.Lookups.{sections_of_name};
 
     ghost Value = { List words.Section };
 
-    ghost view = { λ left. sections_named (option_copied left.name) left.rest.now };
+    ghost view = { λ left. sections_of_name (option_copied left.name) left.rest.now };
 }
 
 impl<'a> Sections<'a> {
@@ -38,8 +38,8 @@ impl<'a> Sections<'a> {
     }
 
     /// The sections of a name.
-    pub(crate) fn named(sections: &'a [Section], name: &'a [u8]) -> Sections<'a>
-        ensures { result ≡ lookups.sections_named (Some name.now) sections.now }
+    pub(crate) fn filtered_by_name(sections: &'a [Section], name: &'a [u8]) -> Sections<'a>
+        ensures { result ≡ lookups.sections_of_name (Some name.now) sections.now }
     {
         Sections {
             rest: sections,
@@ -56,15 +56,15 @@ impl<'a> Iterator for Sections<'a> {
     ghost remaining = { item_count (λ left. left) };
 
     fn next(&mut self) -> Option<&'a Section> {
-        let (section, rest) = first_section(self.rest, self.name)?;
+        let (section, rest) = first_section_of_name_and_rest(self.rest, self.name)?;
         self.rest = rest;
         Some(section)
     }
 }
 
 /// Whether a section has a name, where one is asked for.
-fn is_asked_for(section: &Section, name: Option<&[u8]>) -> bool
-    ensures { result ≡ lookups.is_asked_for (option_copied name.entry) section.now }
+fn has_name_if_given(section: &Section, name: Option<&[u8]>) -> bool
+    ensures { result ≡ lookups.has_name_if_given (option_copied name.entry) section.now }
 {
     match name {
         Some(name) => section.is_named(name),
@@ -73,18 +73,18 @@ fn is_asked_for(section: &Section, name: Option<&[u8]>) -> bool
 }
 
 /// The first section of a name, and those behind it.
-fn first_section<'a>(
+fn first_section_of_name_and_rest<'a>(
     sections: &'a [Section],
     name: Option<&[u8]>,
 ) -> Option<(&'a Section, &'a [Section])>
     ensures { MatchOption result
-        (lookups.sections_named (option_copied name.entry) sections.now ≡ [])
-        (λ found. lookups.sections_named (option_copied name.entry) sections.now
-        ≡ found.0.now ∷ lookups.sections_named (option_copied name.entry) found.1.now) }
+        (lookups.sections_of_name (option_copied name.entry) sections.now ≡ [])
+        (λ found. lookups.sections_of_name (option_copied name.entry) sections.now
+        ≡ found.0.now ∷ lookups.sections_of_name (option_copied name.entry) found.1.now) }
 {
     let mut rest = sections;
     while let Some((section, after)) = rest.split_first() {
-        if is_asked_for(section, name) {
+        if has_name_if_given(section, name) {
             return Some((section, after));
         }
         rest = after;
@@ -102,11 +102,11 @@ pub struct Values<'a> {
 
 impl<'a> Model for Values<'a> {
     ghost use Rattle.std.specs.Prelude.{ℕ, List};
-    ghost use Rattle.git_config_lite.specs.Left.{texts_left};
+    ghost use Rattle.git_config_lite.specs.Left.{values_left};
 
     ghost Value = { List (List ℕ) };
 
-    ghost view = { λ values. texts_left values.left };
+    ghost view = { λ values. values_left values.left };
 }
 
 impl<'a> Values<'a> {
@@ -117,8 +117,8 @@ impl<'a> Values<'a> {
         subsection: Option<&'a [u8]>,
         key: &'a [u8],
     ) -> Values<'a>
-        ensures { result
-            ≡ lookups.strings name.now (option_copied subsection.entry) key.now sections.now }
+        ensures { result ≡ lookups.all_string_values name.now (option_copied subsection.entry)
+            key.now sections.now }
     {
         Values {
             left: Left {
@@ -140,7 +140,7 @@ impl<'a> Iterator for Values<'a> {
     ghost remaining = { item_count (λ left. left) };
 
     fn next(&mut self) -> Option<&'a [u8]> {
-        let (value, left) = next_value(self.left)?;
+        let (value, left) = next_value_and_rest(self.left)?;
         self.left = left;
         Some(value)
     }

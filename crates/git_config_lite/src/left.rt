@@ -1,10 +1,10 @@
 //! The values of a key that are left while they are gone through.
 ghost use Rattle.std.specs.Prelude.{◌≡◌, ◌∷◌, [], MatchOption};
-ghost use Rattle.git_config_lite.specs.Lookups.{texts_of};
-ghost use Rattle.git_config_lite.specs.Left.{texts_left};
+ghost use Rattle.git_config_lite.specs.Lookups.{values_of_key_in_entries};
+ghost use Rattle.git_config_lite.specs.Left.{values_left};
 
 use crate::entry::Entry;
-use crate::lookup::{is_key, text_of, value_of};
+use crate::lookup::{entry_has_key, value_of_entry, value_or_empty_text};
 use crate::section::Section;
 
 /// What is left of a look-up: the rest of a section's keys, and the sections behind it.
@@ -18,14 +18,18 @@ pub struct Left<'a> {
 }
 
 /// The first value of a key among some keys, and the keys behind it.
-fn first_text<'a>(entries: &'a [Entry], key: &[u8]) -> Option<(&'a [u8], &'a [Entry])>
-    ensures { MatchOption result (texts_of key.now entries.now ≡ [])
-        (λ found. texts_of key.now entries.now ≡ found.0.now ∷ texts_of key.now found.1.now) }
+fn first_value_of_key_and_rest<'a>(
+    entries: &'a [Entry],
+    key: &[u8],
+) -> Option<(&'a [u8], &'a [Entry])>
+    ensures { MatchOption result (values_of_key_in_entries key.now entries.now ≡ [])
+        (λ found. values_of_key_in_entries key.now entries.now
+        ≡ found.0.now ∷ values_of_key_in_entries key.now found.1.now) }
 {
     let mut rest = entries;
     while let Some((entry, after)) = rest.split_first() {
-        if is_key(key, entry) {
-            return Some((text_of(value_of(entry)), after));
+        if entry_has_key(key, entry) {
+            return Some((value_or_empty_text(value_of_entry(entry)), after));
         }
         rest = after;
     }
@@ -33,14 +37,14 @@ fn first_text<'a>(entries: &'a [Entry], key: &[u8]) -> Option<(&'a [u8], &'a [En
 }
 
 /// The first value that is left, and what is left behind it.
-pub fn next_value(left: Left<'_>) -> Option<(&[u8], Left<'_>)>
-    ensures { MatchOption result (texts_left left.entry ≡ [])
-        (λ found. texts_left left.entry ≡ found.0.now ∷ texts_left found.1) }
+pub fn next_value_and_rest(left: Left<'_>) -> Option<(&[u8], Left<'_>)>
+    ensures { MatchOption result (values_left left.entry ≡ [])
+        (λ found. values_left left.entry ≡ found.0.now ∷ values_left found.1) }
 {
     let mut entries = left.entries;
     let mut sections = left.sections;
     loop {
-        if let Some((text, after)) = first_text(entries, left.key) {
+        if let Some((text, after)) = first_value_of_key_and_rest(entries, left.key) {
             let behind = Left {
                 entries: after,
                 sections,
@@ -53,7 +57,7 @@ pub fn next_value(left: Left<'_>) -> Option<(&[u8], Left<'_>)>
         let Some((section, more)) = sections.split_first() else {
             return None;
         };
-        entries = section.entries_of(left.name, left.subsection);
+        entries = section.entries_if_section_matches(left.name, left.subsection);
         sections = more;
     }
 }

@@ -1,19 +1,19 @@
 //! How values are found among sections.
 ghost use Rattle.std.specs.Prelude.{◌≡◌, option_copied, option_map};
 ghost use Rattle.git_config_lite.specs.Lookups as lookups;
-ghost use Rattle.git_config_lite.specs.Gives.{truth_seen};
+ghost use Rattle.git_config_lite.specs.Gives.{boolean_with_error_text};
 ghost use Rattle.git_config_lite.specs.Seen as seen;
 
-use crate::boolean::{folds, truth};
+use crate::boolean::{is_equal_ignoring_ascii_case, parse_boolean};
 use crate::entry::Entry;
 use crate::error::ValueError;
 use crate::found::FoundValue;
 use crate::section::Section;
 
 /// Whether a subsection, or none, is this one.
-pub fn is_subsection(found: Option<&[u8]>, asked: Option<&[u8]>) -> bool
+pub fn is_same_subsection(found: Option<&[u8]>, asked: Option<&[u8]>) -> bool
     ensures { result
-        ≡ lookups.is_subsection (option_copied found.entry) (option_copied asked.entry) }
+        ≡ lookups.is_same_subsection (option_copied found.entry) (option_copied asked.entry) }
 {
     match found {
         None => match asked {
@@ -27,14 +27,14 @@ pub fn is_subsection(found: Option<&[u8]>, asked: Option<&[u8]>) -> bool
     }
 }
 
-pub fn is_key(key: &[u8], entry: &Entry) -> bool
-    ensures { result ≡ lookups.is_key key.now entry.now }
+pub fn entry_has_key(key: &[u8], entry: &Entry) -> bool
+    ensures { result ≡ lookups.entry_has_key key.now entry.now }
 {
-    folds(entry.key.as_bytes(), key)
+    is_equal_ignoring_ascii_case(entry.key.as_bytes(), key)
 }
 
 /// The value of a key, if it has one.
-pub fn value_of(entry: &Entry) -> Option<&[u8]>
+pub fn value_of_entry(entry: &Entry) -> Option<&[u8]>
     ensures { option_copied result ≡ entry.now.value }
 {
     match &entry.value {
@@ -45,8 +45,8 @@ pub fn value_of(entry: &Entry) -> Option<&[u8]>
 
 /// A value as a text.
 /// See docs/DIFFERENCES.md#gix-valueless-key.
-pub fn text_of(value: Option<&[u8]>) -> &[u8]
-    ensures { result.now ≡ lookups.text_of (option_copied value.entry) }
+pub fn value_or_empty_text(value: Option<&[u8]>) -> &[u8]
+    ensures { result.now ≡ lookups.value_or_empty_text (option_copied value.entry) }
 {
     match value {
         Some(text) => text,
@@ -55,14 +55,14 @@ pub fn text_of(value: Option<&[u8]>) -> &[u8]
 }
 
 /// The last of some keys that is this one.
-pub fn last_entry<'a>(entries: &'a [Entry], key: &[u8]) -> Option<&'a Entry>
-    ensures { option_copied result ≡ lookups.last_entry key.now entries.now }
+pub fn last_entry_with_key<'a>(entries: &'a [Entry], key: &[u8]) -> Option<&'a Entry>
+    ensures { option_copied result ≡ lookups.last_entry_with_key key.now entries.now }
 {
     let mut at = entries.len();
     while at > 0 {
         at -= 1;
         let entry = &entries[at];
-        if is_key(key, entry) {
+        if entry_has_key(key, entry) {
             return Some(entry);
         }
     }
@@ -70,14 +70,14 @@ pub fn last_entry<'a>(entries: &'a [Entry], key: &[u8]) -> Option<&'a Entry>
 }
 
 /// The last value of a key: that of the last section that has one.
-pub fn last_found<'a>(
+pub fn last_value_in_sections<'a>(
     sections: &'a [Section],
     name: &[u8],
     subsection: Option<&[u8]>,
     key: &[u8],
 ) -> Option<FoundValue<'a>>
-    ensures { option_map seen.found result
-        ≡ lookups.last_found name.now (option_copied subsection.entry) key.now sections.now }
+    ensures { option_map seen.found result ≡ lookups.last_value_in_sections name.now
+        (option_copied subsection.entry) key.now sections.now }
 {
     let mut at = sections.len();
     while at > 0 {
@@ -90,24 +90,26 @@ pub fn last_found<'a>(
 }
 
 /// What a value says as a boolean.
-fn value_truth(value: Option<&[u8]>) -> Result<Option<bool>, ValueError<'_>>
-    ensures { truth_seen result ≡ lookups.value_truth (option_copied value.entry) }
+fn boolean_of_value(value: Option<&[u8]>) -> Result<Option<bool>, ValueError<'_>>
+    ensures { boolean_with_error_text result ≡ lookups.boolean_of_value
+        (option_copied value.entry) }
 {
     let Some(text) = value else {
         return Ok(Some(true));
     };
-    match truth(text) {
+    match parse_boolean(text) {
         Some(answer) => Ok(Some(answer)),
         None => Err(ValueError { input: text }),
     }
 }
 
 /// What a value says as a boolean, where one was found.
-pub fn truth_found(found: Option<FoundValue<'_>>) -> Result<Option<bool>, ValueError<'_>>
-    ensures { truth_seen result ≡ lookups.truth_found (option_map seen.found found.entry) }
+pub fn boolean_of_found_value(found: Option<FoundValue<'_>>) -> Result<Option<bool>, ValueError<'_>>
+    ensures { boolean_with_error_text result ≡ lookups.boolean_of_found_value
+        (option_map seen.found found.entry) }
 {
     match found {
-        Some(found) => value_truth(found.value),
+        Some(found) => boolean_of_value(found.value),
         None => Ok(None),
     }
 }

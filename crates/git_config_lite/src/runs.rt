@@ -3,45 +3,45 @@
 ghost use Rattle.std.specs.Prelude.{◌≡◌, ◌≤◌, ◌++◌, ◌∷◌, [], length, take, drop, option_copied, option_map, reverse, IfSome};
 ghost use Rattle.git_config_lite.specs.Lookups as lookups;
 ghost use Rattle.git_config_lite.specs.declared.run.Run as declared;
-ghost use Rattle.git_config_lite.specs.Runs.{AreRunsOf, IsRunFrom, EndsWithRunAt};
+ghost use Rattle.git_config_lite.specs.Runs.{AreIndexRunsOfSections, IsIndexRunFrom, LastRunStartsAt};
 ghost use Rattle.git_config_lite.specs.Seen as seen;
 
 use crate::found::FoundValue;
 use crate::index::Index;
-use crate::lookup::last_found;
+use crate::lookup::last_value_in_sections;
 use crate::run::Run;
 use crate::section::Section;
 use std::alloc::Global;
 
 /// The last value of a key in the sections of a name and subsection, of which these are the runs.
-pub fn last_in_runs<'a>(
+pub fn last_value_in_runs<'a>(
     runs: &[Run],
     sections: &'a [Section],
     name: &[u8],
     subsection: Option<&[u8]>,
     key: &[u8],
 ) -> Option<FoundValue<'a>>
-    requires { AreRunsOf (reverse runs.now) sections.now }
-    ensures { option_map seen.found result
-        ≡ lookups.last_found name.now (option_copied subsection.entry) key.now sections.now }
+    requires { AreIndexRunsOfSections (reverse runs.now) sections.now }
+    ensures { option_map seen.found result ≡ lookups.last_value_in_sections name.now
+        (option_copied subsection.entry) key.now sections.now }
 {
     let mut others = runs;
     let mut left = sections;
     while let Some((run, before)) = others.split_last() {
         let (front, back) = left.split_at(run.start);
-        if let Some(found) = run.index.last_found(back, name, subsection, key) {
+        if let Some(found) = run.index.last_value_by_index(back, name, subsection, key) {
             return Some(found);
         }
         left = front;
         others = before;
     }
-    last_found(left, name, subsection, key)
+    last_value_in_sections(left, name, subsection, key)
 }
 
 /// The run of all sections behind some; none where memory is refused.
-fn run_from(alloc: Global, sections: &[Section], start: usize) -> Option<Run>
+fn index_run_from_start(alloc: Global, sections: &[Section], start: usize) -> Option<Run>
     requires { start ≤ length sections.now }
-    ensures { IfSome result (IsRunFrom start sections.now) }
+    ensures { IfSome result (IsIndexRunFrom start sections.now) }
 {
     let (_, back) = sections.split_at(start);
     match Index::new(alloc, back) {
@@ -52,7 +52,7 @@ fn run_from(alloc: Global, sections: &[Section], start: usize) -> Option<Run>
 
 /// Where the last run starts, if it has no more sections than stand behind it.
 fn short_last_run_start(runs: &[Run], start: usize, total: usize) -> Option<usize>
-    ensures { IfSome result (EndsWithRunAt runs.now) }
+    ensures { IfSome result (LastRunStartsAt runs.now) }
 {
     let Some((run, _)) = runs.split_last() else {
         return None;
@@ -67,9 +67,9 @@ fn short_last_run_start(runs: &[Run], start: usize, total: usize) -> Option<usiz
 /// how many sections the runs that are left have.
 fn pop_short_runs(runs: &mut Vec<Run>, sections: &[Section], start: usize) -> usize
     requires start { start ≤ length sections.now }
-    requires runs { AreRunsOf (reverse runs.old.items) (take start sections.now) }
+    requires runs { AreIndexRunsOfSections (reverse runs.old.items) (take start sections.now) }
     ensures within { result ≤ length sections.now }
-    ensures runs { AreRunsOf (reverse runs.new.items) (take result sections.now) }
+    ensures runs { AreIndexRunsOfSections (reverse runs.new.items) (take result sections.now) }
 {
     let mut end = start;
     while let Some(at) = short_last_run_start(runs, end, sections.len()) {
@@ -81,12 +81,17 @@ fn pop_short_runs(runs: &mut Vec<Run>, sections: &[Section], start: usize) -> us
 
 /// Runs with one more behind them, of all sections that they don't have; no runs where memory is
 /// refused.
-fn with_rest(alloc: Global, runs: Vec<Run>, sections: &[Section], start: usize) -> Vec<Run>
+fn runs_with_run_of_rest(
+    alloc: Global,
+    runs: Vec<Run>,
+    sections: &[Section],
+    start: usize,
+) -> Vec<Run>
     requires start { start ≤ length sections.now }
-    requires runs { AreRunsOf (reverse runs.items) (take start sections.now) }
-    ensures { AreRunsOf (reverse result.items) sections.now }
+    requires runs { AreIndexRunsOfSections (reverse runs.items) (take start sections.now) }
+    ensures { AreIndexRunsOfSections (reverse result.items) sections.now }
 {
-    let Some(run) = run_from(alloc, sections, start) else {
+    let Some(run) = index_run_from_start(alloc, sections, start) else {
         return Vec::new(alloc);
     };
     let mut made = runs;
@@ -98,15 +103,20 @@ fn with_rest(alloc: Global, runs: Vec<Run>, sections: &[Section], start: usize) 
 
 /// The runs of sections of which the first have these runs, if any; no runs where memory is
 /// refused.
-pub fn runs_of(alloc: Global, runs: Vec<Run>, sections: &[Section], start: usize) -> Vec<Run>
+pub fn extend_runs_to_all_sections(
+    alloc: Global,
+    runs: Vec<Run>,
+    sections: &[Section],
+    start: usize,
+) -> Vec<Run>
     requires start { start ≤ length sections.now }
-    requires runs { AreRunsOf (reverse runs.items) (take start sections.now) }
-    ensures { AreRunsOf (reverse result.items) sections.now }
+    requires runs { AreIndexRunsOfSections (reverse runs.items) (take start sections.now) }
+    ensures { AreIndexRunsOfSections (reverse result.items) sections.now }
 {
     if runs.is_empty() {
-        return with_rest(alloc, Vec::new(alloc), sections, 0);
+        return runs_with_run_of_rest(alloc, Vec::new(alloc), sections, 0);
     }
     let mut long = runs;
     let end = pop_short_runs(&mut long, sections, start);
-    with_rest(alloc, long, sections, end)
+    runs_with_run_of_rest(alloc, long, sections, end)
 }

@@ -1,14 +1,14 @@
 //! The sections of a configuration.
 ghost use Rattle.std.specs.Prelude.{◌≡◌, option_copied, option_map, IfOk, OnOk, OnErr};
 ghost use Rattle.git_config_lite.specs.Sections as words;
-ghost use Rattle.git_config_lite.specs.Booleans.{folds};
+ghost use Rattle.git_config_lite.specs.Booleans.{is_equal_ignoring_ascii_case};
 ghost use Rattle.git_config_lite.specs.Lookups as lookups;
 ghost use Rattle.git_config_lite.specs.Seen as seen;
 
-use crate::boolean::folds;
+use crate::boolean::is_equal_ignoring_ascii_case;
 use crate::entry::Entry;
 use crate::found::FoundValue;
-use crate::lookup::{is_subsection, last_entry, text_of, value_of};
+use crate::lookup::{is_same_subsection, last_entry_with_key, value_of_entry, value_or_empty_text};
 use crate::metadata::Metadata;
 use gitbase_core::{Bytes, OutOfMemory};
 use std::alloc::Global;
@@ -80,10 +80,10 @@ impl Section {
     /// The last value of a key, whose name is compared without regard to the case of ASCII letters;
     /// empty where that key has no value, and None where the section has no such key.
     pub fn value(&self, key: &[u8]) -> Option<&[u8]>
-        ensures { option_copied result ≡ lookups.section_value key.now self.now }
+        ensures { option_copied result ≡ lookups.last_value_in_section key.now self.now }
     {
-        match last_entry(&self.entries, key) {
-            Some(entry) => Some(text_of(value_of(entry))),
+        match last_entry_with_key(&self.entries, key) {
+            Some(entry) => Some(value_or_empty_text(value_of_entry(entry))),
             None => None,
         }
     }
@@ -97,20 +97,24 @@ impl Section {
 
     /// Whether the section has a name.
     pub(crate) fn is_named(&self, name: &[u8]) -> bool
-        ensures { result ≡ folds self.now.name name.now }
+        ensures { result ≡ is_equal_ignoring_ascii_case self.now.name name.now }
     {
-        folds(self.name.as_bytes(), name)
+        is_equal_ignoring_ascii_case(self.name.as_bytes(), name)
     }
 
     /// The keys, if the section is the one that is asked for.
-    pub(crate) fn entries_of(&self, name: &[u8], subsection: Option<&[u8]>) -> &[Entry]
-        ensures { result.now
-            ≡ lookups.entries_of name.now (option_copied subsection.entry) self.now }
+    pub(crate) fn entries_if_section_matches(
+        &self,
+        name: &[u8],
+        subsection: Option<&[u8]>,
+    ) -> &[Entry]
+        ensures { result.now ≡ lookups.entries_if_section_matches name.now
+            (option_copied subsection.entry) self.now }
     {
         if !self.is_named(name) {
             return &[];
         }
-        if !is_subsection(self.subsection_name(), subsection) {
+        if !is_same_subsection(self.subsection_name(), subsection) {
             return &[];
         }
         &self.entries
@@ -123,12 +127,12 @@ impl Section {
         subsection: Option<&[u8]>,
         key: &[u8],
     ) -> Option<FoundValue<'_>>
-        ensures { option_map seen.found result
-            ≡ lookups.found_in name.now (option_copied subsection.entry) key.now self.now }
+        ensures { option_map seen.found result ≡ lookups.last_value_in_matching_section name.now
+            (option_copied subsection.entry) key.now self.now }
     {
-        match last_entry(self.entries_of(name, subsection), key) {
+        match last_entry_with_key(self.entries_if_section_matches(name, subsection), key) {
             Some(entry) => Some(FoundValue {
-                value: value_of(entry),
+                value: value_of_entry(entry),
                 source: self.meta.source,
             }),
             None => None,
@@ -137,7 +141,7 @@ impl Section {
 
     /// Adds a key at the end. The section stays as it was where memory is refused.
     pub fn push(&mut self, entry: Entry) -> Result<(), OutOfMemory>
-        ensures added { OnOk result (self.new ≡ words.with_entry entry self.old) }
+        ensures added { OnOk result (self.new ≡ words.section_with_entry entry self.old) }
         ensures refused { OnErr result (self.new ≡ self.old) }
     {
         self.entries.push(entry)?;
@@ -147,8 +151,12 @@ impl Section {
 
 /// Adds a key at the end of the last section; without a section it is dropped. The sections stay as
 /// they were where memory is refused.
-pub fn add_entry(sections: &mut Vec<Section>, entry: Entry) -> Result<(), OutOfMemory>
-    ensures added { OnOk result (sections.new.items ≡ words.adding_entry entry sections.old.items) }
+pub fn push_entry_to_last_section(
+    sections: &mut Vec<Section>,
+    entry: Entry,
+) -> Result<(), OutOfMemory>
+    ensures added { OnOk result (sections.new.items ≡ words.sections_with_entry_in_last entry
+        sections.old.items) }
     ensures refused { OnErr result (sections.new.items ≡ sections.old.items) }
 {
     if sections.is_empty() {

@@ -1,6 +1,6 @@
 //! The subsection of a header, in its double quotes.
 ghost use Rattle.std.specs.Prelude.{◌≡◌, false, option_map, IfOk};
-ghost use Rattle.git_config_lite.specs.Headers.{quoted_from};
+ghost use Rattle.git_config_lite.specs.Headers.{parse_quoted_subsection};
 ghost use Rattle.git_config_lite.specs.Headers as headers;
 ghost use Rattle.git_config_lite.specs.Seen as seen;
 
@@ -28,8 +28,8 @@ pub struct QuotedText<'a> {
 }
 
 /// What a byte does, behind a backslash or not.
-fn subsection_byte(is_escaped: bool, byte: u8) -> SubsectionByte
-    ensures { result ≡ headers.subsection_byte is_escaped byte }
+fn effect_of_subsection_byte(is_escaped: bool, byte: u8) -> SubsectionByte
+    ensures { result ≡ headers.effect_of_subsection_byte is_escaped byte }
 {
     if byte == 0 {
         SubsectionByte::Outside
@@ -46,14 +46,18 @@ fn subsection_byte(is_escaped: bool, byte: u8) -> SubsectionByte
 
 /// The subsection at the start of some bytes, behind its opening quote. None where it is not
 /// closed, or has a NUL. See docs/DIFFERENCES.md#config-nul-subsection.
-pub fn quoted(alloc: Global, bytes: &[u8]) -> Result<Option<QuotedText<'_>>, OutOfMemory>
-    ensures { IfOk result (λ found. option_map seen.quoted found ≡ quoted_from false bytes.now) }
+pub fn parse_quoted_subsection(
+    alloc: Global,
+    bytes: &[u8],
+) -> Result<Option<QuotedText<'_>>, OutOfMemory>
+    ensures { IfOk result (λ found. option_map seen.subsection_of_quoted_text found
+        ≡ parse_quoted_subsection false bytes.now) }
 {
     let mut text = Vec::new(alloc);
     let mut rest = bytes;
     let mut is_escaped = false;
     while let Some((first, after)) = rest.split_first() {
-        match subsection_byte(is_escaped, *first) {
+        match effect_of_subsection_byte(is_escaped, *first) {
             SubsectionByte::Outside => return Ok(None),
             SubsectionByte::Closes => {
                 return Ok(Some(QuotedText {

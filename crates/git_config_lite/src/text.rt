@@ -6,29 +6,29 @@ ghost use Rattle.git_config_lite.specs.Writers as writers;
 
 /// A space or a tab.
 /// See docs/DIFFERENCES.md#config-lone-return.
-pub fn is_blank(byte: u8) -> bool
-    ensures { result ≡ texts.is_blank byte }
+pub fn is_space_or_tab(byte: u8) -> bool
+    ensures { result ≡ texts.is_space_or_tab byte }
 {
     byte == b' ' || byte == b'\t'
 }
 
 /// `#` or `;`.
-pub fn begins_comment(byte: u8) -> bool
-    ensures { result ≡ texts.begins_comment byte }
+pub fn is_comment_mark(byte: u8) -> bool
+    ensures { result ≡ texts.is_comment_mark byte }
 {
     byte == b'#' || byte == b';'
 }
 
 /// An ASCII letter.
-pub fn is_letter(byte: u8) -> bool
-    ensures { result ≡ texts.is_letter byte }
+pub fn is_ascii_letter(byte: u8) -> bool
+    ensures { result ≡ texts.is_ascii_letter byte }
 {
     matches!(byte, b'A'..=b'Z' | b'a'..=b'z')
 }
 
 /// A decimal digit.
-pub fn is_digit(byte: u8) -> bool
-    ensures { result ≡ texts.is_digit byte }
+pub fn is_decimal_digit(byte: u8) -> bool
+    ensures { result ≡ texts.is_decimal_digit byte }
 {
     matches!(byte, b'0'..=b'9')
 }
@@ -37,12 +37,12 @@ pub fn is_digit(byte: u8) -> bool
 pub fn is_key_byte(byte: u8) -> bool
     ensures { result ≡ texts.is_key_byte byte }
 {
-    is_letter(byte) || is_digit(byte) || byte == b'-'
+    is_ascii_letter(byte) || is_decimal_digit(byte) || byte == b'-'
 }
 
 /// A byte of the name of a section: one of a key, or a dot.
-pub fn is_name_byte(byte: u8) -> bool
-    ensures { result ≡ texts.is_name_byte byte }
+pub fn is_section_name_byte(byte: u8) -> bool
+    ensures { result ≡ texts.is_section_name_byte byte }
 {
     is_key_byte(byte) || byte == b'.'
 }
@@ -50,15 +50,15 @@ pub fn is_name_byte(byte: u8) -> bool
 /// Whether a text is the name of a section: letters, digits, hyphens and dots, and at least one of
 /// them.
 pub fn is_section_name(name: &[u8]) -> bool
-    ensures { result ≡ writers.is_name name.now }
+    ensures { result ≡ writers.is_section_name name.now }
 {
-    begins_with_name(name) && are_name_bytes(name)
+    begins_with_section_name_byte(name) && are_section_name_bytes(name)
 }
 
-fn are_name_bytes(name: &[u8]) -> bool
-    ensures { result ≡ list_all texts.is_name_byte name.now }
+fn are_section_name_bytes(name: &[u8]) -> bool
+    ensures { result ≡ list_all texts.is_section_name_byte name.now }
 {
-    name.iter().all(|byte| is_name_byte(*byte))
+    name.iter().all(|byte| is_section_name_byte(*byte))
 }
 
 /// Whether a text is a key: a letter, and then letters, digits and hyphens.
@@ -75,8 +75,8 @@ fn are_key_bytes(key: &[u8]) -> bool
 }
 
 /// Whether the first byte is this one.
-pub fn begins_with(byte: u8, bytes: &[u8]) -> bool
-    ensures { result ≡ texts.begins_with byte bytes.now }
+pub fn begins_with_byte(byte: u8, bytes: &[u8]) -> bool
+    ensures { result ≡ texts.begins_with_byte byte bytes.now }
 {
     match bytes {
         [first, ..] => *first == byte,
@@ -85,52 +85,52 @@ pub fn begins_with(byte: u8, bytes: &[u8]) -> bool
 }
 
 /// Whether the first byte is a space or a tab.
-pub fn begins_with_blank(bytes: &[u8]) -> bool
-    ensures { result ≡ texts.begins texts.is_blank bytes.now }
+pub fn begins_with_space_or_tab(bytes: &[u8]) -> bool
+    ensures { result ≡ texts.first_byte_passes texts.is_space_or_tab bytes.now }
 {
     match bytes {
-        [first, ..] => is_blank(*first),
+        [first, ..] => is_space_or_tab(*first),
         [] => false,
     }
 }
 
 /// Whether the first byte is a letter.
 pub fn begins_with_letter(bytes: &[u8]) -> bool
-    ensures { result ≡ texts.begins texts.is_letter bytes.now }
+    ensures { result ≡ texts.first_byte_passes texts.is_ascii_letter bytes.now }
 {
     match bytes {
-        [first, ..] => is_letter(*first),
+        [first, ..] => is_ascii_letter(*first),
         [] => false,
     }
 }
 
 /// Whether the first byte may stand in the name of a section.
-pub fn begins_with_name(bytes: &[u8]) -> bool
-    ensures { result ≡ texts.begins texts.is_name_byte bytes.now }
+pub fn begins_with_section_name_byte(bytes: &[u8]) -> bool
+    ensures { result ≡ texts.first_byte_passes texts.is_section_name_byte bytes.now }
 {
     match bytes {
-        [first, ..] => is_name_byte(*first),
+        [first, ..] => is_section_name_byte(*first),
         [] => false,
     }
 }
 
 /// Whether nothing is left of a line, or a comment.
-pub fn says_nothing(bytes: &[u8]) -> bool
-    ensures { result ≡ texts.says_nothing bytes.now }
+pub fn is_empty_or_comment(bytes: &[u8]) -> bool
+    ensures { result ≡ texts.is_empty_or_comment bytes.now }
 {
     match bytes {
-        [first, ..] => begins_comment(*first),
+        [first, ..] => is_comment_mark(*first),
         [] => true,
     }
 }
 
 /// What is behind the spaces and tabs at the start.
-pub fn past_blanks(bytes: &[u8]) -> &[u8]
-    ensures { result.now ≡ texts.past_blanks bytes.now }
+pub fn without_leading_blanks(bytes: &[u8]) -> &[u8]
+    ensures { result.now ≡ texts.without_leading_blanks bytes.now }
 {
     let mut rest = bytes;
     while let Some((first, after)) = rest.split_first() {
-        if !is_blank(*first) {
+        if !is_space_or_tab(*first) {
             return rest;
         }
         rest = after;
@@ -139,7 +139,7 @@ pub fn past_blanks(bytes: &[u8]) -> &[u8]
 }
 
 /// The place of the first byte that may not stand in a key.
-fn key_end(bytes: &[u8]) -> Option<usize>
+fn offset_of_first_non_key_byte(bytes: &[u8]) -> Option<usize>
     ensures place { result ≡ position (λ b. not (texts.is_key_byte b)) bytes.now }
     ensures within { IfSome result (λ place. place < length bytes.now) }
 {
@@ -147,37 +147,37 @@ fn key_end(bytes: &[u8]) -> Option<usize>
 }
 
 /// The place of the first byte that may not stand in the name of a section.
-fn name_end(bytes: &[u8]) -> Option<usize>
-    ensures place { result ≡ position (λ b. not (texts.is_name_byte b)) bytes.now }
+fn offset_of_first_non_name_byte(bytes: &[u8]) -> Option<usize>
+    ensures place { result ≡ position (λ b. not (texts.is_section_name_byte b)) bytes.now }
     ensures within { IfSome result (λ place. place < length bytes.now) }
 {
-    bytes.iter().position(|byte| !is_name_byte(*byte))
+    bytes.iter().position(|byte| !is_section_name_byte(*byte))
 }
 
 /// How many bytes at the start may stand in a key.
-pub fn key_length(bytes: &[u8]) -> usize
-    ensures value { result ≡ texts.run_length texts.is_key_byte bytes.now }
+pub fn length_of_leading_key(bytes: &[u8]) -> usize
+    ensures value { result ≡ texts.length_of_leading_run texts.is_key_byte bytes.now }
     ensures within { result ≤ length bytes.now }
 {
-    match key_end(bytes) {
+    match offset_of_first_non_key_byte(bytes) {
         Some(place) => place,
         None => bytes.len(),
     }
 }
 
 /// How many bytes at the start may stand in the name of a section.
-pub fn name_length(bytes: &[u8]) -> usize
-    ensures value { result ≡ texts.run_length texts.is_name_byte bytes.now }
+pub fn length_of_leading_section_name(bytes: &[u8]) -> usize
+    ensures value { result ≡ texts.length_of_leading_run texts.is_section_name_byte bytes.now }
     ensures within { result ≤ length bytes.now }
 {
-    match name_end(bytes) {
+    match offset_of_first_non_name_byte(bytes) {
         Some(place) => place,
         None => bytes.len(),
     }
 }
 
 /// What is behind the first byte.
-pub fn behind_first(bytes: &[u8]) -> &[u8]
+pub fn bytes_after_first_byte(bytes: &[u8]) -> &[u8]
     ensures { result.now ≡ drop 1 bytes.now }
 {
     match bytes {

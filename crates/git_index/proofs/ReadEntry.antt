@@ -4,13 +4,13 @@ use Rattle.std.specs.List.{list_any, list_all}
 use Rattle.byteorder.specs.Endian.{big_number, big_bytes}
 use Rattle.gitbase_core.specs.declared.entry.Mode.{Mode}
 use Rattle.gitbase_core.specs.Steps.{◌>>=◌}
-use Rattle.git_index.specs.Parts.{PartAndRest, front, is_nul, text, word}
-use Rattle.git_index.specs.Varint.{Number, leading_bytes, number, number_text}
-use Rattle.git_index.specs.Head.{Fixed, fixed_of, is_assumed, is_extended, mode_of, mode_with, stage_of, stat_of}
-use Rattle.git_index.specs.More.{ExtendedFlagsAndRest, has_only_known_bits, more_at, more_of, second_flags}
-use Rattle.git_index.specs.Name.{PathAndRest, cut_path, fits_length, if_fitting, kept_path, padded, padding, path_at, whole_path}
-use Rattle.git_index.specs.Entries.{EntryAndRest, entry_at, entry_by, named_by, read_of}
-use Rattle.git_index.specs.Written.{AreWords, IsWritable, Written, worth_if_set, detail_of, entry_of, entry_text, head_text, more_text, name_text, words_of, words_text}
+use Rattle.git_index.specs.Parts.{PartAndRest, split_first_bytes, is_nul, text, big_endian_word_at_index}
+use Rattle.git_index.specs.Varint.{VarintAndRest, varint_leading_bytes, read_varint, varint_bytes_of_number}
+use Rattle.git_index.specs.Head.{FixedEntryFields, parse_fixed_entry_fields, is_assume_valid_set, is_extended_flag_set, known_mode_of_bits, mode_with_bits, stage_from_flags, stat_of_entry_head}
+use Rattle.git_index.specs.More.{ExtendedFlagsAndRest, has_only_known_bits, read_extended_flags_if_present, extended_flags_from_bits, read_extended_flags}
+use Rattle.git_index.specs.Name.{PathAndRest, read_prefix_compressed_path, path_length_matches_flags, path_if_length_matches_flags, path_with_kept_prefix, path_with_checked_padding, padding_length_after_nul, read_entry_path, read_padded_path}
+use Rattle.git_index.specs.Entries.{EntryAndRest, read_entry, read_entry_after_fixed_fields, read_path_of_flagged_length, entry_of_parts_read}
+use Rattle.git_index.specs.Written.{AreFourByteNumbers, IsWritableEntryAfterPath, WrittenEntry, worth_if_flag_set, detail_of_written, index_entry_of_written, entry_bytes, entry_head_bytes, extended_flags_bytes, entry_path_bytes, head_words_of_written, big_endian_bytes_of_words}
 use Rattle.git_index.proofs.Bits.{flags_back, more_back}
 use Rattle.git_index.proofs.Numbers.{AreBytes, bytes_behind, bytes_front, number_small, two_back}
 use Rattle.git_index.proofs.ReadParts.{IsFront, from_front, from_text, mode_back, no_nul_front, no_nul_joined, nuls_back}
@@ -22,18 +22,18 @@ use Rattle.git_index.proofs.Words.{words_at, words_back, words_small}
 -- ---- the head
 
 -- a head of 62 bytes is its ten numbers, its id and its flags
-pub head_back : (head : List ℕ) → length head ≡ 62 → AreBytes head → head ≡ words_text (words_at 10 0 head) ++ (take 20 (drop 40 head) ++ big_bytes 2 (big_number 2 (drop 60 head)))
+pub head_back : (head : List ℕ) → length head ≡ 62 → AreBytes head → head ≡ big_endian_bytes_of_words (words_at 10 0 head) ++ (take 20 (drop 40 head) ++ big_bytes 2 (big_number 2 (drop 60 head)))
 head_back head h ok =
     let flags : big_bytes 2 (big_number 2 (drop 60 head)) ≡ drop 60 head = two_back (drop 60 head) (omega (arith, h, length-drop 60 head)) (bytes_behind 60 head ok) in
     let last : drop 40 head ≡ take 20 (drop 40 head) ++ drop 60 head = sym (take-append-drop 20 (drop 40 head)) ∙ ap (λ x. take 20 (drop 40 head) ++ x) (drop-drop 20 40 head) in
     words_back 10 0 head (omega (arith, h)) ok
-    ∙ ap (λ x. words_text (words_at 10 0 head) ++ x) last
-    ∙ ap (λ x. words_text (words_at 10 0 head) ++ (take 20 (drop 40 head) ++ x)) (sym flags)
+    ∙ ap (λ x. big_endian_bytes_of_words (words_at 10 0 head) ++ x) last
+    ∙ ap (λ x. big_endian_bytes_of_words (words_at 10 0 head) ++ (take 20 (drop 40 head) ++ x)) (sym flags)
 
 -- ---- the second pair of flags
 
 pub record IsMoreOf (version : ℕ) (extended : Bool) (bytes : List ℕ) (more : ExtendedFlagsAndRest) : Type 0 where
-  pub whole : bytes ≡ (if extended then big_bytes 2 (worth_if_set more.is_skipped 16384 + worth_if_set more.intent_to_add 8192) else []) ++ more.rest
+  pub whole : bytes ≡ (if extended then big_bytes 2 (worth_if_flag_set more.is_skipped 16384 + worth_if_flag_set more.intent_to_add 8192) else []) ++ more.rest
   pub size : more.size ≡ (if extended then 2 else 0)
   pub allowed : extended ≡ true → (version == 2) ≡ false
   pub plain : extended ≡ false → (more.is_skipped ≡ false) × (more.intent_to_add ≡ false)
@@ -42,16 +42,16 @@ pub record IsMoreOf (version : ℕ) (extended : Bool) (bytes : List ℕ) (more :
 abbrev more_with : ℕ → List ℕ → ExtendedFlagsAndRest
 more_with bits rest = record { size = 2; is_skipped = bits / 16384 % 2 == 1; intent_to_add = bits / 8192 % 2 == 1; rest = rest }
 
-second_back : (version : ℕ) (bytes : List ℕ) (more : ExtendedFlagsAndRest) → AreBytes bytes → (version == 2) ≡ false → second_flags bytes ≡ Some more → IsMoreOf version true bytes more
+second_back : (version : ℕ) (bytes : List ℕ) (more : ExtendedFlagsAndRest) → AreBytes bytes → (version == 2) ≡ false → read_extended_flags bytes ≡ Some more → IsMoreOf version true bytes more
 second_back version bytes more ok allowed h =
-    let two = bound (front 2 bytes) (λ (p : PartAndRest). more_of (big_number 2 p.part) p.rest) more h in
+    let two = bound (split_first_bytes 2 bytes) (λ (p : PartAndRest). extended_flags_from_bits (big_number 2 p.part) p.rest) more h in
     let p = two.0 in
     let part = from_front 2 bytes p two.1 in
     let bits = big_number 2 p.part in
     let bytes_of : AreBytes p.part = subst AreBytes (sym part.part) (bytes_front 2 bytes ok) in
     let told = chosen (has_only_known_bits bits) (Some (more_with bits p.rest)) more two.2 in
     let same : more_with bits p.rest ≡ more = some_is told.1 in
-    let written : big_bytes 2 (worth_if_set (bits / 16384 % 2 == 1) 16384 + worth_if_set (bits / 8192 % 2 == 1) 8192) ≡ p.part =
+    let written : big_bytes 2 (worth_if_flag_set (bits / 16384 % 2 == 1) 16384 + worth_if_flag_set (bits / 8192 % 2 == 1) 8192) ≡ p.part =
     ap (big_bytes 2) (more_back bits (number_small 2 p.part bytes_of) told.0) ∙ two_back p.part part.size bytes_of in
     subst (IsMoreOf version true bytes) same (record {
       whole = part.whole ∙ ap (λ x. x ++ p.rest) (sym written);
@@ -61,11 +61,11 @@ second_back version bytes more ok allowed h =
       rest_bytes = subst AreBytes (sym part.rest) (bytes_behind 2 bytes ok);
     })
 
-pub from_more : (version : ℕ) (extended : Bool) (bytes : List ℕ) (more : ExtendedFlagsAndRest) → AreBytes bytes → more_at version extended bytes ≡ Some more → IsMoreOf version extended bytes more
+pub from_more : (version : ℕ) (extended : Bool) (bytes : List ℕ) (more : ExtendedFlagsAndRest) → AreBytes bytes → read_extended_flags_if_present version extended bytes ≡ Some more → IsMoreOf version extended bytes more
 from_more version false bytes more ok h =
     subst (IsMoreOf version false bytes) (some_is h) (record { whole = refl; size = refl; allowed = λ e. absurd (cc); plain = λ _. (refl, refl); rest_bytes = ok })
 from_more version true bytes more ok h = go (version == 2) refl h where
-  go : (b : Bool) → (version == 2) ≡ b → (if b then None else second_flags bytes) ≡ Some more → IsMoreOf version true bytes more
+  go : (b : Bool) → (version == 2) ≡ b → (if b then None else read_extended_flags bytes) ≡ Some more → IsMoreOf version true bytes more
   go true e h = absurd (cc)
   go false e h = second_back version bytes more ok e h
 
@@ -77,26 +77,26 @@ pub record IsPathOf (version : ℕ) (previous : List ℕ) (before : ℕ) (bytes 
   pub plain : list_any is_nul named.path ≡ false
   pub keeps : (version == 4) ≡ true → (cut < 2 ^ 32) × (cut ≤ length previous)
       × (take (length previous - cut) previous ++ drop (length previous - cut) named.path ≡ named.path)
-  pub whole : bytes ≡ (if version == 4 then number_text cut ++ (drop (length previous - cut) named.path ++ 0 ∷ []) else named.path ++ 0 ∷ replicate (padding (before + length named.path)) 0) ++ named.rest
+  pub whole : bytes ≡ (if version == 4 then varint_bytes_of_number cut ++ (drop (length previous - cut) named.path ++ 0 ∷ []) else named.path ++ 0 ∷ replicate (padding_length_after_nul (before + length named.path)) 0) ++ named.rest
 
 record IsWhole (before : ℕ) (bytes : List ℕ) (named : PathAndRest) : Type 0 where
   plain : list_any is_nul named.path ≡ false
-  whole : bytes ≡ (named.path ++ 0 ∷ replicate (padding (before + length named.path)) 0) ++ named.rest
+  whole : bytes ≡ (named.path ++ 0 ∷ replicate (padding_length_after_nul (before + length named.path)) 0) ++ named.rest
 
-whole_back : (before : ℕ) (bytes : List ℕ) (named : PathAndRest) → whole_path before bytes ≡ Some named → IsWhole before bytes named
+whole_back : (before : ℕ) (bytes : List ℕ) (named : PathAndRest) → read_padded_path before bytes ≡ Some named → IsWhole before bytes named
 whole_back before bytes named h =
-    let read = bound (text bytes) (λ (name : PartAndRest). padded name.part (before + length name.part) name.rest) named h in
+    let read = bound (text bytes) (λ (name : PartAndRest). path_with_checked_padding name.part (before + length name.part) name.rest) named h in
     let name = read.0 in
     let split = from_text bytes name read.1 in
-    let fill = bound (front (padding (before + length name.part)) name.rest) (λ (fill : PartAndRest). if list_all is_nul fill.part then Some (record { path = name.part; rest = fill.rest }) else None) named read.2 in
-    let part = from_front (padding (before + length name.part)) name.rest fill.0 fill.1 in
+    let fill = bound (split_first_bytes (padding_length_after_nul (before + length name.part)) name.rest) (λ (fill : PartAndRest). if list_all is_nul fill.part then Some (record { path = name.part; rest = fill.rest }) else None) named read.2 in
+    let part = from_front (padding_length_after_nul (before + length name.part)) name.rest fill.0 fill.1 in
     let told = chosen (list_all is_nul fill.0.part) (Some (record { path = name.part; rest = fill.0.rest })) named fill.2 in
     let same : (◌≡◌ {A = PathAndRest} (record { path = name.part; rest = fill.0.rest }) named) = some_is told.1 in
-    let nuls : fill.0.part ≡ replicate (padding (before + length name.part)) 0 = nuls_back fill.0.part told.0 ∙ ap (λ n. replicate n 0) part.size in
+    let nuls : fill.0.part ≡ replicate (padding_length_after_nul (before + length name.part)) 0 = nuls_back fill.0.part told.0 ∙ ap (λ n. replicate n 0) part.size in
     subst (IsWhole before bytes) same (record {
       plain = split.plain;
       whole = split.whole ∙ ap (λ x. name.part ++ 0 ∷ x) (part.whole ∙ ap (λ x. x ++ fill.0.rest) nuls)
-          ∙ sym (append_assoc name.part (0 ∷ replicate (padding (before + length name.part)) 0) fill.0.rest);
+          ∙ sym (append_assoc name.part (0 ∷ replicate (padding_length_after_nul (before + length name.part)) 0) fill.0.rest);
     })
 
 record IsCut (previous bytes : List ℕ) (named : PathAndRest) : Type 0 where
@@ -105,15 +105,15 @@ record IsCut (previous bytes : List ℕ) (named : PathAndRest) : Type 0 where
   small : cut < 2 ^ 32
   within : cut ≤ length previous
   same : take (length previous - cut) previous ++ drop (length previous - cut) named.path ≡ named.path
-  whole : bytes ≡ (number_text cut ++ (drop (length previous - cut) named.path ++ 0 ∷ [])) ++ named.rest
+  whole : bytes ≡ (varint_bytes_of_number cut ++ (drop (length previous - cut) named.path ++ 0 ∷ [])) ++ named.rest
 
-cut_back : (previous bytes : List ℕ) (named : PathAndRest) → AreBytes bytes → list_any is_nul previous ≡ false → cut_path previous bytes ≡ Some named → IsCut previous bytes named
-unfolding leading_bytes
+cut_back : (previous bytes : List ℕ) (named : PathAndRest) → AreBytes bytes → list_any is_nul previous ≡ false → read_prefix_compressed_path previous bytes ≡ Some named → IsCut previous bytes named
+unfolding varint_leading_bytes
 cut_back previous bytes named ok plain h =
-    let read = bound (number bytes) (λ (n : Number). kept_path previous n.value n.rest) named h in
+    let read = bound (read_varint bytes) (λ (n : VarintAndRest). path_with_kept_prefix previous n.value n.rest) named h in
     let n = read.0 in
     let text_of = from_number 0 bytes n ok read.1 in
-    let whole_text : bytes ≡ number_text n.value ++ n.rest = text_of.whole ∙ ap (λ x. x ++ n.rest) (text_of.is) in
+    let whole_text : bytes ≡ varint_bytes_of_number n.value ++ n.rest = text_of.whole ∙ ap (λ x. x ++ n.rest) (text_of.is) in
     let kept = length previous - n.value in
     let told = chosen (nat_le n.value (length previous)) (option_map (λ (name : PartAndRest). record { path = take kept previous ++ name.part; rest = name.rest }) (text n.rest)) named read.2 in
     let within : n.value ≤ length previous = leb-true n.value (length previous) told.0 in
@@ -127,22 +127,22 @@ cut_back previous bytes named ok plain h =
       small = text_of.small;
       within = within;
       same = ap (λ x. take kept previous ++ x) behind;
-      whole = whole_text ∙ ap (λ x. number_text n.value ++ x) (split.whole ∙ sym (append_assoc tail.0.part (0 ∷ []) tail.0.rest)
+      whole = whole_text ∙ ap (λ x. varint_bytes_of_number n.value ++ x) (split.whole ∙ sym (append_assoc tail.0.part (0 ∷ []) tail.0.rest)
           ∙ ap (λ x. (x ++ 0 ∷ []) ++ tail.0.rest) (sym behind))
-          ∙ sym (append_assoc (number_text n.value) (drop kept (take kept previous ++ tail.0.part) ++ 0 ∷ []) tail.0.rest);
+          ∙ sym (append_assoc (varint_bytes_of_number n.value) (drop kept (take kept previous ++ tail.0.part) ++ 0 ∷ []) tail.0.rest);
     })
 
 pub from_path : (version : ℕ) (previous : List ℕ) (before : ℕ) (bytes : List ℕ) (named : PathAndRest) → AreBytes bytes → list_any is_nul previous ≡ false
-    → path_at version previous before bytes ≡ Some named → IsPathOf version previous before bytes named
+    → read_entry_path version previous before bytes ≡ Some named → IsPathOf version previous before bytes named
 from_path version previous before bytes named ok plain h = go (version == 4) refl h where
-  go : (b : Bool) → (version == 4) ≡ b → (if b then cut_path previous bytes else whole_path before bytes) ≡ Some named → IsPathOf version previous before bytes named
+  go : (b : Bool) → (version == 4) ≡ b → (if b then read_prefix_compressed_path previous bytes else read_padded_path before bytes) ≡ Some named → IsPathOf version previous before bytes named
   go true e h =
       let read = cut_back previous bytes named ok plain h in
       record {
         cut = read.cut;
         plain = read.plain;
         keeps = λ _. (read.small, read.within, read.same);
-        whole = read.whole ∙ ap (λ b. (if b then number_text read.cut ++ (drop (length previous - read.cut) named.path ++ 0 ∷ []) else named.path ++ 0 ∷ replicate (padding (before + length named.path)) 0) ++ named.rest) (sym e);
+        whole = read.whole ∙ ap (λ b. (if b then varint_bytes_of_number read.cut ++ (drop (length previous - read.cut) named.path ++ 0 ∷ []) else named.path ++ 0 ∷ replicate (padding_length_after_nul (before + length named.path)) 0) ++ named.rest) (sym e);
       }
   go false e h =
       let read = whole_back before bytes named h in
@@ -150,27 +150,27 @@ from_path version previous before bytes named ok plain h = go (version == 4) ref
         cut = 0;
         plain = read.plain;
         keeps = λ yes4. absurd (cc);
-        whole = read.whole ∙ ap (λ b. (if b then number_text 0 ++ (drop (length previous - 0) named.path ++ 0 ∷ []) else named.path ++ 0 ∷ replicate (padding (before + length named.path)) 0) ++ named.rest) (sym e);
+        whole = read.whole ∙ ap (λ b. (if b then varint_bytes_of_number 0 ++ (drop (length previous - 0) named.path ++ 0 ∷ []) else named.path ++ 0 ∷ replicate (padding_length_after_nul (before + length named.path)) 0) ++ named.rest) (sym e);
       }
 
 -- ---- an entry
 
 pub record IsEntryOf (version : ℕ) (previous bytes : List ℕ) (read : EntryAndRest) : Type 0 where
-  pub w : Written
-  pub whole : bytes ≡ entry_text version previous w ++ read.rest
-  pub writable : IsWritable version previous w
-  pub entry : entry_of w ≡ read.entry
-  pub detail : detail_of w ≡ read.detail
+  pub w : WrittenEntry
+  pub whole : bytes ≡ entry_bytes version previous w ++ read.rest
+  pub writable : IsWritableEntryAfterPath version previous w
+  pub entry : index_entry_of_written w ≡ read.entry
+  pub detail : detail_of_written w ≡ read.detail
 
 -- what is written where these parts are read
-written_by : List ℕ → ExtendedFlagsAndRest → PathAndRest → ℕ → Written
+written_by : List ℕ → ExtendedFlagsAndRest → PathAndRest → ℕ → WrittenEntry
 written_by head more named cut = record {
-  stat = stat_of head;
-  mode = word 6 head;
+  stat = stat_of_entry_head head;
+  mode = big_endian_word_at_index 6 head;
   id = take 20 (drop 40 head);
-  assumed = is_assumed (big_number 2 (drop 60 head));
-  stage = stage_of (big_number 2 (drop 60 head));
-  extended = is_extended (big_number 2 (drop 60 head));
+  assumed = is_assume_valid_set (big_number 2 (drop 60 head));
+  stage = stage_from_flags (big_number 2 (drop 60 head));
+  extended = is_extended_flag_set (big_number 2 (drop 60 head));
   skipped = more.is_skipped;
   intent_to_add = more.intent_to_add;
   path = named.path;
@@ -178,16 +178,16 @@ written_by head more named cut = record {
 }
 
 -- the head says its numbers
-head_is : (head : List ℕ) (more : ExtendedFlagsAndRest) (named : PathAndRest) (cut : ℕ) → length head ≡ 62 → AreBytes head → fits_length (big_number 2 (drop 60 head)) named ≡ true
-    → head ≡ head_text (written_by head more named cut)
+head_is : (head : List ℕ) (more : ExtendedFlagsAndRest) (named : PathAndRest) (cut : ℕ) → length head ≡ 62 → AreBytes head → path_length_matches_flags (big_number 2 (drop 60 head)) named ≡ true
+    → head ≡ entry_head_bytes (written_by head more named cut)
 unfolding written_by words_at
 head_is head more named cut size ok fits =
     let f = big_number 2 (drop 60 head) in
-    let flags : worth_if_set (is_assumed f) 32768 + worth_if_set (is_extended f) 16384 + stage_of f * 4096 + min (length named.path) 4095 ≡ f =
+    let flags : worth_if_flag_set (is_assume_valid_set f) 32768 + worth_if_flag_set (is_extended_flag_set f) 16384 + stage_from_flags f * 4096 + min (length named.path) 4095 ≡ f =
     flags_back f (min (length named.path) 4095) (number_small 2 (drop 60 head) (bytes_behind 60 head ok)) (eqb-true _ _ fits) in
-    head_back head size ok ∙ ap (λ k. words_text (words_at 10 0 head) ++ (take 20 (drop 40 head) ++ big_bytes 2 k)) (sym flags)
+    head_back head size ok ∙ ap (λ k. big_endian_bytes_of_words (words_at 10 0 head) ++ (take 20 (drop 40 head) ++ big_bytes 2 k)) (sym flags)
 
-words_are : (head : List ℕ) (more : ExtendedFlagsAndRest) (named : PathAndRest) (cut : ℕ) → AreBytes head → AreWords (words_of (written_by head more named cut))
+words_are : (head : List ℕ) (more : ExtendedFlagsAndRest) (named : PathAndRest) (cut : ℕ) → AreBytes head → AreFourByteNumbers (head_words_of_written (written_by head more named cut))
 unfolding written_by words_at
 words_are head more named cut ok = words_small 10 0 head ok
 
@@ -196,31 +196,31 @@ record AreParts (version : ℕ) (previous bytes : List ℕ) (read : EntryAndRest
   p : PartAndRest
   is_front : IsFront 62 bytes p
   m : ExtendedFlagsAndRest
-  mode_is : mode_of (word 6 p.part) ≡ Some (mode_with (word 6 p.part))
-  more_is : more_at version (is_extended (big_number 2 (drop 60 p.part))) p.rest ≡ Some m
+  mode_is : known_mode_of_bits (big_endian_word_at_index 6 p.part) ≡ Some (mode_with_bits (big_endian_word_at_index 6 p.part))
+  more_is : read_extended_flags_if_present version (is_extended_flag_set (big_number 2 (drop 60 p.part))) p.rest ≡ Some m
   n : PathAndRest
-  path_is : path_at version previous (62 + m.size) m.rest ≡ Some n
-  fits : fits_length (big_number 2 (drop 60 p.part)) n ≡ true
-  is : read_of (record { stat = stat_of p.part; mode = mode_with (word 6 p.part); id = take 20 (drop 40 p.part); flags = big_number 2 (drop 60 p.part) }) m n ≡ read
+  path_is : read_entry_path version previous (62 + m.size) m.rest ≡ Some n
+  fits : path_length_matches_flags (big_number 2 (drop 60 p.part)) n ≡ true
+  is : entry_of_parts_read (record { stat = stat_of_entry_head p.part; mode = mode_with_bits (big_endian_word_at_index 6 p.part); id = take 20 (drop 40 p.part); flags = big_number 2 (drop 60 p.part) }) m n ≡ read
 
-parts_of : (version : ℕ) (previous bytes : List ℕ) (read : EntryAndRest) → entry_at version previous bytes ≡ Some read → AreParts version previous bytes read
+parts_of : (version : ℕ) (previous bytes : List ℕ) (read : EntryAndRest) → read_entry version previous bytes ≡ Some read → AreParts version previous bytes read
 parts_of version previous bytes read h =
-    let front_of = bound (front 62 bytes) (λ (p : PartAndRest). fixed_of p.part >>= (λ (x : Fixed). entry_by version previous x p.rest)) read h in
+    let front_of = bound (split_first_bytes 62 bytes) (λ (p : PartAndRest). parse_fixed_entry_fields p.part >>= (λ (x : FixedEntryFields). read_entry_after_fixed_fields version previous x p.rest)) read h in
     let p = front_of.0 in
     let head = p.part in
     let f = big_number 2 (drop 60 head) in
-    let fixed = bound (fixed_of head) (λ (x : Fixed). entry_by version previous x p.rest) read front_of.2 in
-    let mode = mapped (mode_of (word 6 head)) (λ (mode : Mode). record { stat = stat_of head; mode = mode; id = take 20 (drop 40 head); flags = f }) fixed.0 fixed.1 in
-    let mode_same : mode.0 ≡ mode_with (word 6 head) = mode_back (word 6 head) mode.0 mode.1 in
-    let fixed_with : Fixed = record { stat = stat_of head; mode = mode_with (word 6 head); id = take 20 (drop 40 head); flags = f } in
-    let fixed_same : fixed_with ≡ fixed.0 = ap (λ (x : Mode). record { stat = stat_of head; mode = x; id = take 20 (drop 40 head); flags = f }) (sym mode_same) ∙ mode.2 in
-    let by : entry_by version previous fixed_with p.rest ≡ Some read = ap (λ (x : Fixed). entry_by version previous x p.rest) fixed_same ∙ fixed.2 in
-    let more = bound (more_at version (is_extended f) p.rest) (λ (m : ExtendedFlagsAndRest). named_by version previous f m >>= (λ (n : PathAndRest). Some (read_of fixed_with m n))) read by in
+    let fixed = bound (parse_fixed_entry_fields head) (λ (x : FixedEntryFields). read_entry_after_fixed_fields version previous x p.rest) read front_of.2 in
+    let mode = mapped (known_mode_of_bits (big_endian_word_at_index 6 head)) (λ (mode : Mode). record { stat = stat_of_entry_head head; mode = mode; id = take 20 (drop 40 head); flags = f }) fixed.0 fixed.1 in
+    let mode_same : mode.0 ≡ mode_with_bits (big_endian_word_at_index 6 head) = mode_back (big_endian_word_at_index 6 head) mode.0 mode.1 in
+    let fixed_with : FixedEntryFields = record { stat = stat_of_entry_head head; mode = mode_with_bits (big_endian_word_at_index 6 head); id = take 20 (drop 40 head); flags = f } in
+    let fixed_same : fixed_with ≡ fixed.0 = ap (λ (x : Mode). record { stat = stat_of_entry_head head; mode = x; id = take 20 (drop 40 head); flags = f }) (sym mode_same) ∙ mode.2 in
+    let by : read_entry_after_fixed_fields version previous fixed_with p.rest ≡ Some read = ap (λ (x : FixedEntryFields). read_entry_after_fixed_fields version previous x p.rest) fixed_same ∙ fixed.2 in
+    let more = bound (read_extended_flags_if_present version (is_extended_flag_set f) p.rest) (λ (m : ExtendedFlagsAndRest). read_path_of_flagged_length version previous f m >>= (λ (n : PathAndRest). Some (entry_of_parts_read fixed_with m n))) read by in
     let m = more.0 in
-    let named = bound (named_by version previous f m) (λ (n : PathAndRest). Some (read_of fixed_with m n)) read more.2 in
-    let path = bound (path_at version previous (62 + m.size) m.rest) (if_fitting f) named.0 named.1 in
+    let named = bound (read_path_of_flagged_length version previous f m) (λ (n : PathAndRest). Some (entry_of_parts_read fixed_with m n)) read more.2 in
+    let path = bound (read_entry_path version previous (62 + m.size) m.rest) (path_if_length_matches_flags f) named.0 named.1 in
     let n = path.0 in
-    let fits = chosen (fits_length f n) (Some n) named.0 path.2 in
+    let fits = chosen (path_length_matches_flags f n) (Some n) named.0 path.2 in
     record {
       p = p;
       is_front = from_front 62 bytes p front_of.1;
@@ -230,11 +230,11 @@ parts_of version previous bytes read h =
       n = n;
       path_is = path.1;
       fits = fits.0;
-      is = ap (read_of fixed_with m) (some_is fits.1) ∙ some_is named.2;
+      is = ap (entry_of_parts_read fixed_with m) (some_is fits.1) ∙ some_is named.2;
     }
 
 pub from_entry : (version : ℕ) (previous bytes : List ℕ) (read : EntryAndRest) → AreBytes bytes → list_any is_nul previous ≡ false
-    → entry_at version previous bytes ≡ Some read → IsEntryOf version previous bytes read
+    → read_entry version previous bytes ≡ Some read → IsEntryOf version previous bytes read
 unfolding written_by
 from_entry version previous bytes read ok plain h =
     let parts = parts_of version previous bytes read h in
@@ -245,16 +245,16 @@ from_entry version previous bytes read ok plain h =
     let head_ok : AreBytes head = subst AreBytes (sym part.part) (bytes_front 62 bytes ok) in
     let rest_ok : AreBytes parts.p.rest = subst AreBytes (sym part.rest) (bytes_behind 62 bytes ok) in
     let f = big_number 2 (drop 60 head) in
-    let more = from_more version (is_extended f) parts.p.rest m rest_ok parts.more_is in
+    let more = from_more version (is_extended_flag_set f) parts.p.rest m rest_ok parts.more_is in
     let path = from_path version previous (62 + m.size) m.rest n more.rest_bytes plain parts.path_is in
     let w = written_by head m n path.cut in
-    let name_is : m.rest ≡ name_text version previous w ++ n.rest =
-    path.whole ∙ ap (λ k. (if version == 4 then number_text path.cut ++ (drop (length previous - path.cut) n.path ++ 0 ∷ []) else n.path ++ 0 ∷ replicate (padding (62 + k + length n.path)) 0) ++ n.rest) more.size in
+    let name_is : m.rest ≡ entry_path_bytes version previous w ++ n.rest =
+    path.whole ∙ ap (λ k. (if version == 4 then varint_bytes_of_number path.cut ++ (drop (length previous - path.cut) n.path ++ 0 ∷ []) else n.path ++ 0 ∷ replicate (padding_length_after_nul (62 + k + length n.path)) 0) ++ n.rest) more.size in
     subst (IsEntryOf version previous bytes) parts.is (record {
       w = w;
       whole = part.whole ∙ ap (λ x. x ++ parts.p.rest) (head_is head m n path.cut part.size head_ok parts.fits)
-          ∙ ap (λ x. head_text w ++ x) (more.whole ∙ ap (λ x. more_text w ++ x) name_is ∙ sym (append_assoc (more_text w) (name_text version previous w) n.rest))
-          ∙ sym (append_assoc (head_text w) (more_text w ++ name_text version previous w) n.rest);
+          ∙ ap (λ x. entry_head_bytes w ++ x) (more.whole ∙ ap (λ x. extended_flags_bytes w ++ x) name_is ∙ sym (append_assoc (extended_flags_bytes w) (entry_path_bytes version previous w) n.rest))
+          ∙ sym (append_assoc (entry_head_bytes w) (extended_flags_bytes w ++ entry_path_bytes version previous w) n.rest);
       writable = record {
         words = words_are head m n path.cut head_ok;
         mode = parts.mode_is;

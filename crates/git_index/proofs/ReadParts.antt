@@ -2,9 +2,9 @@
 use Rattle.std.proofs.Common.{◌≡◌, refl, sym, ap, ◌∙◌, subst, arith, ℕ, zero, suc, ◌+◌, ◌<◌, ◌≤◌, not, cond, nat_le, nat_lt, leb-true, ltb-true, eqb-true, Bool, true, false, ◌||◌, ◌==◌, List, [], ◌∷◌, ◌++◌, length, take, drop, replicate, length-take-le, take-append-drop, Some, None, position, if◌then◌else◌}
 use Rattle.std.specs.List.{list_any, list_all, position_or_len}
 use Rattle.gitbase_core.specs.declared.entry.Mode.{Mode}
-use Rattle.gitbase_core.specs.Entry.{file_mode, executable_mode, symlink_mode, commit_mode, dir_mode}
-use Rattle.git_index.specs.Parts.{front, is_nul, parted_at, text, PartAndRest}
-use Rattle.git_index.specs.Head.{mode_of, mode_with}
+use Rattle.gitbase_core.specs.Entry.{regular_file_mode, executable_file_mode, symlink_mode, gitlink_mode, sparse_directory_mode}
+use Rattle.git_index.specs.Parts.{split_first_bytes, is_nul, split_around_byte_at, text, PartAndRest}
+use Rattle.git_index.specs.Head.{known_mode_of_bits, mode_with_bits}
 use Rattle.git_index.proofs.Steps.{and_first, and_second, chosen, mapped, some_is}
 
 pub record IsFront (n : ℕ) (bytes : List ℕ) (p : PartAndRest) : Type 0 where
@@ -13,7 +13,7 @@ pub record IsFront (n : ℕ) (bytes : List ℕ) (p : PartAndRest) : Type 0 where
   pub part : p.part ≡ take n bytes
   pub rest : p.rest ≡ drop n bytes
 
-pub from_front : (n : ℕ) (bytes : List ℕ) (p : PartAndRest) → front n bytes ≡ Some p → IsFront n bytes p
+pub from_front : (n : ℕ) (bytes : List ℕ) (p : PartAndRest) → split_first_bytes n bytes ≡ Some p → IsFront n bytes p
 from_front n bytes p h =
     let found = chosen (nat_le n (length bytes)) (Some (record { part = take n bytes; rest = drop n bytes })) p h in
     let fits : n ≤ length bytes = leb-true n (length bytes) found.0 in
@@ -55,7 +55,7 @@ splits (b ∷ bytes) at is h = go (is_nul b) refl (λ h. splits bytes (position_
 
 pub from_text : (bytes : List ℕ) (p : PartAndRest) → text bytes ≡ Some p → IsText bytes p
 from_text bytes p h =
-    let found = mapped (position is_nul bytes) (parted_at bytes) p h in
+    let found = mapped (position is_nul bytes) (split_around_byte_at bytes) p h in
     let at = position_or_len is_nul bytes in
     let within = chosen (nat_lt at (length bytes)) (Some at) found.0 found.1 in
     let place : at ≡ found.0 = some_is within.1 in
@@ -93,24 +93,24 @@ no_nul_joined (x ∷ xs) ys hx hy = go (is_nul x) hx (λ r. no_nul_joined xs ys 
 
 -- ---- the mode
 
-pub mode_back : (bits : ℕ) (m : Mode) → mode_of bits ≡ Some m → m ≡ mode_with bits
-mode_back bits m h = one (bits == file_mode) h where
-  five : (b : Bool) → (if b then Some (mode_with bits) else None) ≡ Some m → m ≡ mode_with bits
+pub mode_back : (bits : ℕ) (m : Mode) → known_mode_of_bits bits ≡ Some m → m ≡ mode_with_bits bits
+mode_back bits m h = one (bits == regular_file_mode) h where
+  five : (b : Bool) → (if b then Some (mode_with_bits bits) else None) ≡ Some m → m ≡ mode_with_bits bits
   five true e = sym (some_is e)
   five false e = absurd (cc)
 
-  four : (b : Bool) → (if b then Some (mode_with bits) else (if bits == dir_mode then Some (mode_with bits) else None)) ≡ Some m → m ≡ mode_with bits
+  four : (b : Bool) → (if b then Some (mode_with_bits bits) else (if bits == sparse_directory_mode then Some (mode_with_bits bits) else None)) ≡ Some m → m ≡ mode_with_bits bits
   four true e = sym (some_is e)
-  four false e = five (bits == dir_mode) e
+  four false e = five (bits == sparse_directory_mode) e
 
-  three : (b : Bool) → (if b then Some (mode_with bits) else (if bits == commit_mode then Some (mode_with bits) else (if bits == dir_mode then Some (mode_with bits) else None))) ≡ Some m → m ≡ mode_with bits
+  three : (b : Bool) → (if b then Some (mode_with_bits bits) else (if bits == gitlink_mode then Some (mode_with_bits bits) else (if bits == sparse_directory_mode then Some (mode_with_bits bits) else None))) ≡ Some m → m ≡ mode_with_bits bits
   three true e = sym (some_is e)
-  three false e = four (bits == commit_mode) e
+  three false e = four (bits == gitlink_mode) e
 
-  two : (b : Bool) → (if b then Some (mode_with bits) else (if bits == symlink_mode then Some (mode_with bits) else (if bits == commit_mode then Some (mode_with bits) else (if bits == dir_mode then Some (mode_with bits) else None)))) ≡ Some m → m ≡ mode_with bits
+  two : (b : Bool) → (if b then Some (mode_with_bits bits) else (if bits == symlink_mode then Some (mode_with_bits bits) else (if bits == gitlink_mode then Some (mode_with_bits bits) else (if bits == sparse_directory_mode then Some (mode_with_bits bits) else None)))) ≡ Some m → m ≡ mode_with_bits bits
   two true e = sym (some_is e)
   two false e = three (bits == symlink_mode) e
 
-  one : (b : Bool) → (if b then Some (mode_with bits) else (if bits == executable_mode then Some (mode_with bits) else (if bits == symlink_mode then Some (mode_with bits) else (if bits == commit_mode then Some (mode_with bits) else (if bits == dir_mode then Some (mode_with bits) else None))))) ≡ Some m → m ≡ mode_with bits
+  one : (b : Bool) → (if b then Some (mode_with_bits bits) else (if bits == executable_file_mode then Some (mode_with_bits bits) else (if bits == symlink_mode then Some (mode_with_bits bits) else (if bits == gitlink_mode then Some (mode_with_bits bits) else (if bits == sparse_directory_mode then Some (mode_with_bits bits) else None))))) ≡ Some m → m ≡ mode_with_bits bits
   one true e = sym (some_is e)
-  one false e = two (bits == executable_mode) e
+  one false e = two (bits == executable_file_mode) e

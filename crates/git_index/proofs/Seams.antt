@@ -2,7 +2,7 @@
 use Rattle.std.proofs.Common.{◌≡◌, refl, sym, ap, ◌∙◌, arith, ℕ, zero, suc, ◌+◌, ◌≤◌, ◌<◌, not, cond, nat_lt, lt-ltb, Bool, true, false, ◌||◌, List, [], ◌∷◌, ◌++◌, length, take, drop, replicate, Some, None, option_map, position, length-append, le-leb, if◌then◌else◌}
 use Rattle.std.proofs.Math.Seq.{drop-append_seam, take-append_seam, drop-append-add}
 use Rattle.std.specs.List.{list_any, list_all, position_or_len}
-use Rattle.git_index.specs.Parts.{front, is_nul, parted_at, text}
+use Rattle.git_index.specs.Parts.{split_first_bytes, is_nul, split_around_byte_at, text}
 
 pub take_exact : (n : ℕ) (xs ys : List ℕ) → length xs ≡ n → take n (xs ++ ys) ≡ xs
 take_exact n xs ys h = ap (λ k. take k (xs ++ ys)) (sym h) ∙ take-append_seam xs ys
@@ -10,7 +10,7 @@ take_exact n xs ys h = ap (λ k. take k (xs ++ ys)) (sym h) ∙ take-append_seam
 pub drop_exact : (n : ℕ) (xs ys : List ℕ) → length xs ≡ n → drop n (xs ++ ys) ≡ ys
 drop_exact n xs ys h = ap (λ k. drop k (xs ++ ys)) (sym h) ∙ drop-append_seam xs ys
 
-pub front_exact : (n : ℕ) (xs ys : List ℕ) → length xs ≡ n → front n (xs ++ ys) ≡ Some (record { part = xs; rest = ys })
+pub front_exact : (n : ℕ) (xs ys : List ℕ) → length xs ≡ n → split_first_bytes n (xs ++ ys) ≡ Some (record { part = xs; rest = ys })
 front_exact n xs ys h =
     let fits : n ≤ length (xs ++ ys) = omega (arith, h, length-append xs ys) in
     ap (λ b. if b then Some (record { part = take n (xs ++ ys); rest = drop n (xs ++ ys) }) else None) (le-leb _ _ fits)
@@ -37,7 +37,7 @@ first_nul xs ys h =
 pub text_exact : (xs ys : List ℕ) → list_any is_nul xs ≡ false → text (xs ++ 0 ∷ ys) ≡ Some (record { part = xs; rest = ys })
 text_exact xs ys h =
     let behind : drop (length xs + 1) (xs ++ 0 ∷ ys) ≡ ys = drop-append-add xs (0 ∷ ys) 1 in
-    ap (option_map (parted_at (xs ++ 0 ∷ ys))) (first_nul xs ys h)
+    ap (option_map (split_around_byte_at (xs ++ 0 ∷ ys))) (first_nul xs ys h)
     ∙ ap (λ (p : List ℕ). Some (record { part = p; rest = drop (length xs + 1) (xs ++ 0 ∷ ys) })) (take-append_seam xs (0 ∷ ys))
     ∙ ap (λ (r : List ℕ). Some (record { part = xs; rest = r })) behind
 

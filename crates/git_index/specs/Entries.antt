@@ -2,10 +2,10 @@
 use Rattle.std.specs.Prelude.{ℕ, zero, suc, ◌+◌, ◌-◌, List, [], ◌∷◌, ◌++◌, length, slice_get, Option, Some, None, Result, Ok, ok_or}
 use Rattle.gitbase_core.specs.declared.entry.IndexEntry.{IndexEntry}
 use Rattle.gitbase_core.specs.Steps.{◌>>=◌, and_then}
-use Rattle.git_index.specs.Parts.{front}
-use Rattle.git_index.specs.Head.{Fixed, fixed_of, flags_of, is_assumed, is_extended, stage_of}
-use Rattle.git_index.specs.More.{ExtendedFlagsAndRest, more_at}
-use Rattle.git_index.specs.Name.{PathAndRest, if_fitting, path_at}
+use Rattle.git_index.specs.Parts.{split_first_bytes}
+use Rattle.git_index.specs.Head.{FixedEntryFields, parse_fixed_entry_fields, flags_of_assumed_and_skipped, is_assume_valid_set, is_extended_flag_set, stage_from_flags}
+use Rattle.git_index.specs.More.{ExtendedFlagsAndRest, read_extended_flags_if_present}
+use Rattle.git_index.specs.Name.{PathAndRest, path_if_length_matches_flags, read_entry_path}
 use Rattle.git_index.specs.declared.stat.Detail.{Detail}
 use Rattle.git_index.specs.declared.error.IndexFileError.{IndexFileError}
 use Rattle.git_index.specs.declared.error.IndexFileError.TheVariants.{Entry as BadEntry}
@@ -18,60 +18,60 @@ pub record EntryAndRest : Type 0 where
   pub detail : Detail
   pub rest : List ℕ
 
-abbrev pub read_of : Fixed → ExtendedFlagsAndRest → PathAndRest → EntryAndRest
-read_of fixed more named = record {
-  entry = record { path = named.path; stage = stage_of fixed.flags; mode = fixed.mode; flags = flags_of (is_assumed fixed.flags) more.is_skipped; id = fixed.id };
+abbrev pub entry_of_parts_read : FixedEntryFields → ExtendedFlagsAndRest → PathAndRest → EntryAndRest
+entry_of_parts_read fixed more named = record {
+  entry = record { path = named.path; stage = stage_from_flags fixed.flags; mode = fixed.mode; flags = flags_of_assumed_and_skipped (is_assume_valid_set fixed.flags) more.is_skipped; id = fixed.id };
   detail = record { stat = fixed.stat; intent_to_add = more.intent_to_add };
   rest = named.rest;
 }
 
-abbrev pub named_by : ℕ → List ℕ → ℕ → ExtendedFlagsAndRest → Option PathAndRest
-named_by version previous flags more = do
-  named ← path_at version previous (62 + more.size) more.rest
-  if_fitting flags named
+abbrev pub read_path_of_flagged_length : ℕ → List ℕ → ℕ → ExtendedFlagsAndRest → Option PathAndRest
+read_path_of_flagged_length version previous flags more = do
+  named ← read_entry_path version previous (62 + more.size) more.rest
+  path_if_length_matches_flags flags named
 
-abbrev pub entry_by : ℕ → List ℕ → Fixed → List ℕ → Option EntryAndRest
-entry_by version previous fixed bytes = do
-  more ← more_at version (is_extended fixed.flags) bytes
-  named ← named_by version previous fixed.flags more
-  Some (read_of fixed more named)
+abbrev pub read_entry_after_fixed_fields : ℕ → List ℕ → FixedEntryFields → List ℕ → Option EntryAndRest
+read_entry_after_fixed_fields version previous fixed bytes = do
+  more ← read_extended_flags_if_present version (is_extended_flag_set fixed.flags) bytes
+  named ← read_path_of_flagged_length version previous fixed.flags more
+  Some (entry_of_parts_read fixed more named)
 
 -- the entry at the front of some bytes, behind an entry with this path; none where they begin with none
-abbrev pub entry_at : ℕ → List ℕ → List ℕ → Option EntryAndRest
-entry_at version previous bytes = do
-  head ← front 62 bytes
-  fixed ← fixed_of head.part
-  entry_by version previous fixed head.rest
+abbrev pub read_entry : ℕ → List ℕ → List ℕ → Option EntryAndRest
+read_entry version previous bytes = do
+  head ← split_first_bytes 62 bytes
+  fixed ← parse_fixed_entry_fields head.part
+  read_entry_after_fixed_fields version previous fixed head.rest
 
 -- ---- all
 
 -- entries, and beside each what the file says of it besides
-pub record Listed : Type 0 where
+pub record EntriesAndDetails : Type 0 where
   pub entries : List IndexEntry
   pub details : List Detail
 
-abbrev pub none_listed : Listed
-none_listed = record { entries = []; details = [] }
+abbrev pub no_entries_and_details : EntriesAndDetails
+no_entries_and_details = record { entries = []; details = [] }
 
-abbrev pub with_entry : Listed → IndexEntry → Detail → Listed
-with_entry listed entry detail = record { entries = listed.entries ++ entry ∷ []; details = listed.details ++ detail ∷ [] }
+abbrev pub entries_and_details_with_one_more : EntriesAndDetails → IndexEntry → Detail → EntriesAndDetails
+entries_and_details_with_one_more listed entry detail = record { entries = listed.entries ++ entry ∷ []; details = listed.details ++ detail ∷ [] }
 
 -- some entries, and what is behind them
-pub record Entries : Type 0 where
-  pub listed : Listed
+pub record EntriesAndRest : Type 0 where
+  pub listed : EntriesAndDetails
   pub rest : List ℕ
 
-abbrev pub path_or : Option IndexEntry → List ℕ
-path_or None = []
-path_or (Some e) = e.path
+abbrev pub path_of_optional_entry : Option IndexEntry → List ℕ
+path_of_optional_entry None = []
+path_of_optional_entry (Some e) = e.path
 
 -- the path of the last entry; the empty one where there is none
-abbrev pub last_path : List IndexEntry → List ℕ
-last_path entries = path_or (slice_get entries (length entries - 1))
+abbrev pub path_of_last_entry : List IndexEntry → List ℕ
+path_of_last_entry entries = path_of_optional_entry (slice_get entries (length entries - 1))
 
 -- so many entries behind those that are read; the fault has the place of the first that is outside the grammar
-abbrev pub entries_after : ℕ → Listed → ℕ → List ℕ → Result Entries IndexFileError
-entries_after version listed zero bytes = Ok (record { listed = listed; rest = bytes })
-entries_after version listed (suc n) bytes =
-    and_then (λ (read : EntryAndRest). entries_after version (with_entry listed read.entry read.detail) n read.rest)
-    (ok_or (entry_at version (last_path listed.entries) bytes) (BadEntry (length listed.entries)))
+abbrev pub read_entries_after_others : ℕ → EntriesAndDetails → ℕ → List ℕ → Result EntriesAndRest IndexFileError
+read_entries_after_others version listed zero bytes = Ok (record { listed = listed; rest = bytes })
+read_entries_after_others version listed (suc n) bytes =
+    and_then (λ (read : EntryAndRest). read_entries_after_others version (entries_and_details_with_one_more listed read.entry read.detail) n read.rest)
+    (ok_or (read_entry version (path_of_last_entry listed.entries) bytes) (BadEntry (length listed.entries)))

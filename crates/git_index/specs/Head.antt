@@ -6,62 +6,62 @@
 -- stage, and twelve of the path's length, which are 4095 where that is more.
 use Rattle.std.specs.Prelude.{ℕ, ◌/◌, ◌%◌, Bool, ◌==◌, List, take, drop, Option, Some, None, option_map, bit_or, if◌then◌else◌}
 use Rattle.byteorder.specs.Endian.{big_number}
-use Rattle.gitbase_core.specs.Entry.{file_mode, executable_mode, symlink_mode, commit_mode, dir_mode, assume_valid_flag, skip_worktree_flag}
+use Rattle.gitbase_core.specs.Entry.{regular_file_mode, executable_file_mode, symlink_mode, gitlink_mode, sparse_directory_mode, assume_valid_flag, skip_worktree_flag}
 use Rattle.gitbase_core.specs.declared.entry.Mode.{Mode}
 use Rattle.gitbase_core.specs.declared.entry.Flags.{Flags}
-use Rattle.git_index.specs.Parts.{word}
+use Rattle.git_index.specs.Parts.{big_endian_word_at_index}
 use Rattle.git_index.specs.declared.stat.Stat.{Stat}
 
-abbrev pub mode_with : ℕ → Mode
-mode_with bits = record { 0 = bits }
+abbrev pub mode_with_bits : ℕ → Mode
+mode_with_bits bits = record { 0 = bits }
 
 -- the mode of these bits; none where git writes no such
-abbrev pub mode_of : ℕ → Option Mode
-mode_of bits =
-    if bits == file_mode then Some (mode_with bits)
-    else if bits == executable_mode then Some (mode_with bits)
-    else if bits == symlink_mode then Some (mode_with bits)
-    else if bits == commit_mode then Some (mode_with bits)
-    else if bits == dir_mode then Some (mode_with bits)
+abbrev pub known_mode_of_bits : ℕ → Option Mode
+known_mode_of_bits bits =
+    if bits == regular_file_mode then Some (mode_with_bits bits)
+    else if bits == executable_file_mode then Some (mode_with_bits bits)
+    else if bits == symlink_mode then Some (mode_with_bits bits)
+    else if bits == gitlink_mode then Some (mode_with_bits bits)
+    else if bits == sparse_directory_mode then Some (mode_with_bits bits)
     else None
 
-abbrev pub stat_of : List ℕ → Stat
-stat_of head = record {
-  ctime = record { seconds = word 0 head; nanoseconds = word 1 head };
-  mtime = record { seconds = word 2 head; nanoseconds = word 3 head };
-  dev = word 4 head;
-  ino = word 5 head;
-  uid = word 7 head;
-  gid = word 8 head;
-  size = word 9 head;
+abbrev pub stat_of_entry_head : List ℕ → Stat
+stat_of_entry_head head = record {
+  ctime = record { seconds = big_endian_word_at_index 0 head; nanoseconds = big_endian_word_at_index 1 head };
+  mtime = record { seconds = big_endian_word_at_index 2 head; nanoseconds = big_endian_word_at_index 3 head };
+  dev = big_endian_word_at_index 4 head;
+  ino = big_endian_word_at_index 5 head;
+  uid = big_endian_word_at_index 7 head;
+  gid = big_endian_word_at_index 8 head;
+  size = big_endian_word_at_index 9 head;
 }
 
-pub record Fixed : Type 0 where
+pub record FixedEntryFields : Type 0 where
   pub stat : Stat
   pub mode : Mode
   pub id : List ℕ
   pub flags : ℕ
 
 -- none where the mode is none that git writes
-abbrev pub fixed_of : List ℕ → Option Fixed
-fixed_of head =
-    option_map (λ (mode : Mode). record { stat = stat_of head; mode = mode; id = take 20 (drop 40 head); flags = big_number 2 (drop 60 head) })
-    (mode_of (word 6 head))
+abbrev pub parse_fixed_entry_fields : List ℕ → Option FixedEntryFields
+parse_fixed_entry_fields head =
+    option_map (λ (mode : Mode). record { stat = stat_of_entry_head head; mode = mode; id = take 20 (drop 40 head); flags = big_number 2 (drop 60 head) })
+    (known_mode_of_bits (big_endian_word_at_index 6 head))
 
 -- ---- the flags
 
-abbrev pub is_assumed : ℕ → Bool
-is_assumed flags = flags / 32768 % 2 == 1
+abbrev pub is_assume_valid_set : ℕ → Bool
+is_assume_valid_set flags = flags / 32768 % 2 == 1
 
-abbrev pub is_extended : ℕ → Bool
-is_extended flags = flags / 16384 % 2 == 1
+abbrev pub is_extended_flag_set : ℕ → Bool
+is_extended_flag_set flags = flags / 16384 % 2 == 1
 
-abbrev pub stage_of : ℕ → ℕ
-stage_of flags = flags / 4096 % 4
+abbrev pub stage_from_flags : ℕ → ℕ
+stage_from_flags flags = flags / 4096 % 4
 
-abbrev pub length_of : ℕ → ℕ
-length_of flags = flags % 4096
+abbrev pub path_length_from_flags : ℕ → ℕ
+path_length_from_flags flags = flags % 4096
 
 -- the flags of an entry that is assumed unchanged, or left out of a sparse worktree
-abbrev pub flags_of : Bool → Bool → Flags
-flags_of assumed skipped = record { 0 = bit_or (if assumed then assume_valid_flag else 0) (if skipped then skip_worktree_flag else 0) }
+abbrev pub flags_of_assumed_and_skipped : Bool → Bool → Flags
+flags_of_assumed_and_skipped assumed skipped = record { 0 = bit_or (if assumed then assume_valid_flag else 0) (if skipped then skip_worktree_flag else 0) }

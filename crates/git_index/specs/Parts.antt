@@ -8,19 +8,19 @@ pub record PartAndRest : Type 0 where
   pub rest : List ℕ
 
 -- the first n bytes; none where there are fewer
-abbrev pub front : ℕ → List ℕ → Option PartAndRest
-front n bytes = if nat_le n (length bytes) then Some (record { part = take n bytes; rest = drop n bytes }) else None
+abbrev pub split_first_bytes : ℕ → List ℕ → Option PartAndRest
+split_first_bytes n bytes = if nat_le n (length bytes) then Some (record { part = take n bytes; rest = drop n bytes }) else None
 
 abbrev pub is_nul : ℕ → Bool
 is_nul b = b == 0
 
-abbrev pub parted_at : List ℕ → ℕ → PartAndRest
-parted_at bytes place = record { part = take place bytes; rest = drop (place + 1) bytes }
+abbrev pub split_around_byte_at : List ℕ → ℕ → PartAndRest
+split_around_byte_at bytes place = record { part = take place bytes; rest = drop (place + 1) bytes }
 
 -- the bytes before the first NUL, and what is behind that; none where there is no NUL
 abbrev pub text : List ℕ → Option PartAndRest
-text bytes = option_map (parted_at bytes) (position is_nul bytes)
+text bytes = option_map (split_around_byte_at bytes) (position is_nul bytes)
 
 -- the number of four bytes at a place, where such numbers follow one another and the first has place 0
-abbrev pub word : ℕ → List ℕ → ℕ
-word place bytes = big_number 4 (drop (4 * place) bytes)
+abbrev pub big_endian_word_at_index : ℕ → List ℕ → ℕ
+big_endian_word_at_index place bytes = big_number 4 (drop (4 * place) bytes)

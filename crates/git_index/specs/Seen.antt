@@ -18,30 +18,30 @@ use Rattle.git_index.specs.Name as name
 use Rattle.git_index.specs.Entries as entries
 use Rattle.git_index.specs.Extensions as extensions
 
-abbrev pub parted_seen : PartAndRest → parts.PartAndRest
-parted_seen p = record { part = p.part.now; rest = p.rest.now }
+abbrev pub part_and_rest_as_record : PartAndRest → parts.PartAndRest
+part_and_rest_as_record p = record { part = p.part.now; rest = p.rest.now }
 
-abbrev pub number_seen : Varint → varint.Number
-number_seen n = record { value = n.value; rest = n.rest.now }
+abbrev pub varint_as_record : Varint → varint.VarintAndRest
+varint_as_record n = record { value = n.value; rest = n.rest.now }
 
-abbrev pub fixed_seen : Fixed → head.Fixed
-fixed_seen f = record { stat = f.stat; mode = f.mode; id = f.id; flags = f.flags }
+abbrev pub fixed_fields_as_record : Fixed → head.FixedEntryFields
+fixed_fields_as_record f = record { stat = f.stat; mode = f.mode; id = f.id; flags = f.flags }
 
-abbrev pub more_seen : ExtendedFlagsAndRest → more.ExtendedFlagsAndRest
-more_seen m = record { size = m.size; is_skipped = m.is_skipped; intent_to_add = m.intent_to_add; rest = m.rest.now }
+abbrev pub extended_flags_as_record : ExtendedFlagsAndRest → more.ExtendedFlagsAndRest
+extended_flags_as_record m = record { size = m.size; is_skipped = m.is_skipped; intent_to_add = m.intent_to_add; rest = m.rest.now }
 
-abbrev pub named_seen : PathAndRest → name.PathAndRest
-named_seen n = record { path = n.path; rest = n.rest.now }
+abbrev pub path_and_rest_as_record : PathAndRest → name.PathAndRest
+path_and_rest_as_record n = record { path = n.path; rest = n.rest.now }
 
-abbrev pub read_seen : EntryAndRest → entries.EntryAndRest
-read_seen r = record { entry = r.entry; detail = r.detail; rest = r.rest.now }
+abbrev pub entry_and_rest_as_record : EntryAndRest → entries.EntryAndRest
+entry_and_rest_as_record r = record { entry = r.entry; detail = r.detail; rest = r.rest.now }
 
-abbrev pub listed_seen : Listed → entries.Listed
-listed_seen l = record { entries = l.entries.items; details = l.details.items }
+abbrev pub entries_and_details_as_record : Listed → entries.EntriesAndDetails
+entries_and_details_as_record l = record { entries = l.entries.items; details = l.details.items }
 
-abbrev pub entries_seen : Entries → entries.Entries
-entries_seen r = record { listed = listed_seen r.listed; rest = r.rest.now }
+abbrev pub entries_and_rest_as_record : Entries → entries.EntriesAndRest
+entries_and_rest_as_record r = record { listed = entries_and_details_as_record r.listed; rest = r.rest.now }
 
-abbrev pub extension_seen : Result Extension IndexFileError → Result extensions.Extension IndexFileError
-extension_seen (Ok e) = Ok (record { size = e.size; is_sparse = e.is_sparse })
-extension_seen (Err e) = Err e
+abbrev pub extension_head_result_as_record : Result Extension IndexFileError → Result extensions.ExtensionHead IndexFileError
+extension_head_result_as_record (Ok e) = Ok (record { size = e.size; is_sparse = e.is_sparse })
+extension_head_result_as_record (Err e) = Err e

@@ -6,33 +6,33 @@ use Rattle.std.specs.Prelude.{ℕ, zero, suc, ◌+◌, ◌*◌, ◌/◌, ◌%◌
 -- ---- as it is written
 
 -- the bytes before the last one, where a number is left above that one's seven bits; five are more than 32 bits need
-unfoldable pub leading_bytes : ℕ → ℕ → List ℕ
-leading_bytes zero left = []
-leading_bytes (suc n) zero = []
-leading_bytes (suc n) (suc left) = leading_bytes n (left / 128) ++ (128 + left % 128) ∷ []
+unfoldable pub varint_leading_bytes : ℕ → ℕ → List ℕ
+varint_leading_bytes zero left = []
+varint_leading_bytes (suc n) zero = []
+varint_leading_bytes (suc n) (suc left) = varint_leading_bytes n (left / 128) ++ (128 + left % 128) ∷ []
 
 -- the text of a number
-abbrev pub number_text : ℕ → List ℕ
-number_text n = leading_bytes 5 (n / 128) ++ n % 128 ∷ []
+abbrev pub varint_bytes_of_number : ℕ → List ℕ
+varint_bytes_of_number n = varint_leading_bytes 5 (n / 128) ++ n % 128 ∷ []
 
 -- ---- as it is read
 
 -- a number, and what is behind it
-pub record Number : Type 0 where
+pub record VarintAndRest : Type 0 where
   pub value : ℕ
   pub rest : List ℕ
 
 -- the number with one byte more
-abbrev pub with_byte : ℕ → ℕ → ℕ
-with_byte so_far b = so_far * 128 + b % 128
+abbrev pub varint_with_byte_added : ℕ → ℕ → ℕ
+varint_with_byte_added so_far b = so_far * 128 + b % 128
 
 -- the number of which so much is read; none where it does not end, or has more than 32 bits
-abbrev pub number_after : ℕ → List ℕ → Option Number
-number_after so_far [] = None
-number_after so_far (b ∷ bytes) =
-    if nat_lt (with_byte so_far b) (2 ^ 32)
-    then (if nat_lt b 128 then Some (record { value = with_byte so_far b; rest = bytes }) else number_after (with_byte so_far b + 1) bytes)
+abbrev pub read_varint_after_part : ℕ → List ℕ → Option VarintAndRest
+read_varint_after_part so_far [] = None
+read_varint_after_part so_far (b ∷ bytes) =
+    if nat_lt (varint_with_byte_added so_far b) (2 ^ 32)
+    then (if nat_lt b 128 then Some (record { value = varint_with_byte_added so_far b; rest = bytes }) else read_varint_after_part (varint_with_byte_added so_far b + 1) bytes)
     else None
 
-abbrev pub number : List ℕ → Option Number
-number bytes = number_after 0 bytes
+abbrev pub read_varint : List ℕ → Option VarintAndRest
+read_varint bytes = read_varint_after_part 0 bytes

@@ -1,10 +1,10 @@
 //! The entries of an index file, one behind another.
 ghost use Rattle.std.specs.Prelude.{◌≡◌, OnOk, IfOk};
 ghost use Rattle.git_index.specs.Entries as texts;
-ghost use Rattle.git_index.specs.Gives.{GivesEntries};
-ghost use Rattle.git_index.specs.Seen.{listed_seen, read_seen};
+ghost use Rattle.git_index.specs.Gives.{EntriesResultAgrees};
+ghost use Rattle.git_index.specs.Seen.{entries_and_details_as_record, entry_and_rest_as_record};
 
-use crate::entry::{EntryAndRest, entry_at};
+use crate::entry::{EntryAndRest, read_entry};
 use crate::error::IndexFileError;
 use crate::stat::Detail;
 use gitbase_core::{IndexEntry, OutOfMemory};
@@ -29,8 +29,9 @@ pub struct Entries<'a> {
 
 impl Listed {
     /// No entries, and room for so many.
-    fn with_room(alloc: Global, room: usize) -> Result<Listed, OutOfMemory>
-        ensures { IfOk result (λ listed. listed_seen listed ≡ texts.none_listed) }
+    fn with_room_for_entries(alloc: Global, room: usize) -> Result<Listed, OutOfMemory>
+        ensures { IfOk result (λ listed. entries_and_details_as_record listed
+            ≡ texts.no_entries_and_details) }
     {
         Ok(Listed {
             entries: Vec::with_capacity(alloc, room)?,
@@ -39,8 +40,8 @@ impl Listed {
     }
 
     /// The path of the last entry; the empty one where there is none.
-    fn last_path(&self) -> &[u8]
-        ensures { result.now ≡ texts.last_path self.now.entries.items }
+    fn path_of_last_entry(&self) -> &[u8]
+        ensures { result.now ≡ texts.path_of_last_entry self.now.entries.items }
     {
         match self.entries.last() {
             Some(entry) => entry.path.as_bytes(),
@@ -50,8 +51,9 @@ impl Listed {
 
     /// Adds an entry at the end.
     fn push(&mut self, entry: IndexEntry, detail: Detail) -> Result<(), OutOfMemory>
-        ensures { OnOk result (listed_seen self.new
-            ≡ texts.with_entry (listed_seen self.old) entry detail) }
+        ensures { OnOk result (entries_and_details_as_record self.new
+            ≡ texts.entries_and_details_with_one_more (entries_and_details_as_record self.old) entry
+            detail) }
     {
         self.entries.push(entry)?;
         self.details.push(detail)?;
@@ -62,21 +64,21 @@ impl Listed {
 /// So many entries at the front of some bytes.
 ///
 /// The count is not believed: room is made for no more entries than the bytes can hold.
-pub fn entries_in(
+pub fn read_entries(
     alloc: Global,
     version: u32,
     count: u32,
     bytes: &[u8],
 ) -> Result<Entries<'_>, IndexFileError>
-    ensures { GivesEntries result
-        (texts.entries_after version texts.none_listed count bytes.now) }
+    ensures { EntriesResultAgrees result
+        (texts.read_entries_after_others version texts.no_entries_and_details count bytes.now) }
 {
     let room = (count as usize).min(bytes.len() / SHORTEST_ENTRY);
-    let mut listed = Listed::with_room(alloc, room)?;
+    let mut listed = Listed::with_room_for_entries(alloc, room)?;
     let mut rest = bytes;
     let mut left = count;
     while left > 0 {
-        let Some(read) = entry_at(alloc, version, listed.last_path(), rest)? else {
+        let Some(read) = read_entry(alloc, version, listed.path_of_last_entry(), rest)? else {
             return Err(IndexFileError::Entry {
                 at: listed.entries.len(),
             });

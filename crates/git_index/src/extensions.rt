@@ -1,10 +1,10 @@
 //! The extensions of an index file.
 ghost use Rattle.std.specs.Prelude.{◌≡◌, ◌≤◌, length, take, false};
 ghost use Rattle.git_index.specs.Extensions as extensions;
-ghost use Rattle.git_index.specs.Seen.{extension_seen};
+ghost use Rattle.git_index.specs.Seen.{extension_head_result_as_record};
 
 use crate::error::IndexFileError;
-use crate::parts::word;
+use crate::parts::big_endian_word_at_index;
 
 /// What the head of an extension says: how many bytes are behind it, and whether it marks a sparse
 /// index.
@@ -16,13 +16,13 @@ struct Extension {
 
 /// Whether one of the extensions marks a sparse index; or the first that is cut, or has to be
 /// understood and is not.
-pub fn is_sparse_by(bytes: &[u8]) -> Result<bool, IndexFileError>
-    ensures { result ≡ extensions.extensions_after 0 false bytes.now }
+pub fn is_sparse_by_extensions(bytes: &[u8]) -> Result<bool, IndexFileError>
+    ensures { result ≡ extensions.is_sparse_after_extensions 0 false bytes.now }
 {
     let mut is_sparse = false;
     let mut left = bytes;
     while !left.is_empty() {
-        let extension = extension_at(left)?;
+        let extension = read_extension_head(left)?;
         let (_, behind) = left.split_at(8);
         if (extension.size as usize) > behind.len() {
             return Err(IndexFileError::Extensions);
@@ -35,21 +35,25 @@ pub fn is_sparse_by(bytes: &[u8]) -> Result<bool, IndexFileError>
 }
 
 /// What the head of the first extension says.
-fn extension_at(bytes: &[u8]) -> Result<Extension, IndexFileError>
-    ensures { extension_seen result ≡ extensions.extension_at bytes.now }
+fn read_extension_head(bytes: &[u8]) -> Result<Extension, IndexFileError>
+    ensures { extension_head_result_as_record result ≡ extensions.read_extension_head bytes.now }
 {
     if bytes.len() < 8 {
         return Err(IndexFileError::Extensions);
     }
     match bytes.split_first_chunk::<4>() {
-        Some((name, _)) => named_extension(*name, word(bytes, 1)),
+        Some((name, _)) => extension_head_of_name_and_size(
+            *name,
+            big_endian_word_at_index(bytes, 1),
+        ),
         None => Err(IndexFileError::Extensions),
     }
 }
 
 /// What a name and a size say.
-fn named_extension(name: [u8; 4], size: u32) -> Result<Extension, IndexFileError>
-    ensures { extension_seen result ≡ extensions.named_extension name size }
+fn extension_head_of_name_and_size(name: [u8; 4], size: u32) -> Result<Extension, IndexFileError>
+    ensures { extension_head_result_as_record result ≡ extensions.extension_head_of_name_and_size
+        name size }
 {
     if name[0] >= b'A' && name[0] <= b'Z' {
         return Ok(Extension {

@@ -2,16 +2,16 @@
 ghost use Rattle.std.specs.Prelude.{◌≡◌, ◌≤◌, ℕ, List, length, codes, position, take, Ok, Err, IfOk, MatchResult};
 ghost use Rattle.std.specs.Str.{bytes_eq};
 ghost use Rattle.sha1.specs.Sha1.{sha1};
-ghost use Rattle.git_index.specs.Fault.{IsFaultAt};
+ghost use Rattle.git_index.specs.Fault.{IsFirstBadEntryAt};
 ghost use Rattle.git_index.specs.IndexFile as files;
-ghost use Rattle.git_index.specs.Gives.{GivesIndex};
-ghost use Rattle.git_index.specs.Seen.{entries_seen, listed_seen};
-ghost use Rattle.git_index.specs.Written.{WrittenExtension, IsFileOf, IsIndexText, Written, index_written};
+ghost use Rattle.git_index.specs.Gives.{IndexResultAgrees};
+ghost use Rattle.git_index.specs.Seen.{entries_and_rest_as_record, entries_and_details_as_record};
+ghost use Rattle.git_index.specs.Written.{WrittenExtension, IsIndexFileOfContents, IsIndexFileOfWritten, WrittenEntry, index_of_written};
 
-use crate::entries::{Entries, Listed, entries_in};
+use crate::entries::{Entries, Listed, read_entries};
 use crate::error::IndexFileError;
-use crate::extensions::is_sparse_by;
-use crate::parts::{are_nuls, word};
+use crate::extensions::is_sparse_by_extensions;
+use crate::parts::{are_all_nul, big_endian_word_at_index};
 use crate::stat::Detail;
 use gitbase_core::IndexEntry;
 use sha1::Sha1;
@@ -37,7 +37,7 @@ pub struct IndexFile {
 impl Model for IndexFile {
     ghost use Rattle.git_index.specs.IndexFile as files;
 
-    ghost Value = { files.Index };
+    ghost Value = { files.IndexFileContents };
 
     ghost view = { λ file. record {
       entries = file.listed.entries.items;
@@ -99,68 +99,68 @@ impl IndexFile {
 ///   more entries than the bytes can hold.
 pub fn read_index(alloc: Global, bytes: &[u8]) -> Result<IndexFile, IndexFileError>
     // It answers what the bytes say, or what is wrong with them first; want of memory alone is free.
-    ensures gives { GivesIndex result (files.index_of_bytes bytes.now) }
+    ensures gives { IndexResultAgrees result (files.index_of_file_bytes bytes.now) }
 
     // Where it answers a file, the bytes are one that a writer makes of these entries.
-    ensures sound { IfOk result (IsFileOf bytes.now) }
+    ensures sound { IfOk result (IsIndexFileOfContents bytes.now) }
 
     // Whatever entries and extensions the bytes are the file of, in whatever version, these are what it
     // answers.
-    ensures written { (version : ℕ) (ws : List Written) (es : List WrittenExtension)
-        → IsIndexText bytes.now version ws es → MatchResult result
-        (λ file. file ≡ index_written ws es) (λ error. error ≡ IndexFileError.OutOfMemory) }
+    ensures written { (version : ℕ) (ws : List WrittenEntry) (es : List WrittenExtension)
+        → IsIndexFileOfWritten bytes.now version ws es → MatchResult result
+        (λ file. file ≡ index_of_written ws es) (λ error. error ≡ IndexFileError.OutOfMemory) }
 
     // These bytes are the file of one index at most, whether memory is wanted or not: the one that the
     // definition reads.
-    ensures unique { (index : files.Index) → IsFileOf bytes.now index
-        → files.index_of_bytes bytes.now ≡ Ok index }
-    ensures told { (index : files.Index) → files.index_of_bytes bytes.now ≡ Ok index
-        → IsFileOf bytes.now index }
+    ensures unique { (index : files.IndexFileContents) → IsIndexFileOfContents bytes.now index
+        → files.index_of_file_bytes bytes.now ≡ Ok index }
+    ensures told { (index : files.IndexFileContents) → files.index_of_file_bytes bytes.now
+        ≡ Ok index → IsIndexFileOfContents bytes.now index }
 
     // `Entry` is told where as many entries as it says stand behind the head, which promises more, and what is
     // behind them begins with none.
-    ensures fault { (at : ℕ) → files.index_of_bytes bytes.now ≡ Err (IndexFileError.Entry at)
-        → IsFaultAt bytes.now at }
+    ensures fault { (at : ℕ) → files.index_of_file_bytes bytes.now ≡ Err (IndexFileError.Entry at)
+        → IsFirstBadEntryAt bytes.now at }
 
     // Beside each entry stands what else the file says of it.
     ensures beside { IfOk result (λ file. length file.details ≡ length file.entries) }
 {
-    index_of_file(alloc, bytes)
+    index_of_file_bytes(alloc, bytes)
 }
 
 /// The index of a file.
-#[tactic(auto, unfolding(crate::specs::IndexFile::index_of_bytes))]
-fn index_of_file(alloc: Global, bytes: &[u8]) -> Result<IndexFile, IndexFileError>
-    ensures { GivesIndex result (files.index_of_bytes bytes.now) }
+#[tactic(auto, unfolding(crate::specs::IndexFile::index_of_file_bytes))]
+fn index_of_file_bytes(alloc: Global, bytes: &[u8]) -> Result<IndexFile, IndexFileError>
+    ensures { IndexResultAgrees result (files.index_of_file_bytes bytes.now) }
 {
     if bytes.len() < HEAD_LENGTH + SUM_LENGTH {
         return Err(IndexFileError::Short);
     }
     let (body, sum) = bytes.split_at(bytes.len() - SUM_LENGTH);
-    read_verified_body(alloc, body, sum)
+    verify_and_read_body(alloc, body, sum)
 }
 
 /// The index in a body, with what stands behind it as its sum.
-fn read_verified_body(alloc: Global, body: &[u8], sum: &[u8]) -> Result<IndexFile, IndexFileError>
+fn verify_and_read_body(alloc: Global, body: &[u8], sum: &[u8]) -> Result<IndexFile, IndexFileError>
     requires { 12 ≤ length body.now }
-    ensures { GivesIndex result (files.read_verified_body body.now sum.now) }
+    ensures { IndexResultAgrees result (files.verify_and_read_body body.now sum.now) }
 {
-    if !is_signed(body) {
+    if !has_index_signature(body) {
         return Err(IndexFileError::Signature);
     }
-    let version = word(body, 1);
-    if !is_version(version) {
+    let version = big_endian_word_at_index(body, 1);
+    if !is_supported_version(version) {
         return Err(IndexFileError::Version { version });
     }
-    if !is_sum(body, sum) {
+    if !is_checksum_or_nuls(body, sum) {
         return Err(IndexFileError::Sum);
     }
     let (_, rest) = body.split_at(HEAD_LENGTH);
-    index_of(alloc, version, word(body, 2), rest)
+    read_entries_and_extensions(alloc, version, big_endian_word_at_index(body, 2), rest)
 }
 
 /// Whether a body begins as git's index files do.
-fn is_signed(body: &[u8]) -> bool
+fn has_index_signature(body: &[u8]) -> bool
     requires { 4 ≤ length body.now }
     ensures { result ≡ bytes_eq (take 4 body.now) (codes "DIRC") }
 {
@@ -169,21 +169,21 @@ fn is_signed(body: &[u8]) -> bool
 }
 
 /// Whether a version is read here.
-fn is_version(version: u32) -> bool
-    ensures { result ≡ files.is_version version }
+fn is_supported_version(version: u32) -> bool
+    ensures { result ≡ files.is_supported_version version }
 {
     2 <= version && version <= 4
 }
 
 /// Whether a sum is that of a body, or nothing but NULs.
-fn is_sum(body: &[u8], sum: &[u8]) -> bool
-    ensures { result ≡ files.is_sum body.now sum.now }
+fn is_checksum_or_nuls(body: &[u8], sum: &[u8]) -> bool
+    ensures { result ≡ files.is_checksum_or_nuls body.now sum.now }
 {
-    are_nuls(sum) || is_digest(body, sum)
+    are_all_nul(sum) || is_sha1_of_body(body, sum)
 }
 
 /// Whether a sum is that of a body.
-fn is_digest(body: &[u8], sum: &[u8]) -> bool
+fn is_sha1_of_body(body: &[u8], sum: &[u8]) -> bool
     ensures { result ≡ bytes_eq sum.now (sha1 body.now) }
 {
     let digest = Sha1::digest(body);
@@ -191,40 +191,45 @@ fn is_digest(body: &[u8], sum: &[u8]) -> bool
 }
 
 /// The index of so many entries, and of the extensions behind them.
-fn index_of(
+fn read_entries_and_extensions(
     alloc: Global,
     version: u32,
     count: u32,
     bytes: &[u8],
 ) -> Result<IndexFile, IndexFileError>
-    ensures { GivesIndex result (files.index_of version count bytes.now) }
+    ensures { IndexResultAgrees result (files.read_entries_and_extensions version count bytes.now) }
 {
-    let read = entries_in(alloc, version, count, bytes)?;
-    index_with_extensions(read)
+    let read = read_entries(alloc, version, count, bytes)?;
+    index_after_reading_extensions(read)
 }
 
 /// The index of these entries, and of the extensions behind them.
-fn index_with_extensions(read: Entries<'_>) -> Result<IndexFile, IndexFileError>
-    ensures { GivesIndex result (files.index_with_extensions (entries_seen read.entry)) }
+fn index_after_reading_extensions(read: Entries<'_>) -> Result<IndexFile, IndexFileError>
+    ensures { IndexResultAgrees result (files.index_after_reading_extensions
+        (entries_and_rest_as_record read.entry)) }
 {
-    let is_sparse = is_sparse_by(read.rest)?;
-    marked_index(read.listed, is_sparse)
+    let is_sparse = is_sparse_by_extensions(read.rest)?;
+    index_unless_unmarked_directory(read.listed, is_sparse)
 }
 
 /// The index of these entries; refused where one stands for a directory, and the index is not
 /// sparse.
-fn marked_index(listed: Listed, is_sparse: bool) -> Result<IndexFile, IndexFileError>
-    ensures { result ≡ files.marked_index (listed_seen listed) is_sparse }
+fn index_unless_unmarked_directory(
+    listed: Listed,
+    is_sparse: bool,
+) -> Result<IndexFile, IndexFileError>
+    ensures { result ≡ files.index_unless_unmarked_directory (entries_and_details_as_record listed)
+        is_sparse }
 {
-    match first_directory(&listed.entries) {
+    match place_of_first_sparse_directory(&listed.entries) {
         Some(at) if !is_sparse => Err(IndexFileError::Directory { at }),
         _ => Ok(IndexFile { listed, is_sparse }),
     }
 }
 
 /// The first entry that stands for a directory.
-fn first_directory(entries: &[IndexEntry]) -> Option<usize>
-    ensures { result ≡ position files.is_directory entries.now }
+fn place_of_first_sparse_directory(entries: &[IndexEntry]) -> Option<usize>
+    ensures { result ≡ position files.is_sparse_directory_entry entries.now }
 {
     entries.iter().position(|entry| entry.mode.is_sparse())
 }

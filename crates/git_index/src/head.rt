@@ -1,9 +1,9 @@
 //! The first 62 bytes of an entry.
 ghost use Rattle.std.specs.Prelude.{◌≡◌, length, take, drop, option_map};
 ghost use Rattle.git_index.specs.Head as heads;
-ghost use Rattle.git_index.specs.Seen.{fixed_seen};
+ghost use Rattle.git_index.specs.Seen.{fixed_fields_as_record};
 
-use crate::parts::{short_behind, word};
+use crate::parts::{big_endian_u16_after_skip, big_endian_word_at_index};
 use crate::stat::{Stat, Time};
 use gitbase_core::{Flags, Mode, ObjectId};
 
@@ -20,24 +20,24 @@ pub struct Fixed {
 }
 
 /// What the first 62 bytes of an entry say; none where the mode is none that git writes.
-pub fn fixed_of(head: &[u8]) -> Option<Fixed>
+pub fn parse_fixed_entry_fields(head: &[u8]) -> Option<Fixed>
     requires { length head.now ≡ 62 }
-    ensures { option_map fixed_seen result ≡ heads.fixed_of head.now }
+    ensures { option_map fixed_fields_as_record result ≡ heads.parse_fixed_entry_fields head.now }
 {
-    let Some(mode) = mode_of(word(head, 6)) else {
+    let Some(mode) = known_mode_of_bits(big_endian_word_at_index(head, 6)) else {
         return None;
     };
     Some(Fixed {
-        stat: stat_of(head),
+        stat: stat_of_entry_head(head),
         mode,
-        id: id_of(head),
-        flags: short_behind(head, 60),
+        id: object_id_of_entry_head(head),
+        flags: big_endian_u16_after_skip(head, 60),
     })
 }
 
 /// The mode of these bits; none where git writes no such.
-fn mode_of(bits: u32) -> Option<Mode>
-    ensures { result ≡ heads.mode_of bits }
+fn known_mode_of_bits(bits: u32) -> Option<Mode>
+    ensures { result ≡ heads.known_mode_of_bits bits }
 {
     match bits {
         0o100644 => Some(Mode::FILE),
@@ -50,29 +50,29 @@ fn mode_of(bits: u32) -> Option<Mode>
 }
 
 /// What git saw of the file.
-fn stat_of(head: &[u8]) -> Stat
+fn stat_of_entry_head(head: &[u8]) -> Stat
     requires { length head.now ≡ 62 }
-    ensures { result ≡ heads.stat_of head.now }
+    ensures { result ≡ heads.stat_of_entry_head head.now }
 {
     Stat {
         ctime: Time {
-            seconds: word(head, 0),
-            nanoseconds: word(head, 1),
+            seconds: big_endian_word_at_index(head, 0),
+            nanoseconds: big_endian_word_at_index(head, 1),
         },
         mtime: Time {
-            seconds: word(head, 2),
-            nanoseconds: word(head, 3),
+            seconds: big_endian_word_at_index(head, 2),
+            nanoseconds: big_endian_word_at_index(head, 3),
         },
-        dev: word(head, 4),
-        ino: word(head, 5),
-        uid: word(head, 7),
-        gid: word(head, 8),
-        size: word(head, 9),
+        dev: big_endian_word_at_index(head, 4),
+        ino: big_endian_word_at_index(head, 5),
+        uid: big_endian_word_at_index(head, 7),
+        gid: big_endian_word_at_index(head, 8),
+        size: big_endian_word_at_index(head, 9),
     }
 }
 
 /// The id, which stands behind 40 bytes.
-fn id_of(head: &[u8]) -> ObjectId
+fn object_id_of_entry_head(head: &[u8]) -> ObjectId
     requires { length head.now ≡ 62 }
     ensures { result ≡ take 20 (drop 40 head.now) }
 {
@@ -84,36 +84,36 @@ fn id_of(head: &[u8]) -> ObjectId
 }
 
 /// Whether the flags say that the file is to be taken as unchanged.
-pub fn is_assumed(flags: u16) -> bool
-    ensures { result ≡ heads.is_assumed flags }
+pub fn is_assume_valid_set(flags: u16) -> bool
+    ensures { result ≡ heads.is_assume_valid_set flags }
 {
     flags / 0x8000 % 2 == 1
 }
 
 /// Whether the flags say that a second pair of bytes follows.
-pub fn is_extended(flags: u16) -> bool
-    ensures { result ≡ heads.is_extended flags }
+pub fn is_extended_flag_set(flags: u16) -> bool
+    ensures { result ≡ heads.is_extended_flag_set flags }
 {
     flags / 0x4000 % 2 == 1
 }
 
 /// The stage in the flags.
-pub fn stage_of(flags: u16) -> u8
-    ensures { result ≡ heads.stage_of flags }
+pub fn stage_from_flags(flags: u16) -> u8
+    ensures { result ≡ heads.stage_from_flags flags }
 {
     (flags / 0x1000 % 4) as u8
 }
 
 /// The path's length in the flags: 4095 where it is that or more.
-pub fn length_of(flags: u16) -> usize
-    ensures { result ≡ heads.length_of flags }
+pub fn path_length_from_flags(flags: u16) -> usize
+    ensures { result ≡ heads.path_length_from_flags flags }
 {
     usize::from(flags % 0x1000)
 }
 
 /// What an index keeps of an entry's flags.
-pub fn flags_of(assumed: bool, skipped: bool) -> Flags
-    ensures { result ≡ heads.flags_of assumed skipped }
+pub fn flags_of_assumed_and_skipped(assumed: bool, skipped: bool) -> Flags
+    ensures { result ≡ heads.flags_of_assumed_and_skipped assumed skipped }
 {
     let first = if assumed {
         Flags::ASSUME_VALID

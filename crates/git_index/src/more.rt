@@ -1,9 +1,9 @@
 //! The second pair of bytes of an entry's flags.
 ghost use Rattle.std.specs.Prelude.{◌≡◌, ◌≤◌, option_map, IfSome};
 ghost use Rattle.git_index.specs.More as mores;
-ghost use Rattle.git_index.specs.Seen.{more_seen};
+ghost use Rattle.git_index.specs.Seen.{extended_flags_as_record};
 
-use crate::parts::{front, short_behind};
+use crate::parts::{big_endian_u16_after_skip, split_first_bytes};
 
 /// What the second pair of flags says, how many bytes it takes, and what is behind it.
 #[derive(Clone, Copy)]
@@ -16,8 +16,13 @@ pub struct ExtendedFlagsAndRest<'a> {
 
 /// The second pair of flags, where the first says that it is there; none where it is outside the
 /// grammar.
-pub fn more_at(version: u32, extended: bool, bytes: &[u8]) -> Option<ExtendedFlagsAndRest<'_>>
-    ensures value { option_map more_seen result ≡ mores.more_at version extended bytes.now }
+pub fn read_extended_flags_if_present(
+    version: u32,
+    extended: bool,
+    bytes: &[u8],
+) -> Option<ExtendedFlagsAndRest<'_>>
+    ensures value { option_map extended_flags_as_record result
+        ≡ mores.read_extended_flags_if_present version extended bytes.now }
     ensures small { IfSome result (λ more. more.size ≤ 2) }
 {
     if !extended {
@@ -31,23 +36,25 @@ pub fn more_at(version: u32, extended: bool, bytes: &[u8]) -> Option<ExtendedFla
     if version == 2 {
         return None;
     }
-    second_flags(bytes)
+    read_extended_flags(bytes)
 }
 
 /// The second pair of flags at the front.
-fn second_flags(bytes: &[u8]) -> Option<ExtendedFlagsAndRest<'_>>
-    ensures value { option_map more_seen result ≡ mores.second_flags bytes.now }
+fn read_extended_flags(bytes: &[u8]) -> Option<ExtendedFlagsAndRest<'_>>
+    ensures value { option_map extended_flags_as_record result ≡ mores.read_extended_flags
+        bytes.now }
     ensures small { IfSome result (λ more. more.size ≤ 2) }
 {
-    let Some(two) = front(bytes, 2) else {
+    let Some(two) = split_first_bytes(bytes, 2) else {
         return None;
     };
-    more_of(short_behind(two.part, 0), two.rest)
+    extended_flags_from_bits(big_endian_u16_after_skip(two.part, 0), two.rest)
 }
 
 /// What these bits say.
-fn more_of(bits: u16, rest: &[u8]) -> Option<ExtendedFlagsAndRest<'_>>
-    ensures value { option_map more_seen result ≡ mores.more_of bits rest.now }
+fn extended_flags_from_bits(bits: u16, rest: &[u8]) -> Option<ExtendedFlagsAndRest<'_>>
+    ensures value { option_map extended_flags_as_record result ≡ mores.extended_flags_from_bits bits
+        rest.now }
     ensures small { IfSome result (λ more. more.size ≤ 2) }
 {
     if !has_only_known_bits(bits) {

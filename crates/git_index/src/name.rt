@@ -1,11 +1,11 @@
 //! The path of an entry.
 ghost use Rattle.std.specs.Prelude.{◌≡◌, ◌≤◌, ◌<◌, ◌++◌, option_map, IfOk};
 ghost use Rattle.git_index.specs.Name as names;
-ghost use Rattle.git_index.specs.Seen.{named_seen};
+ghost use Rattle.git_index.specs.Seen.{path_and_rest_as_record};
 
-use crate::head::length_of;
-use crate::parts::{are_nuls, front, text};
-use crate::varint::number;
+use crate::head::path_length_from_flags;
+use crate::parts::{are_all_nul, split_first_bytes, text};
+use crate::varint::read_varint;
 use gitbase_core::{OutOfMemory, PathText};
 use std::alloc::Global;
 
@@ -18,7 +18,7 @@ pub struct PathAndRest<'a> {
 
 /// The path of an entry behind another, where `before` bytes of the entry are before it; none where
 /// it is outside the grammar. It is copied once.
-pub fn path_at<'a>(
+pub fn read_entry_path<'a>(
     alloc: Global,
     version: u32,
     previous: &[u8],
@@ -26,46 +26,46 @@ pub fn path_at<'a>(
     bytes: &'a [u8],
 ) -> Result<Option<PathAndRest<'a>>, OutOfMemory>
     requires { before < 100 }
-    ensures { IfOk result (λ named. option_map named_seen named
-        ≡ names.path_at version previous.now before bytes.now) }
+    ensures { IfOk result (λ named. option_map path_and_rest_as_record named
+        ≡ names.read_entry_path version previous.now before bytes.now) }
 {
     if version == 4 {
-        cut_path(alloc, previous, bytes)
+        read_prefix_compressed_path(alloc, previous, bytes)
     } else {
-        whole_path(alloc, before, bytes)
+        read_padded_path(alloc, before, bytes)
     }
 }
 
 /// The path in versions 2 and 3.
-fn whole_path(
+fn read_padded_path(
     alloc: Global,
     before: usize,
     bytes: &[u8],
 ) -> Result<Option<PathAndRest<'_>>, OutOfMemory>
     requires { before < 100 }
-    ensures { IfOk result
-        (λ named. option_map named_seen named ≡ names.whole_path before bytes.now) }
+    ensures { IfOk result (λ named. option_map path_and_rest_as_record named
+        ≡ names.read_padded_path before bytes.now) }
 {
     let Some(name) = text(bytes) else {
         return Ok(None);
     };
-    padded(alloc, name.part, before + name.part.len(), name.rest)
+    path_with_checked_padding(alloc, name.part, before + name.part.len(), name.rest)
 }
 
 /// A path with nothing but NULs behind it up to a multiple of eight bytes.
-fn padded<'a>(
+fn path_with_checked_padding<'a>(
     alloc: Global,
     path: &[u8],
     before: usize,
     bytes: &'a [u8],
 ) -> Result<Option<PathAndRest<'a>>, OutOfMemory>
-    ensures { IfOk result
-        (λ named. option_map named_seen named ≡ names.padded path.now before bytes.now) }
+    ensures { IfOk result (λ named. option_map path_and_rest_as_record named
+        ≡ names.path_with_checked_padding path.now before bytes.now) }
 {
-    let Some(fill) = front(bytes, padding(before)) else {
+    let Some(fill) = split_first_bytes(bytes, padding_length_after_nul(before)) else {
         return Ok(None);
     };
-    if !are_nuls(fill.part) {
+    if !are_all_nul(fill.part) {
         return Ok(None);
     }
     Ok(Some(PathAndRest {
@@ -75,36 +75,36 @@ fn padded<'a>(
 }
 
 /// How many NULs fill up behind the one that ends a text.
-fn padding(before: usize) -> usize
-    ensures { result ≡ names.padding before }
+fn padding_length_after_nul(before: usize) -> usize
+    ensures { result ≡ names.padding_length_after_nul before }
 {
     7 - before % 8
 }
 
 /// The path in version 4.
-fn cut_path<'a>(
+fn read_prefix_compressed_path<'a>(
     alloc: Global,
     previous: &[u8],
     bytes: &'a [u8],
 ) -> Result<Option<PathAndRest<'a>>, OutOfMemory>
-    ensures { IfOk result
-        (λ named. option_map named_seen named ≡ names.cut_path previous.now bytes.now) }
+    ensures { IfOk result (λ named. option_map path_and_rest_as_record named
+        ≡ names.read_prefix_compressed_path previous.now bytes.now) }
 {
-    let Some(cut) = number(bytes) else {
+    let Some(cut) = read_varint(bytes) else {
         return Ok(None);
     };
-    kept_path(alloc, previous, cut.value, cut.rest)
+    path_with_kept_prefix(alloc, previous, cut.value, cut.rest)
 }
 
 /// The path that keeps all of the one before but `cut` bytes.
-fn kept_path<'a>(
+fn path_with_kept_prefix<'a>(
     alloc: Global,
     previous: &[u8],
     cut: u64,
     bytes: &'a [u8],
 ) -> Result<Option<PathAndRest<'a>>, OutOfMemory>
-    ensures { IfOk result
-        (λ named. option_map named_seen named ≡ names.kept_path previous.now cut bytes.now) }
+    ensures { IfOk result (λ named. option_map path_and_rest_as_record named
+        ≡ names.path_with_kept_prefix previous.now cut bytes.now) }
 {
     if cut > previous.len() as u64 {
         return Ok(None);
@@ -114,13 +114,13 @@ fn kept_path<'a>(
     };
     let (kept, _) = previous.split_at(previous.len() - cut as usize);
     Ok(Some(PathAndRest {
-        path: joined(alloc, kept, name.part)?,
+        path: path_of_two_pieces(alloc, kept, name.part)?,
         rest: name.rest,
     }))
 }
 
 /// A path of two pieces.
-fn joined(alloc: Global, front: &[u8], back: &[u8]) -> Result<PathText, OutOfMemory>
+fn path_of_two_pieces(alloc: Global, front: &[u8], back: &[u8]) -> Result<PathText, OutOfMemory>
     ensures { IfOk result (λ path. path ≡ front.now ++ back.now) }
 {
     let mut bytes = Vec::with_capacity(alloc, front.len().saturating_add(back.len()))?;
@@ -130,8 +130,8 @@ fn joined(alloc: Global, front: &[u8], back: &[u8]) -> Result<PathText, OutOfMem
 }
 
 /// Whether the flags tell the length of a path.
-pub fn fits_length(flags: u16, named: &PathAndRest<'_>) -> bool
-    ensures { result ≡ names.fits_length flags (named_seen named.now) }
+pub fn path_length_matches_flags(flags: u16, named: &PathAndRest<'_>) -> bool
+    ensures { result ≡ names.path_length_matches_flags flags (path_and_rest_as_record named.now) }
 {
-    named.path.as_bytes().len().min(4095) == length_of(flags)
+    named.path.as_bytes().len().min(4095) == path_length_from_flags(flags)
 }

@@ -2,8 +2,8 @@
 ghost use Rattle.std.specs.Prelude.{◌≡◌, ◌≤◌, ◌<◌, ◌+◌, ◌*◌, length, position, drop, option_map, IfSome};
 ghost use Rattle.std.specs.List.{list_all};
 ghost use Rattle.byteorder.specs.Endian.{big_number};
-ghost use Rattle.git_index.specs.Parts.{front, is_nul, text, word};
-ghost use Rattle.git_index.specs.Seen.{parted_seen};
+ghost use Rattle.git_index.specs.Parts.{split_first_bytes, is_nul, text, big_endian_word_at_index};
+ghost use Rattle.git_index.specs.Seen.{part_and_rest_as_record};
 
 use byteorder::{BigEndian, ByteOrder};
 
@@ -15,8 +15,8 @@ pub struct PartAndRest<'a> {
 }
 
 /// The first `size` bytes; none where there are fewer.
-pub fn front(bytes: &[u8], size: usize) -> Option<PartAndRest<'_>>
-    ensures value { option_map parted_seen result ≡ front size bytes.now }
+pub fn split_first_bytes(bytes: &[u8], size: usize) -> Option<PartAndRest<'_>>
+    ensures value { option_map part_and_rest_as_record result ≡ split_first_bytes size bytes.now }
     ensures whole { IfSome result (λ parted. length parted.part.now ≡ size) }
 {
     if size > bytes.len() {
@@ -27,7 +27,7 @@ pub fn front(bytes: &[u8], size: usize) -> Option<PartAndRest<'_>>
 }
 
 /// The place of the first NUL.
-fn first_nul(bytes: &[u8]) -> Option<usize>
+fn offset_of_first_nul(bytes: &[u8]) -> Option<usize>
     ensures place { result ≡ position is_nul bytes.now }
     ensures within { IfSome result (λ place. place < length bytes.now) }
 {
@@ -36,9 +36,9 @@ fn first_nul(bytes: &[u8]) -> Option<usize>
 
 /// The bytes before the first NUL, and what is behind that; none where there is no NUL.
 pub fn text(bytes: &[u8]) -> Option<PartAndRest<'_>>
-    ensures { option_map parted_seen result ≡ text bytes.now }
+    ensures { option_map part_and_rest_as_record result ≡ text bytes.now }
 {
-    let Some(place) = first_nul(bytes) else {
+    let Some(place) = offset_of_first_nul(bytes) else {
         return None;
     };
     let (part, _) = bytes.split_at(place);
@@ -47,7 +47,7 @@ pub fn text(bytes: &[u8]) -> Option<PartAndRest<'_>>
 }
 
 /// Whether all bytes are NUL.
-pub fn are_nuls(bytes: &[u8]) -> bool
+pub fn are_all_nul(bytes: &[u8]) -> bool
     ensures { result ≡ list_all is_nul bytes.now }
 {
     bytes.iter().all(|byte| *byte == 0)
@@ -55,16 +55,16 @@ pub fn are_nuls(bytes: &[u8]) -> bool
 
 /// The number of four bytes at `place`, where such numbers follow one another and the first has
 /// place 0.
-pub fn word(bytes: &[u8], place: usize) -> u32
+pub fn big_endian_word_at_index(bytes: &[u8], place: usize) -> u32
     requires { 4 * place + 4 ≤ length bytes.now }
-    ensures { result ≡ word place bytes.now }
+    ensures { result ≡ big_endian_word_at_index place bytes.now }
 {
     let (_, rest) = bytes.split_at(4 * place);
     BigEndian::read_u32(rest)
 }
 
 /// The number of two bytes behind `skip` bytes.
-pub fn short_behind(bytes: &[u8], skip: usize) -> u16
+pub fn big_endian_u16_after_skip(bytes: &[u8], skip: usize) -> u16
     requires { skip + 2 ≤ length bytes.now }
     ensures { result ≡ big_number 2 (drop skip bytes.now) }
 {

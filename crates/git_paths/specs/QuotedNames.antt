@@ -4,17 +4,17 @@ use Rattle.std.specs.Prelude.{ℕ, ◌+◌, ◌/◌, ◌%◌, List, [], ◌∷�
 use Rattle.std.specs.List.{flat_map, list_any}
 
 -- A control byte, DEL, the double quote and the backslash are special; with `core.quotePath` each byte above 0x7f is, too.
-abbrev pub is_special : Bool → ℕ → Bool
-is_special quote_path b = nat_lt b 32 || (b == 34 || (b == 92 || (b == 127 || (quote_path && nat_lt 127 b))))
+abbrev pub needs_c_style_escape : Bool → ℕ → Bool
+needs_c_style_escape quote_path b = nat_lt b 32 || (b == 34 || (b == 92 || (b == 127 || (quote_path && nat_lt 127 b))))
 
 -- three octal digits
-abbrev pub octal : ℕ → List ℕ
-octal b = (48 + b / 64) ∷ (48 + (b / 8) % 8) ∷ (48 + b % 8) ∷ []
+abbrev pub three_octal_digits : ℕ → List ℕ
+three_octal_digits b = (48 + b / 64) ∷ (48 + (b / 8) % 8) ∷ (48 + b % 8) ∷ []
 
 -- the letter that stands behind the backslash for a byte: `a`, `b`, `t`, `n`, `v`, `f`, `r` for the bytes from 7 to 13, and the quote
 -- and the backslash for themselves
-abbrev pub letter : ℕ → Option ℕ
-letter b =
+abbrev pub c_escape_letter : ℕ → Option ℕ
+c_escape_letter b =
     if b == 7 then Some 97
     else if b == 8 then Some 98
     else if b == 9 then Some 116
@@ -26,30 +26,30 @@ letter b =
     else if b == 92 then Some 92
     else None
 
-abbrev pub escape_by : ℕ → Option ℕ → List ℕ
-escape_by b None = octal b
-escape_by b (Some c) = c ∷ []
+abbrev pub escape_letter_or_octal_digits : ℕ → Option ℕ → List ℕ
+escape_letter_or_octal_digits b None = three_octal_digits b
+escape_letter_or_octal_digits b (Some c) = c ∷ []
 
 -- what stands behind the backslash for a byte: its letter, else its digits
-abbrev pub escape : ℕ → List ℕ
-escape b = escape_by b (letter b)
+abbrev pub escape_after_backslash : ℕ → List ℕ
+escape_after_backslash b = escape_letter_or_octal_digits b (c_escape_letter b)
 
 -- a byte as it stands in quotes
-abbrev pub spelled : Bool → ℕ → List ℕ
-spelled quote_path b = if is_special quote_path b then 92 ∷ escape b else b ∷ []
+abbrev pub byte_escaped_if_needed : Bool → ℕ → List ℕ
+byte_escaped_if_needed quote_path b = if needs_c_style_escape quote_path b then 92 ∷ escape_after_backslash b else b ∷ []
 
 -- a path has a byte that is special
-abbrev pub needs_quotes : Bool → List ℕ → Bool
-needs_quotes quote_path path = list_any (is_special quote_path) path
+abbrev pub path_needs_c_style_quotes : Bool → List ℕ → Bool
+path_needs_c_style_quotes quote_path path = list_any (needs_c_style_escape quote_path) path
 
 -- the bytes of a path as they stand in quotes
-abbrev pub all_spelled : Bool → List ℕ → List ℕ
-all_spelled quote_path path = flat_map (spelled quote_path) path
+abbrev pub path_bytes_escaped : Bool → List ℕ → List ℕ
+path_bytes_escaped quote_path path = flat_map (byte_escaped_if_needed quote_path) path
 
 -- a path within its quotes
-abbrev pub in_quotes : Bool → List ℕ → List ℕ
-in_quotes quote_path path = 34 ∷ all_spelled quote_path path ++ 34 ∷ []
+abbrev pub path_in_double_quotes : Bool → List ℕ → List ℕ
+path_in_double_quotes quote_path path = 34 ∷ path_bytes_escaped quote_path path ++ 34 ∷ []
 
 -- a path as it is printed: in quotes where it needs them, else as it is
-unfoldable pub quoted : Bool → List ℕ → List ℕ
-quoted quote_path path = if needs_quotes quote_path path then in_quotes quote_path path else path
+unfoldable pub path_quoted_if_needed : Bool → List ℕ → List ℕ
+path_quoted_if_needed quote_path path = if path_needs_c_style_quotes quote_path path then path_in_double_quotes quote_path path else path

@@ -6,23 +6,24 @@ use gitbase_core::{Bytes, OutOfMemory};
 use std::alloc::Global;
 
 /// Whether a byte cannot stand for itself.
-fn is_special(byte: u8, quote_path: bool) -> bool
-    ensures { result ≡ words.is_special quote_path byte }
+fn needs_c_style_escape(byte: u8, quote_path: bool) -> bool
+    ensures { result ≡ words.needs_c_style_escape quote_path byte }
 {
     byte < 32 || byte == b'"' || byte == b'\\' || byte == 127 || (quote_path && byte > 127)
 }
 
 /// Whether a path stands in quotes: it has a control byte, a double quote, a backslash or DEL, or, with `quote_path` (git's
 /// `core.quotePath`), a byte above 0x7f.
-pub fn needs_quotes(path: &[u8], quote_path: bool) -> bool
-    ensures { result ≡ words.needs_quotes quote_path path.now }
+pub fn path_needs_c_style_quotes(path: &[u8], quote_path: bool) -> bool
+    ensures { result ≡ words.path_needs_c_style_quotes quote_path path.now }
 {
-    path.iter().any(|byte| is_special(*byte, quote_path))
+    path.iter()
+        .any(|byte| needs_c_style_escape(*byte, quote_path))
 }
 
 /// Adds a byte as three octal digits.
-fn add_octal(text: &mut Vec<u8>, byte: u8) -> Result<(), OutOfMemory>
-    ensures { OnOk result (text.new.items ≡ text.old.items ++ words.octal byte) }
+fn append_three_octal_digits(text: &mut Vec<u8>, byte: u8) -> Result<(), OutOfMemory>
+    ensures { OnOk result (text.new.items ≡ text.old.items ++ words.three_octal_digits byte) }
 {
     text.push(b'0' + byte / 64)?;
     text.push(b'0' + byte / 8 % 8)?;
@@ -31,8 +32,8 @@ fn add_octal(text: &mut Vec<u8>, byte: u8) -> Result<(), OutOfMemory>
 }
 
 /// The one byte that stands for another behind a backslash, where one does.
-fn letter(byte: u8) -> Option<u8>
-    ensures { result ≡ words.letter byte }
+fn c_escape_letter(byte: u8) -> Option<u8>
+    ensures { result ≡ words.c_escape_letter byte }
 {
     match byte {
         7 => Some(b'a'),
@@ -49,58 +50,75 @@ fn letter(byte: u8) -> Option<u8>
 }
 
 /// Adds what stands for a byte behind a backslash.
-fn add_escape(text: &mut Vec<u8>, byte: u8) -> Result<(), OutOfMemory>
-    ensures { OnOk result (text.new.items ≡ text.old.items ++ words.escape byte) }
+fn append_escape_after_backslash(text: &mut Vec<u8>, byte: u8) -> Result<(), OutOfMemory>
+    ensures { OnOk result (text.new.items ≡ text.old.items ++ words.escape_after_backslash byte) }
 {
-    match letter(byte) {
+    match c_escape_letter(byte) {
         Some(letter) => Ok(text.push(letter)?),
-        None => add_octal(text, byte),
+        None => append_three_octal_digits(text, byte),
     }
 }
 
 /// Adds a byte as it stands in quotes.
-fn add_spelled(text: &mut Vec<u8>, byte: u8, quote_path: bool) -> Result<(), OutOfMemory>
-    ensures { OnOk result (text.new.items ≡ text.old.items ++ words.spelled quote_path byte) }
+fn append_byte_escaped_if_needed(
+    text: &mut Vec<u8>,
+    byte: u8,
+    quote_path: bool,
+) -> Result<(), OutOfMemory>
+    ensures { OnOk result (text.new.items ≡ text.old.items ++ words.byte_escaped_if_needed
+        quote_path byte) }
 {
-    if is_special(byte, quote_path) {
+    if needs_c_style_escape(byte, quote_path) {
         text.push(b'\\')?;
-        return add_escape(text, byte);
+        return append_escape_after_backslash(text, byte);
     }
     text.push(byte)?;
     Ok(())
 }
 
 /// Adds the bytes of a path as they stand in quotes.
-fn add_all_spelled(text: &mut Vec<u8>, path: &[u8], quote_path: bool) -> Result<(), OutOfMemory>
-    ensures { OnOk result (text.new.items ≡ text.old.items ++ words.all_spelled quote_path path.now) }
+fn append_path_bytes_escaped(
+    text: &mut Vec<u8>,
+    path: &[u8],
+    quote_path: bool,
+) -> Result<(), OutOfMemory>
+    ensures { OnOk result (text.new.items ≡ text.old.items ++ words.path_bytes_escaped quote_path
+        path.now) }
 {
     for byte in path {
-        add_spelled(text, *byte, quote_path)?;
+        append_byte_escaped_if_needed(text, *byte, quote_path)?;
     }
     Ok(())
 }
 
-/// Adds a path as git prints it where a line feed ends the line; [`quoted`] says how.
+/// Adds a path as git prints it where a line feed ends the line; [`path_quoted_if_needed`] says
+/// how.
 ///
 /// # Errors
 ///
 /// Memory was refused; part of the path may then have been added.
-#[tactic(auto, unfolding(crate::specs::QuotedNames::quoted))]
-pub fn add_quoted(text: &mut Vec<u8>, path: &[u8], quote_path: bool) -> Result<(), OutOfMemory>
-    ensures { OnOk result (text.new.items ≡ text.old.items ++ words.quoted quote_path path.now) }
+#[tactic(auto, unfolding(crate::specs::QuotedNames::path_quoted_if_needed))]
+pub fn append_path_quoted_if_needed(
+    text: &mut Vec<u8>,
+    path: &[u8],
+    quote_path: bool,
+) -> Result<(), OutOfMemory>
+    ensures { OnOk result (text.new.items ≡ text.old.items ++ words.path_quoted_if_needed quote_path
+        path.now) }
 {
-    if !needs_quotes(path, quote_path) {
+    if !path_needs_c_style_quotes(path, quote_path) {
         text.extend_from_slice(path)?;
         return Ok(());
     }
     text.push(b'"')?;
-    add_all_spelled(text, path, quote_path)?;
+    append_path_bytes_escaped(text, path, quote_path)?;
     text.push(b'"')?;
     Ok(())
 }
 
-/// A path as git prints it where a line feed ends the line: in double quotes where [`needs_quotes`] says so, with each byte that is
-/// special behind a backslash: `\a`, `\b`, `\t`, `\n`, `\v`, `\f`, `\r`, `\"`, `\\`, and each other as three octal digits. Any other
+/// A path as git prints it where a line feed ends the line: in double quotes where
+/// [`path_needs_c_style_quotes`] says so, with each byte that is special behind a backslash: `\a`,
+/// `\b`, `\t`, `\n`, `\v`, `\f`, `\r`, `\"`, `\\`, and each other as three octal digits. Any other
 /// path is printed as it is.
 ///
 /// See git-config(1), `core.quotePath`, which is on where nothing is said.
@@ -108,10 +126,14 @@ pub fn add_quoted(text: &mut Vec<u8>, path: &[u8], quote_path: bool) -> Result<(
 /// # Errors
 ///
 /// Memory was refused.
-pub fn quoted(alloc: Global, path: &[u8], quote_path: bool) -> Result<Bytes, OutOfMemory>
-    ensures { IfOk result (λ text. text ≡ words.quoted quote_path path.now) }
+pub fn path_quoted_if_needed(
+    alloc: Global,
+    path: &[u8],
+    quote_path: bool,
+) -> Result<Bytes, OutOfMemory>
+    ensures { IfOk result (λ text. text ≡ words.path_quoted_if_needed quote_path path.now) }
 {
     let mut text = Vec::new(alloc);
-    add_quoted(&mut text, path, quote_path)?;
+    append_path_quoted_if_needed(&mut text, path, quote_path)?;
     Ok(Bytes::from_vec(text))
 }

@@ -4,5 +4,5 @@
 mod c_style;
 mod relative;
 
-pub use c_style::{add_quoted, needs_quotes, quoted};
-pub use relative::relative_from;
+pub use c_style::{append_path_quoted_if_needed, path_needs_c_style_quotes, path_quoted_if_needed};
+pub use relative::path_relative_to_prefix;

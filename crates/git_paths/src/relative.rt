@@ -3,25 +3,26 @@ ghost use Rattle.std.specs.Prelude.{◌≡◌, ◌++◌, IfOk, OnOk, option_copi
 ghost use Rattle.gitbase_core.specs.Path.{components};
 ghost use Rattle.git_paths.specs.RelativeNames as words;
 
-use gitbase_core::{Bytes, OutOfMemory, relative_to, split_component};
+use gitbase_core::{Bytes, OutOfMemory, split_first_component, strip_directory_prefix};
 use std::alloc::Global;
 
 /// What is left of a path from the directory of this name, where it is that directory or lies beneath it.
-fn beneath_name<'a>(name: &[u8], path: &'a [u8]) -> Option<&'a [u8]>
-    ensures { option_copied result ≡ words.beneath_name name.now path.now }
+fn strip_leading_directory_name<'a>(name: &[u8], path: &'a [u8]) -> Option<&'a [u8]>
+    ensures { option_copied result ≡ words.strip_leading_directory_name name.now path.now }
 {
     if name == path {
         return Some(&[]);
     }
-    relative_to(path, name)
+    strip_directory_prefix(path, name)
 }
 
 /// Adds a `../` for each name of a path.
-fn add_climbs(text: &mut Vec<u8>, names: &[u8]) -> Result<(), OutOfMemory>
-    ensures { OnOk result (text.new.items ≡ text.old.items ++ words.dotdot_per_name (components names.now)) }
+fn append_dotdot_slash_per_component(text: &mut Vec<u8>, names: &[u8]) -> Result<(), OutOfMemory>
+    ensures { OnOk result (text.new.items ≡ text.old.items ++ words.dotdot_slash_per_component
+        (components names.now)) }
 {
     let mut left = names;
-    while let Some((_, after)) = split_component(left) {
+    while let Some((_, after)) = split_first_component(left) {
         text.extend_from_slice(b"../")?;
         left = after;
     }
@@ -29,18 +30,23 @@ fn add_climbs(text: &mut Vec<u8>, names: &[u8]) -> Result<(), OutOfMemory>
 }
 
 /// A path behind as many `../` as there are names.
-fn prepend_parent_steps(alloc: Global, names: &[u8], path: &[u8]) -> Result<Bytes, OutOfMemory>
-    ensures { IfOk result (λ text. text ≡ words.dotdot_per_name (components names.now) ++ path.now) }
+fn path_behind_dotdot_per_component(
+    alloc: Global,
+    names: &[u8],
+    path: &[u8],
+) -> Result<Bytes, OutOfMemory>
+    ensures { IfOk result (λ text. text ≡ words.dotdot_slash_per_component (components names.now) ++
+        path.now) }
 {
     let mut text = Vec::new(alloc);
-    add_climbs(&mut text, names)?;
+    append_dotdot_slash_per_component(&mut text, names)?;
     text.extend_from_slice(path)?;
     Ok(Bytes::from_vec(text))
 }
 
 /// A path, or what says the directory itself.
-fn path_or_dot_slash(alloc: Global, path: &[u8]) -> Result<Bytes, OutOfMemory>
-    ensures { IfOk result (λ text. text ≡ words.path_or_dot_slash path.now) }
+fn path_or_dot_slash_if_empty(alloc: Global, path: &[u8]) -> Result<Bytes, OutOfMemory>
+    ensures { IfOk result (λ text. text ≡ words.path_or_dot_slash_if_empty path.now) }
 {
     if path.is_empty() {
         return Bytes::from_slice(alloc, b"./");
@@ -57,17 +63,21 @@ fn path_or_dot_slash(alloc: Global, path: &[u8]) -> Result<Bytes, OutOfMemory>
 /// # Errors
 ///
 /// Memory was refused.
-pub fn relative_from(alloc: Global, path: &[u8], prefix: &[u8]) -> Result<Bytes, OutOfMemory>
-    ensures { IfOk result (λ text. text ≡ words.relative_from path.now prefix.now) }
+pub fn path_relative_to_prefix(
+    alloc: Global,
+    path: &[u8],
+    prefix: &[u8],
+) -> Result<Bytes, OutOfMemory>
+    ensures { IfOk result (λ text. text ≡ words.path_relative_to_prefix path.now prefix.now) }
 {
     let mut rest = path;
     let mut left = prefix;
-    while let Some((name, after)) = split_component(left) {
-        let Some(beneath) = beneath_name(name, rest) else {
-            return prepend_parent_steps(alloc, left, rest);
+    while let Some((name, after)) = split_first_component(left) {
+        let Some(beneath) = strip_leading_directory_name(name, rest) else {
+            return path_behind_dotdot_per_component(alloc, left, rest);
         };
         rest = beneath;
         left = after;
     }
-    path_or_dot_slash(alloc, rest)
+    path_or_dot_slash_if_empty(alloc, rest)
 }

@@ -2,13 +2,13 @@
 use Rattle.std.proofs.Common.{◌≡◌, ◌⊎◌, inl, inr, ℕ, Result, Ok, Err, refl, sym, ap, ◌∙◌, subst, arith}
 use Rattle.worktree_fs.specs.declared.owners.Owners.{Ghosts as OwnersOf}
 use Rattle.worktree_fs.specs.declared.worktree.Worktree.{Ghosts as WorktreeOf}
-use Rattle.worktree_fs.specs.Causes.{Increased}
-use Rattle.worktree_fs.specs.Kept.{Asks}
-use Rattle.worktree_fs.specs.KeptOwners.{AsksOwners}
+use Rattle.worktree_fs.specs.Causes.{CountIncreasedOrSaturated}
+use Rattle.worktree_fs.specs.Kept.{KeepsTreeAndListCounts}
+use Rattle.worktree_fs.specs.KeptOwners.{KeepsOwnershipAnswers}
 use Rattle.worktree_fs.specs.Owners.{OwnershipByPath}
 use Rattle.worktree_fs.specs.Tree.{Names}
-use Rattle.git_places.specs.Answers.{IsFoundOrFailed, HoldsUnlessFault, refused_as}
-use Rattle.git_places.specs.Finds.{FindsBy, FindsWithBy}
+use Rattle.git_places.specs.Answers.{IsFoundOrFailed, HoldsUnlessFault, map_error}
+use Rattle.git_places.specs.Finds.{FindsInTreeByErrors, FindsInTreeAndOwnersByErrors}
 use Rattle.git_places.proofs.Passes.{passes}
 
 -- ---- answers
@@ -32,7 +32,7 @@ unless_weaker fault (Err e) to holds = elim holds [ inl is ↦ inl is | inr know
 
 -- ---- what stays
 
-asks_then : {W : Type 0} (w : WorktreeOf W) (w0 w1 w2 : W) → Asks w w0 w1 → Asks w w1 w2 → Asks w w0 w2
+asks_then : {W : Type 0} (w : WorktreeOf W) (w0 w1 w2 : W) → KeepsTreeAndListCounts w w0 w1 → KeepsTreeAndListCounts w w1 w2 → KeepsTreeAndListCounts w w0 w2
 asks_then w w0 w1 w2 first next =
     let faults0 = first.faults in
     let faults1 = next.faults in
@@ -47,7 +47,7 @@ asks_then w w0 w1 w2 first next =
       precomposes = next.precomposes ∙ first.precomposes;
     }
 
-owners_then : {O : Type 0} (o : OwnersOf O) (o0 o1 o2 : O) → AsksOwners o o0 o1 → AsksOwners o o1 o2 → AsksOwners o o0 o2
+owners_then : {O : Type 0} (o : OwnersOf O) (o0 o1 o2 : O) → KeepsOwnershipAnswers o o0 o1 → KeepsOwnershipAnswers o o1 o2 → KeepsOwnershipAnswers o o0 o2
 owners_then o o0 o1 o2 first next =
     let faults0 = first.faults in
     let faults1 = next.faults in
@@ -56,8 +56,8 @@ owners_then o o0 o1 o2 first next =
 -- ---- refusals that stand for others
 
 gives_as : {A E F : Type 0} (of : E → F) (fault memory e : E) (found : Result A E)
-    → IsFoundOrFailed {A = A} fault memory (Err e) found → IsFoundOrFailed {A = A} (of fault) (of memory) (Err (of e)) (refused_as of found)
-gives_as of fault memory e found h = elim h [ inl is ↦ inl (ap (refused_as of) is) | inr (inl is) ↦ inr (inl (ap of is)) | inr (inr is) ↦ inr (inr (ap of is)) ]
+    → IsFoundOrFailed {A = A} fault memory (Err e) found → IsFoundOrFailed {A = A} (of fault) (of memory) (Err (of e)) (map_error of found)
+gives_as of fault memory e found h = elim h [ inl is ↦ inl (ap (map_error of) is) | inr (inl is) ↦ inr (inl (ap of is)) | inr (inr is) ↦ inr (inr (ap of is)) ]
 
 unless_as : {E F P : Type 0} (of : E → F) (fault e : E) → (e ≡ fault) ⊎ P → (of e ≡ of fault) ⊎ P
 unless_as of fault e h = elim h [ inl is ↦ inl (ap of is) | inr holds ↦ inr holds ]
@@ -65,11 +65,11 @@ unless_as of fault e h = elim h [ inl is ↦ inl (ap of is) | inr holds ↦ inr 
 -- where no other refusal stands for a fault
 pub as_refused : {W O A E F : Type 0} (w : WorktreeOf W) (o : OwnersOf O) (w0 w1 : W) (o0 o1 : O) (of : E → F) (fault memory : E)
     → ((e : E) → of e ≡ of fault → e ≡ fault) → (found : Names → OwnershipByPath → Result A E) (answer : Result A E)
-    → FindsWithBy w o w0 w1 o0 o1 fault memory found answer
-    → FindsWithBy w o w0 w1 o0 o1 (of fault) (of memory) (λ t owned. refused_as of (found t owned)) (refused_as of answer)
+    → FindsInTreeAndOwnersByErrors w o w0 w1 o0 o1 fault memory found answer
+    → FindsInTreeAndOwnersByErrors w o w0 w1 o0 o1 (of fault) (of memory) (λ t owned. map_error of (found t owned)) (map_error of answer)
 as_refused w o w0 w1 o0 o1 of fault memory only found (Ok given) h =
     record {
-      gives = λ t owned told by. ap (refused_as of) (h.gives t owned told by);
+      gives = λ t owned told by. ap (map_error of) (h.gives t owned told by);
       cause = λ is. absurd (no_err _ _ is);
       unfaulted = h.unfaulted;
       owners_unfaulted = h.owners_unfaulted;
@@ -90,7 +90,7 @@ as_refused w o w0 w1 o0 o1 of fault memory only found (Err e) h =
 
 -- a call that asks no owners
 pub with_owners : {W O A E : Type 0} (w : WorktreeOf W) (o : OwnersOf O) (w0 w1 : W) (o0 : O) (fault memory : E) (found : Names → Result A E) (answer : Result A E)
-    → FindsBy w w0 w1 fault memory found answer → FindsWithBy w o w0 w1 o0 o0 fault memory (λ t owned. found t) answer
+    → FindsInTreeByErrors w w0 w1 fault memory found answer → FindsInTreeAndOwnersByErrors w o w0 w1 o0 o0 fault memory (λ t owned. found t) answer
 with_owners w o w0 w1 o0 fault memory found answer h =
     record {
       gives = λ t owned told by. h.gives t told;
@@ -104,7 +104,7 @@ with_owners w o w0 w1 o0 fault memory found answer h =
 -- a refusal of the first is one of the whole
 pub stops : {W O A B E : Type 0} (w : WorktreeOf W) (o : OwnersOf O) (w0 w1 : W) (o0 o1 : O) (fault memory e : E) (found : Names → OwnershipByPath → Result A E) (whole : Names → OwnershipByPath → Result B E)
     → ((t : Names) (owned : OwnershipByPath) → found t owned ≡ Err e → whole t owned ≡ Err e)
-    → FindsWithBy {A = A} w o w0 w1 o0 o1 fault memory found (Err e) → FindsWithBy {A = B} w o w0 w1 o0 o1 fault memory whole (Err e)
+    → FindsInTreeAndOwnersByErrors {A = A} w o w0 w1 o0 o1 fault memory found (Err e) → FindsInTreeAndOwnersByErrors {A = B} w o w0 w1 o0 o1 fault memory whole (Err e)
 stops w o w0 w1 o0 o1 fault memory e found whole to h =
     record {
       gives = λ t owned told by. passes fault memory e (found t owned) (whole t owned) (h.gives t owned told by) (to t owned);
@@ -119,16 +119,16 @@ stops w o w0 w1 o0 o1 fault memory e found whole to h =
 pub goes_on : {W O A B E : Type 0} (w : WorktreeOf W) (o : OwnersOf O) (w0 w1 w2 : W) (o0 o1 o2 : O) (fault memory : E) (given : A)
     (found : Names → OwnershipByPath → Result A E) (next whole : Names → OwnershipByPath → Result B E) (answer : Result B E)
     → ((t : Names) (owned : OwnershipByPath) → found t owned ≡ Ok given → whole t owned ≡ next t owned)
-    → FindsWithBy w o w0 w1 o0 o1 fault memory found (Ok given) → FindsWithBy w o w1 w2 o1 o2 fault memory next answer
-    → FindsWithBy w o w0 w2 o0 o2 fault memory whole answer
+    → FindsInTreeAndOwnersByErrors w o w0 w1 o0 o1 fault memory found (Ok given) → FindsInTreeAndOwnersByErrors w o w1 w2 o1 o2 fault memory next answer
+    → FindsInTreeAndOwnersByErrors w o w0 w2 o0 o2 fault memory whole answer
 goes_on {B = B} {E = E} w o w0 w1 w2 o0 o1 o2 fault memory given found next whole answer same first then =
     record {
       gives = λ t owned told by.
           subst (λ (r : Result B E). IsFoundOrFailed fault memory answer r) (sym (same t owned (first.gives t owned told by)))
           (then.gives t owned (first.keeps.tree ∙ told) (first.owners.told ∙ by));
       cause = λ is. elim (then.cause is) [
-        | inl rose ↦ inl (subst (λ (n : ℕ). Increased n (w.faults w2)) first.unfaulted rose)
-        | inr rose ↦ inr (subst (λ (n : ℕ). Increased n (o.faults o2)) first.owners_unfaulted rose)
+        | inl rose ↦ inl (subst (λ (n : ℕ). CountIncreasedOrSaturated n (w.faults w2)) first.unfaulted rose)
+        | inr rose ↦ inr (subst (λ (n : ℕ). CountIncreasedOrSaturated n (o.faults o2)) first.owners_unfaulted rose)
       ];
       unfaulted = unless_weaker fault answer (λ is. is ∙ first.unfaulted) then.unfaulted;
       owners_unfaulted = unless_weaker fault answer (λ is. is ∙ first.owners_unfaulted) then.owners_unfaulted;

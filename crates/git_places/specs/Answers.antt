@@ -21,16 +21,16 @@ HoldsUnlessFault fault (Ok answer) Holds = Holds
 HoldsUnlessFault fault (Err e) Holds = (e ≡ fault) ⊎ Holds
 
 -- an answer, in the place of a refusal the one that stands for it
-abbrev pub refused_as : {A E F : Type 0} → (E → F) → Result A E → Result A F
-refused_as of (Ok answer) = Ok answer
-refused_as of (Err e) = Err (of e)
+abbrev pub map_error : {A E F : Type 0} → (E → F) → Result A E → Result A F
+map_error of (Ok answer) = Ok answer
+map_error of (Err e) = Err (of e)
 
 -- ---- the refusals of this crate
 
-abbrev pub Decides : {A : Type 0} → Result A PlacesError → Result A PlacesError → Type 0
-Decides result found = IsFoundOrOutOfMemory errors.Fault errors.OutOfMemory result found
+abbrev pub AnswersUnlessOutOfMemory : {A : Type 0} → Result A PlacesError → Result A PlacesError → Type 0
+AnswersUnlessOutOfMemory result found = IsFoundOrOutOfMemory errors.Fault errors.OutOfMemory result found
 
 -- the refusal that a refused look at the worktree is
-abbrev pub of_read : ReadError → PlacesError
-of_read read.Fault = errors.Fault
-of_read read.OutOfMemory = errors.OutOfMemory
+abbrev pub places_error_of_read_error : ReadError → PlacesError
+places_error_of_read_error read.Fault = errors.Fault
+places_error_of_read_error read.OutOfMemory = errors.OutOfMemory

@@ -16,23 +16,23 @@ without_trailing_slash path =
     else if ends_with nat_eq path (codes "/") then take (length path - 1) path else path
 
 -- the ceiling of an absolute entry: it stands as it is, or its links are followed, and then something has to be there
-abbrev pub ceiling_at : Names → Bool → List ℕ → Option (List ℕ)
-ceiling_at t true entry = Some (without_trailing_slash (without_leading_slash entry))
-ceiling_at t false entry = option_map without_leading_slash (real_path t entry (codes "/"))
+abbrev pub ceiling_of_absolute_entry : Names → Bool → List ℕ → Option (List ℕ)
+ceiling_of_absolute_entry t true entry = Some (without_trailing_slash (without_leading_slash entry))
+ceiling_of_absolute_entry t false entry = option_map without_leading_slash (real_path t entry (codes "/"))
 
 -- the ceiling of an entry, if it has one: a relative one is none
-abbrev pub ceiling_of : Names → Bool → List ℕ → Option (List ℕ)
-ceiling_of t as_it_is entry = if is_absolute entry then ceiling_at t as_it_is entry else None
+abbrev pub ceiling_of_entry : Names → Bool → List ℕ → Option (List ℕ)
+ceiling_of_entry t as_it_is entry = if is_absolute entry then ceiling_of_absolute_entry t as_it_is entry else None
 
 abbrev pub append_ceiling_if_any : List (List ℕ) → Option (List ℕ) → List (List ℕ)
 append_ceiling_if_any ceilings None = ceilings
 append_ceiling_if_any ceilings (Some ceiling) = ceilings ++ ceiling ∷ []
 
 -- the ceilings of entries behind those that are made: behind an empty entry each stands as it is
-abbrev pub ceilings_from : Names → List (List ℕ) → Bool → List (List ℕ) → List (List ℕ)
-ceilings_from t made as_it_is [] = made
-ceilings_from t made as_it_is (entry ∷ entries) = ceilings_from t (append_ceiling_if_any made (ceiling_of t as_it_is entry)) (as_it_is || is_empty entry) entries
+abbrev pub append_ceilings_of_entries : Names → List (List ℕ) → Bool → List (List ℕ) → List (List ℕ)
+append_ceilings_of_entries t made as_it_is [] = made
+append_ceilings_of_entries t made as_it_is (entry ∷ entries) = append_ceilings_of_entries t (append_ceiling_if_any made (ceiling_of_entry t as_it_is entry)) (as_it_is || is_empty entry) entries
 
 -- the entries stand between colons
-abbrev pub ceilings_of : Names → List ℕ → List (List ℕ)
-ceilings_of t text = ceilings_from t [] false (slice_split (λ b. b == 58) text)
+abbrev pub parse_ceiling_directories : Names → List ℕ → List (List ℕ)
+parse_ceiling_directories t text = append_ceilings_of_entries t [] false (slice_split (λ b. b == 58) text)

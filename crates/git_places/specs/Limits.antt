@@ -1,28 +1,28 @@
 -- Where the search for a work tree ends on its way up: at the ceilings, and at the border of the file system.
 use Rattle.std.specs.Prelude.{ℕ, Bool, true, false, codes, bytes_eq, ◌==◌, List, [], ◌∷◌, Option, Some, None, option_map, Result, Ok, Err, if◌then◌else◌}
 use Rattle.std.specs.List.{list_any}
-use Rattle.gitbase_core.specs.Path.{joined}
+use Rattle.gitbase_core.specs.Path.{path_joined_with_slash}
 use Rattle.worktree_fs.specs.Owners.{OwnershipByPath}
 use Rattle.worktree_fs.specs.declared.owners.ownership.Ownership.{Ownership}
 use Rattle.worktree_fs.specs.Tree.{Names}
-use Rattle.git_places.specs.Ceilings.{ceilings_of}
+use Rattle.git_places.specs.Ceilings.{parse_ceiling_directories}
 use Rattle.gitbase_core.specs.Steps.{and_then}
 use Rattle.git_places.specs.Surroundings.{Surroundings}
-use Rattle.git_places.specs.Truths.{truth_in}
+use Rattle.git_places.specs.Truths.{boolean_of_variable}
 use Rattle.git_places.specs.declared.error.PlacesError.{PlacesError}
 use Rattle.git_places.specs.declared.error.PlacesError.TheVariants as errors
 
 -- the ceilings, and the file system that is not left, where none may be
-pub record Limits : Type 0 where
+pub record SearchLimits : Type 0 where
   pub ceilings : List (List ℕ)
   pub device : Option ℕ
 
-abbrev pub limits : List (List ℕ) → Option ℕ → Limits
-limits ceilings device = record { ceilings = ceilings; device = device }
+abbrev pub search_limits : List (List ℕ) → Option ℕ → SearchLimits
+search_limits ceilings device = record { ceilings = ceilings; device = device }
 
 -- a path without a slash in front, as the absolute path that it is
-abbrev pub absolute : List ℕ → List ℕ
-absolute path = joined (47 ∷ []) path
+abbrev pub path_with_leading_slash : List ℕ → List ℕ
+path_with_leading_slash path = path_joined_with_slash (47 ∷ []) path
 
 -- ---- where the search ends
 
@@ -31,47 +31,47 @@ abbrev pub is_ceiling : List (List ℕ) → List ℕ → Bool
 is_ceiling ceilings path = list_any (λ ceiling. bytes_eq ceiling path) ceilings
 
 -- the file system of the directory that a path leads to, if one is there
-abbrev pub device_of : OwnershipByPath → List ℕ → Option ℕ
-device_of owned path = option_map (λ (found : Ownership). found.device) (owned path true)
+abbrev pub device_at_path : OwnershipByPath → List ℕ → Option ℕ
+device_at_path owned path = option_map (λ (found : Ownership). found.device) (owned path true)
 
 -- whether a directory lies on the file system that is not left: what is not there lies on none
-abbrev pub is_on : ℕ → Option ℕ → Bool
-is_on device None = false
-is_on device (Some found) = found == device
+abbrev pub is_same_device : ℕ → Option ℕ → Bool
+is_same_device device None = false
+is_same_device device (Some found) = found == device
 
-abbrev pub unless_border : OwnershipByPath → List ℕ → Option ℕ → Option PlacesError
-unless_border owned path None = None
-unless_border owned path (Some device) = if is_on device (device_of owned path) then None else Some (errors.Border path)
+abbrev pub border_error_if_other_device : OwnershipByPath → List ℕ → Option ℕ → Option PlacesError
+border_error_if_other_device owned path None = None
+border_error_if_other_device owned path (Some device) = if is_same_device device (device_at_path owned path) then None else Some (errors.Border path)
 
 -- why the search does not go up into a directory, whose path has no slash in front; none where it does
-abbrev pub stop_at : OwnershipByPath → Limits → List ℕ → Option PlacesError
-stop_at owned limits path =
-    if is_ceiling limits.ceilings path then Some errors.NoRepository else unless_border owned (absolute path) limits.device
+abbrev pub error_where_search_stops : OwnershipByPath → SearchLimits → List ℕ → Option PlacesError
+error_where_search_stops owned limits path =
+    if is_ceiling limits.ceilings path then Some errors.NoRepository else border_error_if_other_device owned (path_with_leading_slash path) limits.device
 
 -- the same as an answer: yes, or the refusal
-abbrev pub unless_stop : Option PlacesError → Result Bool PlacesError
-unless_stop None = Ok true
-unless_stop (Some e) = Err e
+abbrev pub true_unless_error : Option PlacesError → Result Bool PlacesError
+true_unless_error None = Ok true
+true_unless_error (Some e) = Err e
 
 -- ---- the limits of a search
 
-abbrev pub ceilings_by : Names → Option (List ℕ) → List (List ℕ)
-ceilings_by t None = []
-ceilings_by t (Some text) = ceilings_of t text
+abbrev pub ceilings_of_variable : Names → Option (List ℕ) → List (List ℕ)
+ceilings_of_variable t None = []
+ceilings_of_variable t (Some text) = parse_ceiling_directories t text
 
 -- the file system of the directory in which the search begins
-abbrev pub device_found : List ℕ → Option ℕ → Result (Option ℕ) PlacesError
-device_found path None = Err (errors.NoDirectory path)
-device_found path (Some device) = Ok (Some device)
+abbrev pub device_or_no_directory_error : List ℕ → Option ℕ → Result (Option ℕ) PlacesError
+device_or_no_directory_error path None = Err (errors.NoDirectory path)
+device_or_no_directory_error path (Some device) = Ok (Some device)
 
-abbrev pub device_by : OwnershipByPath → List ℕ → Bool → Result (Option ℕ) PlacesError
-device_by owned path true = Ok None
-device_by owned path false = device_found path (device_of owned path)
+abbrev pub device_limit_of_directory : OwnershipByPath → List ℕ → Bool → Result (Option ℕ) PlacesError
+device_limit_of_directory owned path true = Ok None
+device_limit_of_directory owned path false = device_or_no_directory_error path (device_at_path owned path)
 
 -- it is not left, unless `GIT_DISCOVERY_ACROSS_FILESYSTEM` says so
-abbrev pub device_in : OwnershipByPath → Surroundings → Result (Option ℕ) PlacesError
-device_in owned around =
-    and_then (device_by owned around.directory) (truth_in (codes "GIT_DISCOVERY_ACROSS_FILESYSTEM") around.across)
+abbrev pub device_limit_of_surroundings : OwnershipByPath → Surroundings → Result (Option ℕ) PlacesError
+device_limit_of_surroundings owned around =
+    and_then (device_limit_of_directory owned around.directory) (boolean_of_variable (codes "GIT_DISCOVERY_ACROSS_FILESYSTEM") around.across)
 
-abbrev pub limits_of : Names → OwnershipByPath → Surroundings → Result Limits PlacesError
-limits_of t owned around = and_then (λ device. Ok (limits (ceilings_by t around.ceilings) device)) (device_in owned around)
+abbrev pub search_limits_of_surroundings : Names → OwnershipByPath → Surroundings → Result SearchLimits PlacesError
+search_limits_of_surroundings t owned around = and_then (λ device. Ok (search_limits (ceilings_of_variable t around.ceilings) device)) (device_limit_of_surroundings owned around)

@@ -2,7 +2,7 @@
 ghost use Rattle.std.specs.Prelude.{◌≡◌, ◌==◌, ◌+◌, ◌≤◌, [], ◌∷◌, false, length, drop, Ok, MatchOption, OnOk};
 ghost use Rattle.std.specs.List.{slice_split};
 ghost use Rattle.git_places.specs.Ceilings as words;
-ghost use Rattle.git_places.specs.Finds.{Finds};
+ghost use Rattle.git_places.specs.Finds.{FindsInTree};
 
 use crate::error::PlacesError;
 use bstr::ByteSlice;
@@ -77,13 +77,13 @@ fn without_trailing_slash(path: &[u8]) -> &[u8]
 }
 
 /// The ceiling of an absolute entry whose links are followed, if something is there.
-fn real_ceiling<W: Worktree>(
+fn ceiling_with_links_followed<W: Worktree>(
     alloc: Global,
     worktree: &mut W,
     entry: &[u8],
 ) -> Result<Option<Bytes>, PlacesError>
-    ensures { Finds W.Worktree worktree.old worktree.new
-        (λ t. Ok (words.ceiling_at t false entry.now)) result }
+    ensures { FindsInTree W.Worktree worktree.old worktree.new
+        (λ t. Ok (words.ceiling_of_absolute_entry t false entry.now)) result }
 {
     match worktree.real_path(alloc, entry, b"/")? {
         Some(real) => Ok(Some(Bytes::from_slice(alloc, without_leading_slash(real.as_bytes()))?)),
@@ -92,14 +92,14 @@ fn real_ceiling<W: Worktree>(
 }
 
 /// The ceiling of an absolute entry.
-fn ceiling_at<W: Worktree>(
+fn ceiling_of_absolute_entry<W: Worktree>(
     alloc: Global,
     worktree: &mut W,
     as_it_is: bool,
     entry: &[u8],
 ) -> Result<Option<Bytes>, PlacesError>
-    ensures { Finds W.Worktree worktree.old worktree.new
-        (λ t. Ok (words.ceiling_at t as_it_is entry.now)) result }
+    ensures { FindsInTree W.Worktree worktree.old worktree.new
+        (λ t. Ok (words.ceiling_of_absolute_entry t as_it_is entry.now)) result }
 {
     if as_it_is {
         return Ok(Some(Bytes::from_slice(
@@ -107,27 +107,27 @@ fn ceiling_at<W: Worktree>(
             without_trailing_slash(without_leading_slash(entry)),
         )?));
     }
-    real_ceiling(alloc, worktree, entry)
+    ceiling_with_links_followed(alloc, worktree, entry)
 }
 
 /// The ceiling of an entry, if it has one.
-fn ceiling_of<W: Worktree>(
+fn ceiling_of_entry<W: Worktree>(
     alloc: Global,
     worktree: &mut W,
     as_it_is: bool,
     entry: &[u8],
 ) -> Result<Option<Bytes>, PlacesError>
-    ensures { Finds W.Worktree worktree.old worktree.new
-        (λ t. Ok (words.ceiling_of t as_it_is entry.now)) result }
+    ensures { FindsInTree W.Worktree worktree.old worktree.new
+        (λ t. Ok (words.ceiling_of_entry t as_it_is entry.now)) result }
 {
     if !is_absolute(entry) {
         return Ok(None);
     }
-    ceiling_at(alloc, worktree, as_it_is, entry)
+    ceiling_of_absolute_entry(alloc, worktree, as_it_is, entry)
 }
 
 /// The bytes after the first `count`.
-fn past(bytes: &[u8], count: usize) -> &[u8]
+fn bytes_after_count(bytes: &[u8], count: usize) -> &[u8]
     requires { count ≤ length bytes.now }
     ensures { result.now ≡ drop count bytes.now }
 {
@@ -135,7 +135,7 @@ fn past(bytes: &[u8], count: usize) -> &[u8]
 }
 
 /// The first of some entries that colons part, and what follows the colon behind it.
-fn split_entry(entries: &[u8]) -> (&[u8], Option<&[u8]>)
+fn split_first_entry_at_colon(entries: &[u8]) -> (&[u8], Option<&[u8]>)
     ensures entries { MatchOption result.1
         (slice_split (λ b. b == 58) entries.now ≡ result.0.now ∷ [])
         (λ rest. slice_split (λ b. b == 58) entries.now
@@ -144,7 +144,7 @@ fn split_entry(entries: &[u8]) -> (&[u8], Option<&[u8]>)
         (λ rest. length result.0.now + 1 + length rest.now ≡ length entries.now) }
 {
     match entries.find_byte(b':') {
-        Some(at) => (&entries[..at], Some(past(entries, at + 1))),
+        Some(at) => (&entries[..at], Some(bytes_after_count(entries, at + 1))),
         None => (entries, None),
     }
 }
@@ -160,20 +160,20 @@ fn split_entry(entries: &[u8]) -> (&[u8], Option<&[u8]>)
 ///
 /// - `Fault`: the worktree failed, which it counted. No fault reads as "nothing is there".
 /// - `OutOfMemory` for want of memory.
-pub fn ceilings_of<W: Worktree>(
+pub fn parse_ceiling_directories<W: Worktree>(
     alloc: Global,
     worktree: &mut W,
     text: &[u8],
 ) -> Result<Ceilings, PlacesError>
-    ensures { Finds W.Worktree worktree.old worktree.new
-        (λ t. Ok (words.ceilings_of t text.now)) result }
+    ensures { FindsInTree W.Worktree worktree.old worktree.new
+        (λ t. Ok (words.parse_ceiling_directories t text.now)) result }
 {
     let mut made = Ceilings::new(alloc);
     let mut as_it_is = false;
     let mut left = text;
     loop {
-        let (entry, rest) = split_entry(left);
-        let ceiling = ceiling_of(alloc, worktree, as_it_is, entry)?;
+        let (entry, rest) = split_first_entry_at_colon(left);
+        let ceiling = ceiling_of_entry(alloc, worktree, as_it_is, entry)?;
         made.push(ceiling)?;
         let Some(next) = rest else {
             return Ok(made);

@@ -104,9 +104,9 @@ impl From<OutOfMemory> for PlacesError {
 
 impl From<ReadError> for PlacesError {
     ghost use Rattle.std.specs.Prelude.{◌≡◌};
-    ghost use Rattle.git_places.specs.Answers.{of_read};
+    ghost use Rattle.git_places.specs.Answers.{places_error_of_read_error};
 
-    ghost from_gives = { λ refused e. e ≡ of_read refused };
+    ghost from_gives = { λ refused e. e ≡ places_error_of_read_error refused };
 
     fn from(refused: ReadError) -> PlacesError {
         match refused {

@@ -1,6 +1,6 @@
 //! What the configuration of a repository says of its format.
 ghost use Rattle.std.specs.Prelude.{◌≡◌, not, find, Some, Ok, IfOk, option_copied, option_map, if◌then◌else◌};
-ghost use Rattle.git_places.specs.Answers.{Decides};
+ghost use Rattle.git_places.specs.Answers.{AnswersUnlessOutOfMemory};
 ghost use Rattle.git_places.specs.Format as words;
 ghost use Rattle.git_config_lite.specs.Lookups as lookups;
 
@@ -20,8 +20,8 @@ pub enum Version {
 }
 
 /// Whether a section without a subsection, of this name, has a key.
-fn has_key(section: &Section, name: &[u8], key: &[u8]) -> bool
-    ensures { result ≡ words.has_key name.now key.now section.now }
+fn is_plain_section_with_key(section: &Section, name: &[u8], key: &[u8]) -> bool
+    ensures { result ≡ words.is_plain_section_with_key name.now key.now section.now }
 {
     if !eq_ignore_case(section.name(), name) {
         return false;
@@ -30,16 +30,16 @@ fn has_key(section: &Section, name: &[u8], key: &[u8]) -> bool
 }
 
 /// The file of a section that has a key, and of one that has it not the one that was found before.
-fn file_at<'a>(
+fn file_if_section_has_key<'a>(
     section: &'a Section,
     found: Option<&'a PathText>,
     name: &[u8],
     key: &[u8],
 ) -> Option<&'a PathText>
-    ensures { option_copied result ≡ (if words.has_key name.now key.now section.now
-        then section.now.meta.path else option_copied found.entry) }
+    ensures { option_copied result ≡ (if words.is_plain_section_with_key name.now key.now
+        section.now then section.now.meta.path else option_copied found.entry) }
 {
-    if has_key(section, name, key) {
+    if is_plain_section_with_key(section, name, key) {
         return section.meta().path.as_ref();
     }
     found
@@ -47,18 +47,22 @@ fn file_at<'a>(
 
 /// The file in which the last value of a key stands, in the sections of a name that have no
 /// subsection. None where no value does, or where it stands in no file.
-pub fn file_of<'a>(config: &'a File, name: &[u8], key: &[u8]) -> Option<&'a PathText>
-    ensures { option_copied result ≡ words.file_of name.now key.now config.now.sections }
+pub fn file_of_last_key_value<'a>(config: &'a File, name: &[u8], key: &[u8]) -> Option<&'a PathText>
+    ensures { option_copied result ≡ words.file_of_last_key_value name.now key.now
+        config.now.sections }
 {
     let mut found = None;
     for section in config.sections() {
-        found = file_at(section, found, name, key);
+        found = file_if_section_has_key(section, found, name, key);
     }
     found
 }
 
 /// A copy of a path, if there is one.
-pub fn path_copied(alloc: Global, path: Option<&PathText>) -> Result<Option<PathText>, OutOfMemory>
+pub fn copy_optional_path(
+    alloc: Global,
+    path: Option<&PathText>,
+) -> Result<Option<PathText>, OutOfMemory>
     ensures { IfOk result (λ copy. copy ≡ option_copied path.entry) }
 {
     match path {
@@ -68,20 +72,20 @@ pub fn path_copied(alloc: Global, path: Option<&PathText>) -> Result<Option<Path
 }
 
 /// The version that a text in a file says, if there is one.
-fn version_of(
+fn parse_format_version(
     alloc: Global,
     file: Option<&PathText>,
     text: Option<&[u8]>,
 ) -> Result<Option<Version>, PlacesError>
-    ensures { Decides result
-        (words.version_of (option_copied file.entry) (option_copied text.entry)) }
+    ensures { AnswersUnlessOutOfMemory result
+        (words.parse_format_version (option_copied file.entry) (option_copied text.entry)) }
 {
     match text {
         None => Ok(None),
         Some(b"0") => Ok(Some(Version::Zero)),
         Some(b"1") => Ok(Some(Version::One)),
         Some(text) => Err(PlacesError::Version {
-            path: path_copied(alloc, file)?,
+            path: copy_optional_path(alloc, file)?,
             value: Bytes::from_slice(alloc, text)?,
         }),
     }
@@ -89,19 +93,22 @@ fn version_of(
 
 /// The version of a repository's format, by `core.repositoryFormatVersion`; none where nothing says
 /// so.
-pub fn version_in(alloc: Global, config: &File) -> Result<Option<Version>, PlacesError>
-    ensures { Decides result (words.version_in config.now.sections) }
+pub fn format_version_of_config(
+    alloc: Global,
+    config: &File,
+) -> Result<Option<Version>, PlacesError>
+    ensures { AnswersUnlessOutOfMemory result (words.format_version_of_config config.now.sections) }
 {
-    version_of(
+    parse_format_version(
         alloc,
-        file_of(config, b"core", b"repositoryformatversion"),
+        file_of_last_key_value(config, b"core", b"repositoryformatversion"),
         config.string(b"core", None, b"repositoryformatversion"),
     )
 }
 
 /// A key of `[extensions]` that has no say here, in either version.
-fn is_harmless(key: &[u8]) -> bool
-    ensures { result ≡ words.is_harmless key.now }
+fn is_ignorable_extension(key: &[u8]) -> bool
+    ensures { result ≡ words.is_ignorable_extension key.now }
 {
     eq_ignore_case(key, b"noop")
         || eq_ignore_case(key, b"preciousobjects")
@@ -110,27 +117,27 @@ fn is_harmless(key: &[u8]) -> bool
 }
 
 /// A key that has no say here, and that version 1 alone may have.
-fn is_harmless_later(key: &[u8]) -> bool
-    ensures { result ≡ words.is_harmless_later key.now }
+fn is_ignorable_version_one_extension(key: &[u8]) -> bool
+    ensures { result ≡ words.is_ignorable_version_one_extension key.now }
 {
     eq_ignore_case(key, b"noop-v1") || eq_ignore_case(key, b"relativeworktrees")
 }
 
-fn is_object_format(key: &[u8]) -> bool
-    ensures { result ≡ words.is_object_format key.now }
+fn is_object_format_key(key: &[u8]) -> bool
+    ensures { result ≡ words.is_object_format_key key.now }
 {
     eq_ignore_case(key, b"objectformat")
 }
 
-fn is_for_later(key: &[u8]) -> bool
-    ensures { result ≡ words.is_for_later key.now }
+fn is_version_one_only_extension(key: &[u8]) -> bool
+    ensures { result ≡ words.is_version_one_only_extension key.now }
 {
-    eq_ignore_case(key, b"noop-v1") || is_object_format(key)
+    eq_ignore_case(key, b"noop-v1") || is_object_format_key(key)
 }
 
 /// The value of a key, empty where it has none.
-fn value_of(entry: &Entry) -> &[u8]
-    ensures { result.now ≡ lookups.text_of entry.now.value }
+fn value_or_empty(entry: &Entry) -> &[u8]
+    ensures { result.now ≡ lookups.value_or_empty_text entry.now.value }
 {
     match &entry.value {
         Some(value) => value.as_bytes(),
@@ -138,66 +145,70 @@ fn value_of(entry: &Entry) -> &[u8]
     }
 }
 
-fn is_sha1(entry: &Entry) -> bool
-    ensures { result ≡ words.is_sha1 entry.now }
+fn is_sha1_value(entry: &Entry) -> bool
+    ensures { result ≡ words.is_sha1_value entry.now }
 {
-    value_of(entry) == b"sha1".as_slice()
+    value_or_empty(entry) == b"sha1".as_slice()
 }
 
-fn is_sha1_format(entry: &Entry) -> bool
-    ensures { result ≡ words.is_sha1_format entry.now }
+fn is_sha1_object_format(entry: &Entry) -> bool
+    ensures { result ≡ words.is_sha1_object_format entry.now }
 {
-    is_object_format(entry.key.as_bytes()) && is_sha1(entry)
+    is_object_format_key(entry.key.as_bytes()) && is_sha1_value(entry)
 }
 
 /// Whether a key says that each ref is a file.
-fn is_files_storage(entry: &Entry) -> bool
-    ensures { result ≡ words.is_files_storage entry.now }
+fn is_files_ref_storage(entry: &Entry) -> bool
+    ensures { result ≡ words.is_files_ref_storage entry.now }
 {
-    eq_ignore_case(entry.key.as_bytes(), b"refstorage") && value_of(entry) == b"files".as_slice()
+    eq_ignore_case(entry.key.as_bytes(), b"refstorage")
+        && value_or_empty(entry) == b"files".as_slice()
 }
 
 /// Whether version 1 knows a key, with its value.
-fn is_known_later(entry: &Entry) -> bool
-    ensures { result ≡ words.is_known_later entry.now }
+fn is_known_version_one_extension(entry: &Entry) -> bool
+    ensures { result ≡ words.is_known_version_one_extension entry.now }
 {
-    is_harmless(entry.key.as_bytes())
-        || is_harmless_later(entry.key.as_bytes())
-        || is_sha1_format(entry)
-        || is_files_storage(entry)
+    is_ignorable_extension(entry.key.as_bytes())
+        || is_ignorable_version_one_extension(entry.key.as_bytes())
+        || is_sha1_object_format(entry)
+        || is_files_ref_storage(entry)
 }
 
 /// Whether a key of a section `extensions` leaves the repository readable.
-fn is_readable(version: Version, subsection: Option<&[u8]>, entry: &Entry) -> bool
-    ensures { result ≡ words.is_readable version (option_copied subsection.entry) entry.now }
+fn is_allowed_extension(version: Version, subsection: Option<&[u8]>, entry: &Entry) -> bool
+    ensures { result ≡ words.is_allowed_extension version (option_copied subsection.entry)
+        entry.now }
 {
     match (version, subsection) {
         (Version::Zero, Some(_)) => true,
-        (Version::Zero, None) => !is_for_later(entry.key.as_bytes()),
+        (Version::Zero, None) => !is_version_one_only_extension(entry.key.as_bytes()),
         (Version::One, Some(_)) => false,
-        (Version::One, None) => is_known_later(entry),
+        (Version::One, None) => is_known_version_one_extension(entry),
     }
 }
 
-fn is_sha256(version: Version, subsection: Option<&[u8]>, entry: &Entry) -> bool
-    ensures { result ≡ words.is_sha256 version (option_copied subsection.entry) entry.now }
+fn is_sha256_object_format(version: Version, subsection: Option<&[u8]>, entry: &Entry) -> bool
+    ensures { result ≡ words.is_sha256_object_format version (option_copied subsection.entry)
+        entry.now }
 {
     match (version, subsection) {
         (Version::One, None) => {
-            is_object_format(entry.key.as_bytes()) && value_of(entry) == b"sha256".as_slice()
+            is_object_format_key(entry.key.as_bytes())
+                && value_or_empty(entry) == b"sha256".as_slice()
         }
         _ => false,
     }
 }
 
 /// A key as it stands behind `extensions.`, with its subsection.
-fn behind_section(
+fn key_with_subsection(
     alloc: Global,
     subsection: Option<&[u8]>,
     key: &[u8],
 ) -> Result<Bytes, OutOfMemory>
     ensures { IfOk result
-        (λ whole. whole ≡ words.behind_section (option_copied subsection.entry) key.now) }
+        (λ whole. whole ≡ words.key_with_subsection (option_copied subsection.entry) key.now) }
 {
     let Some(subsection) = subsection else {
         return Bytes::from_slice(alloc, key);
@@ -209,7 +220,7 @@ fn behind_section(
 }
 
 /// The refusal of a key of a file.
-fn refusal_of(
+fn error_of_extension(
     alloc: Global,
     file: Option<&PathText>,
     version: Version,
@@ -217,53 +228,55 @@ fn refusal_of(
     entry: &Entry,
 ) -> Result<PlacesError, OutOfMemory>
     ensures { IfOk result
-        (λ e. e ≡ words.refusal_of (option_copied file.entry) version
+        (λ e. e ≡ words.error_of_extension (option_copied file.entry) version
         (option_copied subsection.entry) entry.now) }
 {
-    if is_sha256(version, subsection, entry) {
+    if is_sha256_object_format(version, subsection, entry) {
         return Ok(PlacesError::Sha256 {
-            path: path_copied(alloc, file)?,
+            path: copy_optional_path(alloc, file)?,
         });
     }
     Ok(PlacesError::Extension {
-        path: path_copied(alloc, file)?,
-        key: behind_section(alloc, subsection, entry.key.as_bytes())?,
+        path: copy_optional_path(alloc, file)?,
+        key: key_with_subsection(alloc, subsection, entry.key.as_bytes())?,
     })
 }
 
 /// The first key of a section that does not leave the repository readable.
-fn unreadable(version: Version, section: &Section) -> Option<&Entry>
-    ensures { option_copied result
-        ≡ find (λ e. not (words.is_readable version section.now.subsection e)) section.now.entries }
+fn first_disallowed_extension(version: Version, section: &Section) -> Option<&Entry>
+    ensures { option_copied result ≡ find
+        (λ e. not (words.is_allowed_extension version section.now.subsection e))
+        section.now.entries }
 {
     let subsection = section.subsection_name();
     section
         .entries()
         .iter()
-        .find(|entry| !is_readable(version, subsection, entry))
+        .find(|entry| !is_allowed_extension(version, subsection, entry))
 }
 
 /// The refusal of a section `extensions`, if it has one.
-fn refusal_of_section(
+fn error_of_extensions_section(
     alloc: Global,
     version: Version,
     section: &Section,
 ) -> Result<Option<PlacesError>, OutOfMemory>
-    ensures { IfOk result (λ refusal. refusal ≡ words.refusal_of_section version section.now) }
+    ensures { IfOk result (λ refusal. refusal ≡ words.error_of_extensions_section version
+        section.now) }
 {
-    match unreadable(version, section) {
+    match first_disallowed_extension(version, section) {
         Some(entry) => {
             let file = section.meta().path.as_ref();
             let subsection = section.subsection_name();
-            Ok(Some(refusal_of(alloc, file, version, subsection, entry)?))
+            Ok(Some(error_of_extension(alloc, file, version, subsection, entry)?))
         }
         None => Ok(None),
     }
 }
 
 /// What stands behind `extensions.` in the name of a section.
-fn behind_dot(name: &[u8]) -> Option<&[u8]>
-    ensures { option_copied result ≡ words.behind_dot name.now }
+fn section_name_after_extensions_dot(name: &[u8]) -> Option<&[u8]>
+    ensures { option_copied result ≡ words.section_name_after_extensions_dot name.now }
 {
     if name.len() < 11 {
         return None;
@@ -276,20 +289,20 @@ fn behind_dot(name: &[u8]) -> Option<&[u8]>
 }
 
 /// The refusal of the first key of a section whose name has `name` behind `extensions.`.
-fn refusal_of_first(
+fn error_of_first_dotted_key(
     alloc: Global,
     section: &Section,
     name: &[u8],
 ) -> Result<Option<PlacesError>, OutOfMemory>
-    ensures { IfOk result
-        (λ refusal. refusal ≡ words.refusal_of_dotted Version.One section.now (Some name.now)) }
+    ensures { IfOk result (λ refusal. refusal ≡ words.error_of_dotted_extensions_section Version.One
+        section.now (Some name.now)) }
 {
     match section.entries().first() {
         Some(entry) => {
-            let key = behind_section(alloc, section.subsection_name(), entry.key.as_bytes())?;
+            let key = key_with_subsection(alloc, section.subsection_name(), entry.key.as_bytes())?;
             Ok(Some(PlacesError::Extension {
-                path: path_copied(alloc, section.meta().path.as_ref())?,
-                key: behind_section(alloc, Some(name), key.as_bytes())?,
+                path: copy_optional_path(alloc, section.meta().path.as_ref())?,
+                key: key_with_subsection(alloc, Some(name), key.as_bytes())?,
             }))
         }
         None => Ok(None),
@@ -297,43 +310,54 @@ fn refusal_of_first(
 }
 
 /// The refusal of a section whose name begins with `extensions.`, if it has one.
-fn refusal_of_dotted(
+fn error_of_dotted_extensions_section(
     alloc: Global,
     version: Version,
     section: &Section,
     name: Option<&[u8]>,
 ) -> Result<Option<PlacesError>, OutOfMemory>
     ensures { IfOk result (λ refusal. refusal
-        ≡ words.refusal_of_dotted version section.now (option_copied name.entry)) }
+        ≡ words.error_of_dotted_extensions_section version section.now (option_copied name.entry)) }
 {
     match (version, name) {
-        (Version::One, Some(name)) => refusal_of_first(alloc, section, name),
+        (Version::One, Some(name)) => error_of_first_dotted_key(alloc, section, name),
         (Version::Zero, Some(_)) => Ok(None),
         (_, None) => Ok(None),
     }
 }
 
 /// The refusal of a section, if it has one.
-fn refusal_in(
+fn extension_error_of_section(
     alloc: Global,
     version: Version,
     section: &Section,
 ) -> Result<Option<PlacesError>, OutOfMemory>
-    ensures { IfOk result (λ refusal. refusal ≡ words.refusal_in version section.now) }
+    ensures { IfOk result (λ refusal. refusal ≡ words.extension_error_of_section version
+        section.now) }
 {
     if eq_ignore_case(section.name(), b"extensions") {
-        return refusal_of_section(alloc, version, section);
+        return error_of_extensions_section(alloc, version, section);
     }
-    refusal_of_dotted(alloc, version, section, behind_dot(section.name()))
+    error_of_dotted_extensions_section(
+        alloc,
+        version,
+        section,
+        section_name_after_extensions_dot(section.name()),
+    )
 }
 
 /// Whether the sections of extensions leave the repository readable; the first key that does not is
 /// refused.
-pub fn readable_in(alloc: Global, version: Version, config: &File) -> Result<bool, PlacesError>
-    ensures { Decides result (words.readable_in version config.now.sections) }
+pub fn require_allowed_extensions(
+    alloc: Global,
+    version: Version,
+    config: &File,
+) -> Result<bool, PlacesError>
+    ensures { AnswersUnlessOutOfMemory result (words.require_allowed_extensions version
+        config.now.sections) }
 {
     for section in config.sections() {
-        if let Some(refusal) = refusal_in(alloc, version, section)? {
+        if let Some(refusal) = extension_error_of_section(alloc, version, section)? {
             return Err(refusal);
         }
     }
@@ -341,36 +365,42 @@ pub fn readable_in(alloc: Global, version: Version, config: &File) -> Result<boo
 }
 
 /// The refusal of the value of a key in a file.
-fn value_error(
+fn invalid_value_error(
     alloc: Global,
     file: Option<&PathText>,
     section: &[u8],
     key: &[u8],
 ) -> Result<PlacesError, OutOfMemory>
-    ensures { IfOk result (λ e. e
-        ≡ PlacesError.Value (option_copied file.entry) (words.whole_key section.now key.now)) }
+    ensures { IfOk result (λ e. e ≡ PlacesError.Value (option_copied file.entry)
+        (words.section_dot_key section.now key.now)) }
 {
     let mut whole = Bytes::from_slice(alloc, section)?;
     whole.extend(alloc, b".")?;
     whole.extend(alloc, key)?;
     Ok(PlacesError::Value {
-        path: path_copied(alloc, file)?,
+        path: copy_optional_path(alloc, file)?,
         key: whole,
     })
 }
 
 /// What a key says as a boolean, no where it does not stand there.
-pub fn truth_of(
+pub fn boolean_or_false(
     alloc: Global,
     config: &File,
     section: &[u8],
     key: &[u8],
 ) -> Result<bool, PlacesError>
-    ensures { Decides result (words.truth_of section.now key.now config.now.sections) }
+    ensures { AnswersUnlessOutOfMemory result (words.boolean_or_false section.now key.now
+        config.now.sections) }
 {
     match config.boolean(section, None, key) {
         Ok(None) => Ok(false),
         Ok(Some(truth)) => Ok(truth),
-        Err(_) => Err(value_error(alloc, file_of(config, section, key), section, key)?),
+        Err(_) => Err(invalid_value_error(
+            alloc,
+            file_of_last_key_value(config, section, key),
+            section,
+            key,
+        )?),
     }
 }

@@ -2,9 +2,9 @@
 ghost use Rattle.std.specs.Prelude.{◌≡◌, take, option_map, Ok, codes, false};
 ghost use Rattle.std.specs.List.{list_all};
 ghost use Rattle.std.specs.Char.{is_ascii_hexdigit};
-ghost use Rattle.worktree_fs.specs.Repository.{behind_front};
+ghost use Rattle.worktree_fs.specs.Repository.{text_after_prefix};
 ghost use Rattle.worktree_fs.specs.Tree.{look};
-ghost use Rattle.git_places.specs.Finds.{Finds};
+ghost use Rattle.git_places.specs.Finds.{FindsInTree};
 ghost use Rattle.git_places.specs.Head as words;
 
 use crate::error::PlacesError;
@@ -24,8 +24,8 @@ pub enum Head {
 }
 
 /// The text behind `front`.
-fn behind<'a>(text: &'a [u8], front: &[u8]) -> Option<&'a [u8]>
-    ensures { option_map (λ rest. rest.now) result ≡ behind_front front.now text.now }
+fn strip_text_prefix<'a>(text: &'a [u8], front: &[u8]) -> Option<&'a [u8]>
+    ensures { option_map (λ rest. rest.now) result ≡ text_after_prefix front.now text.now }
 {
     text.strip_prefix(front)
 }
@@ -33,22 +33,22 @@ fn behind<'a>(text: &'a [u8], front: &[u8]) -> Option<&'a [u8]>
 fn begins_with(front: &[u8], text: &[u8]) -> bool
     ensures { result ≡ words.begins_with front.now text.now }
 {
-    behind(text, front).is_some()
+    strip_text_prefix(text, front).is_some()
 }
 
-fn is_blank(byte: u8) -> bool
-    ensures { result ≡ words.is_blank byte }
+fn is_space_tab_or_line_end(byte: u8) -> bool
+    ensures { result ≡ words.is_space_tab_or_line_end byte }
 {
     byte == b' ' || byte == b'\t' || byte == b'\n' || byte == b'\r'
 }
 
 /// A text without the blanks at its front.
-fn after_blanks(text: &[u8]) -> &[u8]
-    ensures { result.now ≡ words.after_blanks text.now }
+fn without_leading_blanks(text: &[u8]) -> &[u8]
+    ensures { result.now ≡ words.without_leading_blanks text.now }
 {
     let mut rest = text;
     while let Some((first, after)) = rest.split_first() {
-        if !is_blank(*first) {
+        if !is_space_tab_or_line_end(*first) {
             return rest;
         }
         rest = after;
@@ -57,33 +57,34 @@ fn after_blanks(text: &[u8]) -> &[u8]
 }
 
 /// Whether what stands behind `ref:` names a ref.
-fn names_ref(text: &[u8]) -> bool
-    ensures { result ≡ words.names_ref (behind_front (codes "ref:") text.now) }
+fn is_symbolic_ref_text(text: &[u8]) -> bool
+    ensures { result ≡ words.begins_with_refs_after_blanks (text_after_prefix (codes "ref:")
+        text.now) }
 {
-    match behind(text, b"ref:".as_slice()) {
-        Some(rest) => begins_with(b"refs/".as_slice(), after_blanks(rest)),
+    match strip_text_prefix(text, b"ref:".as_slice()) {
+        Some(rest) => begins_with(b"refs/".as_slice(), without_leading_blanks(rest)),
         None => false,
     }
 }
 
-fn are_hex(text: &[u8]) -> bool
+fn are_all_hex_digits(text: &[u8]) -> bool
     ensures { result ≡ list_all is_ascii_hexdigit text.now }
 {
     text.iter().all(|b| b.is_ascii_hexdigit())
 }
 
 /// Whether a text begins with the 40 hex digits of an id.
-fn begins_with_id(text: &[u8]) -> bool
-    ensures { result ≡ words.begins_with_id text.now }
+fn begins_with_40_hex_digits(text: &[u8]) -> bool
+    ensures { result ≡ words.begins_with_40_hex_digits text.now }
 {
     if text.len() < 40 {
         return false;
     }
-    are_hex(&text[..40])
+    are_all_hex_digits(&text[..40])
 }
 
 /// The first 255 bytes.
-fn front(bytes: &[u8]) -> &[u8]
+fn first_255_bytes(bytes: &[u8]) -> &[u8]
     ensures { result.now ≡ take 255 bytes.now }
 {
     if bytes.len() < 255 {
@@ -92,17 +93,17 @@ fn front(bytes: &[u8]) -> &[u8]
     &bytes[..255]
 }
 
-fn is_git_text(text: &[u8]) -> bool
-    ensures { result ≡ words.is_git_text text.now }
+fn is_valid_head_text(text: &[u8]) -> bool
+    ensures { result ≡ words.is_valid_head_text text.now }
 {
-    names_ref(text) || begins_with_id(text)
+    is_symbolic_ref_text(text) || begins_with_40_hex_digits(text)
 }
 
 /// What git says of the bytes of a `HEAD`.
-fn head_of(bytes: &[u8]) -> Head
-    ensures { result ≡ words.head_of bytes.now }
+fn head_verdict_of_bytes(bytes: &[u8]) -> Head
+    ensures { result ≡ words.head_verdict_of_bytes bytes.now }
 {
-    if is_git_text(front(bytes)) {
+    if is_valid_head_text(first_255_bytes(bytes)) {
         Head::Good
     } else {
         Head::Bad
@@ -117,17 +118,17 @@ fn head_of(bytes: &[u8]) -> Head
 ///
 /// - `Fault`: the worktree failed, which it counted.
 /// - `OutOfMemory` for want of memory.
-pub fn head_at<W: Worktree>(
+pub fn head_verdict_at_path<W: Worktree>(
     alloc: Global,
     worktree: &mut W,
     path: &[u8],
 ) -> Result<Head, PlacesError>
-    ensures { Finds W.Worktree worktree.old worktree.new
-        (λ t. Ok (words.head_at (look t path.now false))) result }
+    ensures { FindsInTree W.Worktree worktree.old worktree.new
+        (λ t. Ok (words.head_verdict_of_lookup (look t path.now false))) result }
 {
     let mut bytes = Bytes::new(alloc);
     match worktree.read(alloc, path, false, &mut bytes)? {
-        ReadAnswer::Read => Ok(head_of(bytes.as_bytes())),
+        ReadAnswer::Read => Ok(head_verdict_of_bytes(bytes.as_bytes())),
         ReadAnswer::Absent => Ok(Head::Bad),
         ReadAnswer::IsDirectory => Ok(Head::Bad),
         ReadAnswer::IsLink => Ok(Head::Unknown),

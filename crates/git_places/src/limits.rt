@@ -1,13 +1,13 @@
 //! Where the search for a work tree ends on its way up.
 ghost use Rattle.std.specs.Prelude.{◌≡◌, Some, None, Ok, IfOk, option_copied};
-ghost use Rattle.git_places.specs.Answers.{Decides};
-ghost use Rattle.git_places.specs.Finds.{Finds, FindsOwned, FindsWith};
+ghost use Rattle.git_places.specs.Answers.{AnswersUnlessOutOfMemory};
+ghost use Rattle.git_places.specs.Finds.{FindsInTree, FindsInOwners, FindsInTreeAndOwners};
 ghost use Rattle.git_places.specs.Limits as words;
 
-use crate::ceilings::{Ceilings, ceilings_of};
+use crate::ceilings::{Ceilings, parse_ceiling_directories};
 use crate::error::PlacesError;
 use crate::surroundings::Surroundings;
-use crate::truths::truth_in;
+use crate::truths::boolean_of_variable;
 use gitbase_core::{Bytes, OutOfMemory, PathText};
 use std::alloc::Global;
 use std::marker::Model;
@@ -25,14 +25,14 @@ pub struct Limits {
 impl Model for Limits {
     ghost use Rattle.git_places.specs.Limits as words;
 
-    ghost Value = { words.Limits };
+    ghost Value = { words.SearchLimits };
 
-    ghost view = { λ limits. words.limits limits.ceilings limits.device };
+    ghost view = { λ limits. words.search_limits limits.ceilings limits.device };
 }
 
 /// A path without a slash in front, as the absolute path that it is.
-pub fn absolute(alloc: Global, path: &[u8]) -> Result<PathText, OutOfMemory>
-    ensures { IfOk result (λ made. made ≡ words.absolute path.now) }
+pub fn path_with_leading_slash(alloc: Global, path: &[u8]) -> Result<PathText, OutOfMemory>
+    ensures { IfOk result (λ made. made ≡ words.path_with_leading_slash path.now) }
 {
     let mut made = PathText::from_bytes(alloc, b"/".as_slice())?;
     made.push_component(alloc, path)?;
@@ -47,41 +47,41 @@ fn is_ceiling(ceilings: &[Bytes], path: &[u8]) -> bool
 }
 
 /// The file system of the directory that a path leads to, if one is there.
-fn device_of<O: Owners>(owners: &mut O, path: &[u8]) -> Result<Option<u64>, PlacesError>
-    ensures { FindsOwned O.Owners owners.old owners.new
-        (λ owned. Ok (words.device_of owned path.now)) result }
+fn device_at_path<O: Owners>(owners: &mut O, path: &[u8]) -> Result<Option<u64>, PlacesError>
+    ensures { FindsInOwners O.Owners owners.old owners.new
+        (λ owned. Ok (words.device_at_path owned path.now)) result }
 {
-    match owners.ownership(path, true)? {
+    match owners.ownership_at_path(path, true)? {
         Some(found) => Ok(Some(found.device)),
         None => Ok(None),
     }
 }
 
 /// Whether a directory lies on a file system.
-fn is_on<O: Owners>(owners: &mut O, device: u64, path: &[u8]) -> Result<bool, PlacesError>
-    ensures { FindsOwned O.Owners owners.old owners.new
-        (λ owned. Ok (words.is_on device (words.device_of owned path.now))) result }
+fn is_on_device<O: Owners>(owners: &mut O, device: u64, path: &[u8]) -> Result<bool, PlacesError>
+    ensures { FindsInOwners O.Owners owners.old owners.new
+        (λ owned. Ok (words.is_same_device device (words.device_at_path owned path.now))) result }
 {
-    match device_of(owners, path)? {
+    match device_at_path(owners, path)? {
         Some(found) => Ok(found == device),
         None => Ok(false),
     }
 }
 
 /// Whether a directory lies on the file system that is not left; else it is refused.
-fn is_within<O: Owners>(
+fn require_same_device<O: Owners>(
     alloc: Global,
     owners: &mut O,
     path: &[u8],
     device: Option<u64>,
 ) -> Result<bool, PlacesError>
-    ensures { FindsOwned O.Owners owners.old owners.new
-        (λ owned. words.unless_stop (words.unless_border owned path.now device)) result }
+    ensures { FindsInOwners O.Owners owners.old owners.new (λ owned. words.true_unless_error
+        (words.border_error_if_other_device owned path.now device)) result }
 {
     let Some(device) = device else {
         return Ok(true);
     };
-    if is_on(owners, device, path)? {
+    if is_on_device(owners, device, path)? {
         return Ok(true);
     }
     Err(PlacesError::Border {
@@ -90,24 +90,24 @@ fn is_within<O: Owners>(
 }
 
 /// Whether the search goes up into a directory; where it does not that is refused.
-pub fn goes_up<O: Owners>(
+pub fn require_search_may_enter<O: Owners>(
     alloc: Global,
     owners: &mut O,
     limits: &Limits,
     path: &[u8],
 ) -> Result<bool, PlacesError>
-    ensures { FindsOwned O.Owners owners.old owners.new
-        (λ owned. words.unless_stop (words.stop_at owned limits.now path.now)) result }
+    ensures { FindsInOwners O.Owners owners.old owners.new (λ owned. words.true_unless_error
+        (words.error_where_search_stops owned limits.now path.now)) result }
 {
     if is_ceiling(limits.ceilings.as_slice(), path) {
         return Err(PlacesError::NoRepository);
     }
-    let path = absolute(alloc, path)?;
-    is_within(alloc, owners, path.as_bytes(), limits.device)
+    let path = path_with_leading_slash(alloc, path)?;
+    require_same_device(alloc, owners, path.as_bytes(), limits.device)
 }
 
 /// The refusal of a directory that is not there.
-fn no_directory(alloc: Global, path: &[u8]) -> Result<PlacesError, OutOfMemory>
+fn no_directory_error(alloc: Global, path: &[u8]) -> Result<PlacesError, OutOfMemory>
     ensures { IfOk result (λ e. e ≡ PlacesError.NoDirectory path.now) }
 {
     Ok(PlacesError::NoDirectory {
@@ -116,48 +116,48 @@ fn no_directory(alloc: Global, path: &[u8]) -> Result<PlacesError, OutOfMemory>
 }
 
 /// The file system that a search from a directory does not leave.
-fn device_by<O: Owners>(
+fn device_limit_of_directory<O: Owners>(
     alloc: Global,
     owners: &mut O,
     path: &[u8],
     across: bool,
 ) -> Result<Option<u64>, PlacesError>
-    ensures { FindsOwned O.Owners owners.old owners.new
-        (λ owned. words.device_by owned path.now across) result }
+    ensures { FindsInOwners O.Owners owners.old owners.new
+        (λ owned. words.device_limit_of_directory owned path.now across) result }
 {
     if across {
         return Ok(None);
     }
-    match device_of(owners, path)? {
+    match device_at_path(owners, path)? {
         Some(device) => Ok(Some(device)),
-        None => Err(no_directory(alloc, path)?),
+        None => Err(no_directory_error(alloc, path)?),
     }
 }
 
 /// The file system that is not left, unless a variable says that it may be.
-fn device_in<O: Owners>(
+fn device_limit_of_surroundings<O: Owners>(
     alloc: Global,
     owners: &mut O,
     around: &Surroundings,
 ) -> Result<Option<u64>, PlacesError>
-    ensures { FindsOwned O.Owners owners.old owners.new
-        (λ owned. words.device_in owned around.now) result }
+    ensures { FindsInOwners O.Owners owners.old owners.new
+        (λ owned. words.device_limit_of_surroundings owned around.now) result }
 {
-    let across = truth_in(alloc, b"GIT_DISCOVERY_ACROSS_FILESYSTEM", &around.across)?;
-    device_by(alloc, owners, around.directory.as_bytes(), across)
+    let across = boolean_of_variable(alloc, b"GIT_DISCOVERY_ACROSS_FILESYSTEM", &around.across)?;
+    device_limit_of_directory(alloc, owners, around.directory.as_bytes(), across)
 }
 
 /// The ceilings that a variable names, if it is set.
-fn ceilings_by<W: Worktree>(
+fn ceilings_of_variable<W: Worktree>(
     alloc: Global,
     worktree: &mut W,
     text: &Option<Bytes>,
 ) -> Result<Ceilings, PlacesError>
-    ensures { Finds W.Worktree worktree.old worktree.new
-        (λ t. Ok (words.ceilings_by t text.now)) result }
+    ensures { FindsInTree W.Worktree worktree.old worktree.new
+        (λ t. Ok (words.ceilings_of_variable t text.now)) result }
 {
     match text {
-        Some(text) => ceilings_of(alloc, worktree, text.as_bytes()),
+        Some(text) => parse_ceiling_directories(alloc, worktree, text.as_bytes()),
         None => Ok(Ceilings::new(alloc)),
     }
 }
@@ -172,16 +172,16 @@ fn ceilings_by<W: Worktree>(
 /// - `NoDirectory`: nothing is at the current directory.
 /// - `Fault`: the worktree failed, or the owners, which counted it.
 /// - `OutOfMemory` for want of memory.
-pub fn limits_of<W: Worktree, O: Owners>(
+pub fn search_limits_of_surroundings<W: Worktree, O: Owners>(
     alloc: Global,
     worktree: &mut W,
     owners: &mut O,
     around: &Surroundings,
 ) -> Result<Limits, PlacesError>
-    ensures { FindsWith W.Worktree O.Owners worktree.old worktree.new owners.old owners.new
-        (λ t owned. words.limits_of t owned around.now) result }
+    ensures { FindsInTreeAndOwners W.Worktree O.Owners worktree.old worktree.new owners.old
+        owners.new (λ t owned. words.search_limits_of_surroundings t owned around.now) result }
 {
-    let device = device_in(alloc, owners, around)?;
-    let ceilings = ceilings_by(alloc, worktree, &around.ceilings)?;
+    let device = device_limit_of_surroundings(alloc, owners, around)?;
+    let ceilings = ceilings_of_variable(alloc, worktree, &around.ceilings)?;
     Ok(Limits { ceilings, device })
 }

@@ -1,7 +1,7 @@
 //! What a variable of the environment says as a boolean.
 ghost use Rattle.std.specs.Prelude.{◌≡◌, Some, IfOk};
 ghost use Rattle.git_config_lite.specs.Booleans as booleans;
-ghost use Rattle.git_places.specs.Answers.{Decides};
+ghost use Rattle.git_places.specs.Answers.{AnswersUnlessOutOfMemory};
 ghost use Rattle.git_places.specs.Truths as words;
 
 use crate::error::PlacesError;
@@ -10,8 +10,8 @@ use gitbase_core::{Bytes, OutOfMemory};
 use std::alloc::Global;
 
 /// A configuration with one key `a.k`.
-fn with_value(alloc: Global, text: &[u8]) -> Result<File, OutOfMemory>
-    ensures { IfOk result (λ file. file.sections ≡ words.section_for_lone_value text.now) }
+fn config_with_lone_value(alloc: Global, text: &[u8]) -> Result<File, OutOfMemory>
+    ensures { IfOk result (λ file. file.sections ≡ words.sections_with_lone_value text.now) }
 {
     let meta = Metadata {
         source: Source::Env,
@@ -33,10 +33,10 @@ fn with_value(alloc: Global, text: &[u8]) -> Result<File, OutOfMemory>
 /// # Errors
 ///
 /// `OutOfMemory` for want of memory.
-pub fn truth_of_text(alloc: Global, text: &[u8]) -> Result<Option<bool>, OutOfMemory>
-    ensures { IfOk result (λ truth. truth ≡ booleans.truth text.now) }
+pub fn parse_boolean_text(alloc: Global, text: &[u8]) -> Result<Option<bool>, OutOfMemory>
+    ensures { IfOk result (λ truth. truth ≡ booleans.parse_boolean text.now) }
 {
-    let file = with_value(alloc, text)?;
+    let file = config_with_lone_value(alloc, text)?;
     match file.boolean(b"a", None, b"k") {
         Ok(Some(truth)) => Ok(Some(truth)),
         _ => Ok(None),
@@ -44,13 +44,17 @@ pub fn truth_of_text(alloc: Global, text: &[u8]) -> Result<Option<bool>, OutOfMe
 }
 
 /// What a variable says as a boolean, no where it is not set.
-pub fn truth_in(alloc: Global, name: &[u8], text: &Option<Bytes>) -> Result<bool, PlacesError>
-    ensures { Decides result (words.truth_in name.now text.now) }
+pub fn boolean_of_variable(
+    alloc: Global,
+    name: &[u8],
+    text: &Option<Bytes>,
+) -> Result<bool, PlacesError>
+    ensures { AnswersUnlessOutOfMemory result (words.boolean_of_variable name.now text.now) }
 {
     let Some(text) = text else {
         return Ok(false);
     };
-    match truth_of_text(alloc, text.as_bytes())? {
+    match parse_boolean_text(alloc, text.as_bytes())? {
         Some(truth) => Ok(truth),
         None => Err(PlacesError::Value {
             path: None,

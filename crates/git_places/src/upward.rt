@@ -3,13 +3,13 @@ ghost use Rattle.std.specs.Prelude.{◌≡◌, [], Some, IfOk};
 ghost use Rattle.gitbase_core.specs.Path.{components};
 ghost use Rattle.worktree_fs.specs.Tree.{Names};
 ghost use Rattle.worktree_fs.specs.Owners.{OwnershipByPath};
-ghost use Rattle.git_places.specs.Finds.{FindsWith};
+ghost use Rattle.git_places.specs.Finds.{FindsInTreeAndOwners};
 ghost use Rattle.git_places.specs.Limits as bounds;
 ghost use Rattle.git_places.specs.Upward as words;
 
 use crate::error::PlacesError;
-use crate::git_directory::git_at;
-use crate::limits::{Limits, absolute, goes_up};
+use crate::git_directory::git_directory_of_work_tree_top;
+use crate::limits::{Limits, path_with_leading_slash, require_search_may_enter};
 use gitbase_core::{OutOfMemory, PathText};
 use std::alloc::Global;
 use std::marker::Model;
@@ -29,7 +29,7 @@ pub struct Top {
 impl Model for Top {
     ghost use Rattle.git_places.specs.Upward as words;
 
-    ghost Value = { words.Top };
+    ghost Value = { words.WorkTreeTop };
 
     ghost view = { λ found. words.top found.directory found.git };
 }
@@ -47,20 +47,21 @@ fn relative(alloc: Global, path: &[u8]) -> Result<PathText, OutOfMemory>
 }
 
 /// The nearest work tree at or above a directory.
-fn top_above<W: Worktree, O: Owners>(
+fn search_upward_for_top<W: Worktree, O: Owners>(
     alloc: Global,
     worktree: &mut W,
     owners: &mut O,
     current: &[u8],
     limits: &Limits,
 ) -> Result<Top, PlacesError>
-    ensures { FindsWith W.Worktree O.Owners worktree.old worktree.new owners.old owners.new
-        (λ t owned. words.top_in limits.now t owned current.now) result }
+    ensures { FindsInTreeAndOwners W.Worktree O.Owners worktree.old worktree.new owners.old
+        owners.new (λ t owned. words.nearest_top_within_limits limits.now t owned current.now)
+        result }
 {
     let mut path = relative(alloc, current)?;
     loop {
-        let directory = absolute(alloc, path.as_bytes())?;
-        match git_at(alloc, worktree, directory.as_bytes())? {
+        let directory = path_with_leading_slash(alloc, path.as_bytes())?;
+        match git_directory_of_work_tree_top(alloc, worktree, directory.as_bytes())? {
             Some(git) => return Ok(Top { directory, git }),
             None => {}
         }
@@ -68,7 +69,7 @@ fn top_above<W: Worktree, O: Owners>(
         if !path.pop_component() {
             return Err(PlacesError::NoRepository);
         }
-        goes_up(alloc, owners, limits, path.as_bytes())?;
+        require_search_may_enter(alloc, owners, limits, path.as_bytes())?;
     }
 }
 
@@ -91,18 +92,19 @@ fn top_above<W: Worktree, O: Owners>(
 /// - `Fault`: the worktree failed, or the owners, which counted it. No fault reads as "none".
 /// - `OutOfMemory` for want of memory.
 #[tactic(auto, using(crate::proofs::Nearest::nearest))]
-pub fn find_top<W: Worktree, O: Owners>(
+pub fn find_work_tree_top<W: Worktree, O: Owners>(
     alloc: Global,
     worktree: &mut W,
     owners: &mut O,
     current: &[u8],
     limits: &Limits,
 ) -> Result<Top, PlacesError>
-    ensures finds { FindsWith W.Worktree O.Owners worktree.old worktree.new owners.old owners.new
-        (λ t owned. words.top_in limits.now t owned current.now) result }
-    ensures nearest { (t : Names) (owned : OwnershipByPath)
-        → W.told worktree.old ≡ Some t → O.told owners.old ≡ Some owned
-        → IfOk result (words.IsNearest (bounds.stop_at owned limits.now) t current.now) }
+    ensures finds { FindsInTreeAndOwners W.Worktree O.Owners worktree.old worktree.new owners.old
+        owners.new (λ t owned. words.nearest_top_within_limits limits.now t owned current.now)
+        result }
+    ensures nearest { (t : Names) (owned : OwnershipByPath) → W.told worktree.old ≡ Some t
+        → O.told owners.old ≡ Some owned → IfOk result
+        (words.IsNearestTop (bounds.error_where_search_stops owned limits.now) t current.now) }
 {
-    top_above(alloc, worktree, owners, current, limits)
+    search_upward_for_top(alloc, worktree, owners, current, limits)
 }

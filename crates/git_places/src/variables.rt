@@ -17,14 +17,14 @@ pub struct Variable {
 impl Model for Variable {
     ghost use Rattle.git_places.specs.Variables as words;
 
-    ghost Value = { words.Variable };
+    ghost Value = { words.EnvironmentVariable };
 
     ghost view = { λ variable. record { name = variable.name; value = variable.value } };
 }
 
 /// A variable that names a place of the repository.
-fn is_place(name: &[u8]) -> bool
-    ensures { result ≡ words.is_place name.now }
+fn is_repository_place_variable(name: &[u8]) -> bool
+    ensures { result ≡ words.is_repository_place_variable name.now }
 {
     name == b"GIT_DIR".as_slice()
         || name == b"GIT_WORK_TREE".as_slice()
@@ -34,8 +34,8 @@ fn is_place(name: &[u8]) -> bool
 }
 
 /// One that says how path specs are read.
-fn is_of_path_specs(name: &[u8]) -> bool
-    ensures { result ≡ words.is_of_path_specs name.now }
+fn is_path_spec_variable(name: &[u8]) -> bool
+    ensures { result ≡ words.is_path_spec_variable name.now }
 {
     name == b"GIT_LITERAL_PATHSPECS".as_slice()
         || name == b"GIT_GLOB_PATHSPECS".as_slice()
@@ -44,8 +44,8 @@ fn is_of_path_specs(name: &[u8]) -> bool
 }
 
 /// One that has a configuration, or the number of those that others have.
-fn is_configuration(variable: &Variable) -> bool
-    ensures { result ≡ words.is_configuration variable.now }
+fn is_configuration_variable(variable: &Variable) -> bool
+    ensures { result ≡ words.is_configuration_variable variable.now }
 {
     let name = variable.name.as_bytes();
     name == b"GIT_CONFIG".as_slice()
@@ -53,20 +53,22 @@ fn is_configuration(variable: &Variable) -> bool
         || name == b"GIT_CONFIG_COUNT".as_slice() && variable.value.as_bytes() != b"0".as_slice()
 }
 
-fn points_elsewhere(variable: &Variable) -> bool
-    ensures { result ≡ words.points_elsewhere variable.now }
+fn is_place_path_spec_or_config_variable(variable: &Variable) -> bool
+    ensures { result ≡ words.is_place_path_spec_or_config_variable variable.now }
 {
     let name = variable.name.as_bytes();
-    is_place(name) || is_of_path_specs(name) || is_configuration(variable)
+    is_repository_place_variable(name)
+        || is_path_spec_variable(name)
+        || is_configuration_variable(variable)
 }
 
 /// The value of the first variable of a name.
-fn value_of(
+fn value_of_variable(
     alloc: Global,
     variables: &[Variable],
     name: &[u8],
 ) -> Result<Option<Bytes>, OutOfMemory>
-    ensures { IfOk result (λ value. value ≡ words.value_of name.now variables.now) }
+    ensures { IfOk result (λ value. value ≡ words.value_of_variable name.now variables.now) }
 {
     match variables
         .iter()
@@ -78,10 +80,16 @@ fn value_of(
 }
 
 /// The name of the first variable that points git elsewhere.
-fn elsewhere(alloc: Global, variables: &[Variable]) -> Result<Option<Bytes>, OutOfMemory>
-    ensures { IfOk result (λ name. name ≡ words.elsewhere variables.now) }
+fn name_of_first_redirecting_variable(
+    alloc: Global,
+    variables: &[Variable],
+) -> Result<Option<Bytes>, OutOfMemory>
+    ensures { IfOk result (λ name. name ≡ words.name_of_first_redirecting_variable variables.now) }
 {
-    match variables.iter().find(|variable| points_elsewhere(variable)) {
+    match variables
+        .iter()
+        .find(|variable| is_place_path_spec_or_config_variable(variable))
+    {
         Some(variable) => Ok(Some(Bytes::from_slice(alloc, variable.name.as_bytes())?)),
         None => Ok(None),
     }
@@ -94,23 +102,24 @@ fn elsewhere(alloc: Global, variables: &[Variable]) -> Result<Option<Bytes>, Out
 /// `GIT_WORK_TREE`, `GIT_INDEX_FILE`, `GIT_COMMON_DIR`, `GIT_OBJECT_DIRECTORY`, `GIT_CONFIG`,
 /// `GIT_CONFIG_PARAMETERS`, `GIT_CONFIG_COUNT` (but `0`), and the four `GIT_*_PATHSPECS`; see
 /// git(1), git-config(1).
-pub fn surroundings_of(
+pub fn surroundings_of_variables(
     alloc: Global,
     current: &[u8],
     variables: &[Variable],
 ) -> Result<Surroundings, OutOfMemory>
-    ensures { IfOk result (λ around. around ≡ words.surroundings_of current.now variables.now) }
+    ensures { IfOk result (λ around. around ≡ words.surroundings_of_variables current.now
+        variables.now) }
 {
     let directory = PathText::from_bytes(alloc, current)?;
-    let home = value_of(alloc, variables, b"HOME")?;
-    let config_home = value_of(alloc, variables, b"XDG_CONFIG_HOME")?;
-    let config_global = value_of(alloc, variables, b"GIT_CONFIG_GLOBAL")?;
-    let config_system = value_of(alloc, variables, b"GIT_CONFIG_SYSTEM")?;
-    let no_system = value_of(alloc, variables, b"GIT_CONFIG_NOSYSTEM")?;
-    let ceilings = value_of(alloc, variables, b"GIT_CEILING_DIRECTORIES")?;
-    let across = value_of(alloc, variables, b"GIT_DISCOVERY_ACROSS_FILESYSTEM")?;
-    let sudo_user = value_of(alloc, variables, b"SUDO_UID")?;
-    let elsewhere = elsewhere(alloc, variables)?;
+    let home = value_of_variable(alloc, variables, b"HOME")?;
+    let config_home = value_of_variable(alloc, variables, b"XDG_CONFIG_HOME")?;
+    let config_global = value_of_variable(alloc, variables, b"GIT_CONFIG_GLOBAL")?;
+    let config_system = value_of_variable(alloc, variables, b"GIT_CONFIG_SYSTEM")?;
+    let no_system = value_of_variable(alloc, variables, b"GIT_CONFIG_NOSYSTEM")?;
+    let ceilings = value_of_variable(alloc, variables, b"GIT_CEILING_DIRECTORIES")?;
+    let across = value_of_variable(alloc, variables, b"GIT_DISCOVERY_ACROSS_FILESYSTEM")?;
+    let sudo_user = value_of_variable(alloc, variables, b"SUDO_UID")?;
+    let elsewhere = name_of_first_redirecting_variable(alloc, variables)?;
     Ok(Surroundings {
         directory,
         home,

@@ -1,10 +1,13 @@
 //! Layouts of work trees and repositories, and what git answers in them.
 use crate::answers as git;
 use bstr::ByteSlice;
-use git_places::{Ceilings, Limits, Places, PlacesError, ceilings_of, find_top, places_of};
+use git_places::{
+    Ceilings, Limits, Places, PlacesError, find_work_tree_top, parse_ceiling_directories,
+    places_of_work_tree_top,
+};
 use gitbase_core::PathText;
 use std::alloc::Global;
-use test_cases::{split_at_byte, tree_of};
+use test_cases::{split_at_byte, tree_from_steps};
 use worktree_fs::{MemoryOwners, MemoryWorktree, Worktree};
 
 /// The same of trees at whose top a repository lies, which were asked of git by hand.
@@ -100,8 +103,8 @@ pub fn places_in(
     limits: &Limits,
 ) -> Result<Places, PlacesError> {
     let mut owners = MemoryOwners::new(Vec::new(alloc));
-    let top = find_top(alloc, tree, &mut owners, current, limits)?;
-    places_of(alloc, tree, top)
+    let top = find_work_tree_top(alloc, tree, &mut owners, current, limits)?;
+    places_of_work_tree_top(alloc, tree, top)
 }
 
 fn answers(
@@ -124,7 +127,7 @@ fn ceilings_in(alloc: Global, tree: &mut MemoryWorktree, text: &[u8]) -> Option<
     if text == b"-".as_slice() {
         return Some(Ceilings::new(alloc));
     }
-    ceilings_of(alloc, tree, text).ok()
+    parse_ceiling_directories(alloc, tree, text).ok()
 }
 
 /// Limits with these ceilings, and without a border.
@@ -140,7 +143,7 @@ fn limits_in(alloc: Global, tree: &mut MemoryWorktree, text: &[u8]) -> Option<Li
 fn is_answered(alloc: Global, want: &[u8], asked: &[u8]) -> bool {
     let (current, rest) = split_at_byte(asked, b'^');
     let (text, steps) = split_at_byte(rest, b'^');
-    let Some(tree) = tree_of(alloc, steps, b'~') else {
+    let Some(tree) = tree_from_steps(alloc, steps, b'~') else {
         return false;
     };
     let mut tree = tree;

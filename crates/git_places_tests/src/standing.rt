@@ -2,7 +2,7 @@
 use crate::layouts::{places_in, word_of};
 use git_places::{Ceilings, Limits, PlacesError};
 use std::alloc::Global;
-use test_cases::{split_at_byte, tree_of};
+use test_cases::{split_at_byte, tree_from_steps};
 
 /// Rows: the word of the refusal and the file in which its cause stands, and the tree, in whose
 /// directory `/w/t` is asked. A file of the common directory is spelled as `commondir` leads to it.
@@ -39,7 +39,7 @@ fn file_of(error: &PlacesError) -> &[u8] {
 fn holds(alloc: Global, row: &[u8]) -> bool {
     let (want, steps) = split_at_byte(row, b'^');
     let (word, file) = split_at_byte(want, b' ');
-    let Some(tree) = tree_of(alloc, steps, b'~') else {
+    let Some(tree) = tree_from_steps(alloc, steps, b'~') else {
         return false;
     };
     let mut tree = tree;

@@ -2,10 +2,10 @@
 use Rattle.std.proofs.Common.{◌≡◌, refl}
 use Rattle.git_places.specs.declared.error.PlacesError.{PlacesError}
 use Rattle.git_places.specs.declared.error.PlacesError.TheVariants as places
-use Rattle.git_setup.specs.Refusals.{of_places}
+use Rattle.git_setup.specs.Refusals.{git_refusal_of_places_error}
 use Rattle.git_setup.specs.declared.error.GitRefusal.TheVariants as errors
 
-pub is_places_fault : (e : PlacesError) → of_places e ≡ errors.Fault → e ≡ places.Fault
+pub is_places_fault : (e : PlacesError) → git_refusal_of_places_error e ≡ errors.Fault → e ≡ places.Fault
 is_places_fault places.NoRepository is = absurd cc
 is_places_fault (places.Border path) is = absurd cc
 is_places_fault (places.NoDirectory path) is = absurd cc

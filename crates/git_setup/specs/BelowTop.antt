@@ -16,27 +16,27 @@ skip_repeated_byte mark [] = []
 skip_repeated_byte mark (b ∷ rest) = if b == mark then skip_repeated_byte mark rest else b ∷ rest
 
 -- what follows a slash at the front, if one is there
-abbrev pub past_slash : List ℕ → List ℕ
-past_slash [] = []
-past_slash (b ∷ rest) = if b == 47 then rest else b ∷ rest
+abbrev pub skip_one_leading_slash : List ℕ → List ℕ
+skip_one_leading_slash [] = []
+skip_one_leading_slash (b ∷ rest) = if b == 47 then rest else b ∷ rest
 
 -- nothing is left of a line, but for a line feed, or a carriage return and that
-abbrev pub is_end : List ℕ → Bool
-is_end [] = true
-is_end (b ∷ rest) = bytes_eq (b ∷ rest) (10 ∷ []) || bytes_eq (b ∷ rest) (13 ∷ 10 ∷ [])
+abbrev pub is_line_end_or_empty : List ℕ → Bool
+is_line_end_or_empty [] = true
+is_line_end_or_empty (b ∷ rest) = bytes_eq (b ∷ rest) (10 ∷ []) || bytes_eq (b ∷ rest) (13 ∷ 10 ∷ [])
 
 -- a rule without its sign is of stars alone, one at least; a slash may stand behind them, and spaces
-abbrev pub is_of_stars : List ℕ → Bool
-is_of_stars [] = false
-is_of_stars (b ∷ rest) = if b == 42 then is_end (skip_repeated_byte 32 (past_slash (skip_repeated_byte 42 (b ∷ rest)))) else false
+abbrev pub is_rule_of_stars_only : List ℕ → Bool
+is_rule_of_stars_only [] = false
+is_rule_of_stars_only (b ∷ rest) = if b == 42 then is_line_end_or_empty (skip_repeated_byte 32 (skip_one_leading_slash (skip_repeated_byte 42 (b ∷ rest)))) else false
 
-abbrev pub unsigned : List ℕ → List ℕ
-unsigned rule = if is_of_stars rule then 63 ∷ rule else rule
+abbrev pub rule_question_marked_if_stars : List ℕ → List ℕ
+rule_question_marked_if_stars rule = if is_rule_of_stars_only rule then 63 ∷ rule else rule
 
 -- a line, which may begin with an exclamation mark
 abbrev pub line : List ℕ → List ℕ
 line [] = []
-line (b ∷ rest) = if b == 33 then 33 ∷ unsigned rest else unsigned (b ∷ rest)
+line (b ∷ rest) = if b == 33 then 33 ∷ rule_question_marked_if_stars rest else rule_question_marked_if_stars (b ∷ rest)
 
 -- the same rules, line by line
 unfoldable pub exempt_top_from_star_rules : List ℕ → List ℕ

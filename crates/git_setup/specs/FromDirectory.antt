@@ -1,17 +1,17 @@
 -- A work tree whose paths are compared with its index, as it is called for in a directory of it.
 use Rattle.std.specs.Prelude.{ℕ, List, Bool, false, Result, Ok}
 use Rattle.git_index.specs.declared.stat.Detail.{Detail}
-use Rattle.git_places.specs.Places.{Layout}
+use Rattle.git_places.specs.Places.{RepositoryPlaces}
 use Rattle.git_places.specs.Surroundings.{Surroundings}
 use Rattle.gitbase_core.specs.declared.entry.IndexEntry.{IndexEntry}
 use Rattle.glob_rules.specs.PathSpec.{PathSpec}
 use Rattle.worktree_fs.specs.Tree.{Names}
-use Rattle.git_setup.specs.AskedSpecs.{specs_in}
-use Rattle.git_setup.specs.Compared.{settings_by}
-use Rattle.git_setup.specs.Found.{prefix_in}
-use Rattle.git_setup.specs.IndexAt.{index_path}
-use Rattle.git_setup.specs.Indexed.{indexed_here}
-use Rattle.git_setup.specs.Present.{index_seen}
+use Rattle.git_setup.specs.AskedSpecs.{parse_pathspec_arguments}
+use Rattle.git_setup.specs.Compared.{read_comparison_settings}
+use Rattle.git_setup.specs.Found.{current_prefix_in_work_tree}
+use Rattle.git_setup.specs.IndexAt.{path_of_index_file}
+use Rattle.git_setup.specs.Indexed.{read_index_and_details_of_git_dir}
+use Rattle.git_setup.specs.Present.{index_with_present_entries_unskipped}
 use Rattle.git_setup.specs.Steps.{◌>>=◌}
 use Rattle.git_setup.specs.declared.compared.Compared.{Compared}
 use Rattle.git_setup.specs.declared.error.GitRefusal.{GitRefusal}
@@ -19,26 +19,26 @@ use Rattle.git_setup.specs.declared.from_directory.ComparedFrom.{ComparedFrom}
 use Rattle.git_setup.specs.declared.settings.Settings.{Settings}
 
 -- the entries of the index file, each as it is seen in the work tree
-abbrev pub seen_here : Names → Layout → Bool → List IndexEntry → Result (List IndexEntry) GitRefusal
-seen_here t places looks entries = index_seen t places.root (index_path places.git) looks entries
+abbrev pub index_with_actual_skip_flags : Names → RepositoryPlaces → Bool → List IndexEntry → Result (List IndexEntry) GitRefusal
+index_with_actual_skip_flags t places looks entries = index_with_present_entries_unskipped t places.root (path_of_index_file places.git) looks entries
 
-abbrev pub compared_with : Layout → List IndexEntry → List Detail → List PathSpec → Settings → Compared
-compared_with places index details specs settings = record { root = places.root; index = index; details = details; specs = specs; settings = settings }
+abbrev pub compared_of_fields : RepositoryPlaces → List IndexEntry → List Detail → List PathSpec → Settings → Compared
+compared_of_fields places index details specs settings = record { root = places.root; index = index; details = details; specs = specs; settings = settings }
 
 -- with the path specs that are asked for, and the directory from the top
-unfoldable pub compared_from_parts : Layout → Surroundings → Bool → List (List ℕ) → List IndexEntry → List Detail → Settings → Result ComparedFrom GitRefusal
-compared_from_parts places around prefers paths index details settings = do
-  specs ← specs_in prefers false places.root around.directory paths
+unfoldable pub comparison_setup_with_parsed_pathspecs : RepositoryPlaces → Surroundings → Bool → List (List ℕ) → List IndexEntry → List Detail → Settings → Result ComparedFrom GitRefusal
+comparison_setup_with_parsed_pathspecs places around prefers paths index details settings = do
+  specs ← parse_pathspec_arguments prefers false places.root around.directory paths
   Ok (record {
-    compared = compared_with places index details specs.all settings;
+    compared = compared_of_fields places index details specs.all settings;
     each = specs.each;
-    prefix = prefix_in places.root around.directory;
+    prefix = current_prefix_in_work_tree places.root around.directory;
   })
 
 -- all of it, or the first refusal
-unfoldable pub compared_from : Names → Layout → Surroundings → Bool → List (List ℕ) → Result ComparedFrom GitRefusal
-compared_from t places around prefers paths = do
-  indexed ← indexed_here t places.git
-  settings ← settings_by t places around indexed.entries
-  index ← seen_here t places settings.looks_for_skipped indexed.entries
-  compared_from_parts places around prefers paths index indexed.details settings
+unfoldable pub read_comparison_setup_from_directory : Names → RepositoryPlaces → Surroundings → Bool → List (List ℕ) → Result ComparedFrom GitRefusal
+read_comparison_setup_from_directory t places around prefers paths = do
+  indexed ← read_index_and_details_of_git_dir t places.git
+  settings ← read_comparison_settings t places around indexed.entries
+  index ← index_with_actual_skip_flags t places settings.looks_for_skipped indexed.entries
+  comparison_setup_with_parsed_pathspecs places around prefers paths index indexed.details settings

@@ -1,17 +1,17 @@
 -- The rules that come behind those of all directories.
 use Rattle.std.specs.Prelude.{ℕ, List, [], ◌∷◌, ◌++◌, ◌-◌, ◌==◌, length, nat_eq, slice_index, Option, Some, None, if◌then◌else◌}
 use Rattle.std.specs.List.{starts_with}
-use Rattle.git_config_files.specs.Rules.{Rules, RulesFile}
+use Rattle.git_config_files.specs.Rules.{RulesOutsideWorkTree, RulesFile}
 use Rattle.git_setup.specs.BelowTop.{exempt_top_from_star_rules}
 
 -- some lines, with a line feed behind the last one too
-abbrev pub ended : List ℕ → List ℕ
-ended [] = []
-ended (b ∷ bytes) = if slice_index (b ∷ bytes) (length (b ∷ bytes) - 1) == 10 then b ∷ bytes else (b ∷ bytes) ++ 10 ∷ []
+abbrev pub lines_with_final_newline : List ℕ → List ℕ
+lines_with_final_newline [] = []
+lines_with_final_newline (b ∷ bytes) = if slice_index (b ∷ bytes) (length (b ∷ bytes) - 1) == 10 then b ∷ bytes else (b ∷ bytes) ++ 10 ∷ []
 
-abbrev pub rules_text : Option RulesFile → List ℕ
-rules_text None = []
-rules_text (Some file) = ended file.bytes
+abbrev pub text_of_optional_rules_file : Option RulesFile → List ℕ
+text_of_optional_rules_file None = []
+text_of_optional_rules_file (Some file) = lines_with_final_newline file.bytes
 
 -- a byte order mark, as UTF-8 has it
 abbrev pub byte_order_mark : List ℕ
@@ -23,5 +23,5 @@ abbrev pub double_byte_order_mark : List ℕ → List ℕ
 double_byte_order_mark rules = if starts_with nat_eq rules byte_order_mark then byte_order_mark ++ rules else rules
 
 -- those of the user, and behind them those of the repository, as they leave the top alone
-unfoldable pub globals_of : Rules → List ℕ
-globals_of rules = double_byte_order_mark (exempt_top_from_star_rules (rules_text rules.user ++ rules_text rules.repository))
+unfoldable pub combined_global_rules : RulesOutsideWorkTree → List ℕ
+combined_global_rules rules = double_byte_order_mark (exempt_top_from_star_rules (text_of_optional_rules_file rules.user ++ text_of_optional_rules_file rules.repository))

@@ -4,10 +4,10 @@ use Rattle.gitbase_core.specs.declared.entry.IndexEntry.{IndexEntry}
 use Rattle.gitbase_core.specs.declared.index.IndexError.{IndexError}
 use Rattle.git_config_files.specs.declared.error.FilesError.{FilesError}
 use Rattle.git_config_files.specs.declared.error.FilesError.TheVariants as files
-use Rattle.git_index.specs.IndexFile.{Index}
+use Rattle.git_index.specs.IndexFile.{IndexFileContents}
 use Rattle.git_index.specs.declared.error.IndexFileError.{IndexFileError}
 use Rattle.git_index.specs.declared.error.IndexFileError.TheVariants as index
-use Rattle.git_places.specs.Answers.{refused_as}
+use Rattle.git_places.specs.Answers.{map_error}
 use Rattle.git_places.specs.declared.error.PlacesError.{PlacesError}
 use Rattle.git_places.specs.declared.error.PlacesError.TheVariants as places
 use Rattle.worktree_fs.specs.declared.answers.ReadError.{ReadError}
@@ -16,68 +16,68 @@ use Rattle.git_setup.specs.declared.error.GitRefusal.{GitRefusal}
 use Rattle.git_setup.specs.declared.error.GitRefusal.TheVariants as errors
 
 -- of a look at the worktree
-abbrev pub of_read : ReadError → GitRefusal
-of_read read.Fault = errors.Fault
-of_read read.OutOfMemory = errors.OutOfMemory
+abbrev pub git_refusal_of_read_error : ReadError → GitRefusal
+git_refusal_of_read_error read.Fault = errors.Fault
+git_refusal_of_read_error read.OutOfMemory = errors.OutOfMemory
 
 -- of the search for the work tree
-abbrev pub of_places : PlacesError → GitRefusal
-of_places places.NoRepository = errors.Places places.NoRepository
-of_places (places.Border path) = errors.Places (places.Border path)
-of_places (places.NoDirectory path) = errors.Places (places.NoDirectory path)
-of_places (places.Bare path) = errors.Places (places.Bare path)
-of_places (places.GitFileForm path) = errors.Places (places.GitFileForm path)
-of_places (places.GitFileTarget path) = errors.Places (places.GitFileTarget path)
-of_places (places.OddHead path) = errors.Places (places.OddHead path)
-of_places (places.CommonDir path) = errors.Places (places.CommonDir path)
-of_places (places.Version path value) = errors.Places (places.Version path value)
-of_places (places.Extension path key) = errors.Places (places.Extension path key)
-of_places (places.Sha256 path) = errors.Places (places.Sha256 path)
-of_places (places.Value path key) = errors.Places (places.Value path key)
-of_places (places.Config path line) = errors.Places (places.Config path line)
-of_places (places.NoWorkTree path) = errors.Places (places.NoWorkTree path)
-of_places places.Fault = errors.Fault
-of_places places.OutOfMemory = errors.OutOfMemory
+abbrev pub git_refusal_of_places_error : PlacesError → GitRefusal
+git_refusal_of_places_error places.NoRepository = errors.Places places.NoRepository
+git_refusal_of_places_error (places.Border path) = errors.Places (places.Border path)
+git_refusal_of_places_error (places.NoDirectory path) = errors.Places (places.NoDirectory path)
+git_refusal_of_places_error (places.Bare path) = errors.Places (places.Bare path)
+git_refusal_of_places_error (places.GitFileForm path) = errors.Places (places.GitFileForm path)
+git_refusal_of_places_error (places.GitFileTarget path) = errors.Places (places.GitFileTarget path)
+git_refusal_of_places_error (places.OddHead path) = errors.Places (places.OddHead path)
+git_refusal_of_places_error (places.CommonDir path) = errors.Places (places.CommonDir path)
+git_refusal_of_places_error (places.Version path value) = errors.Places (places.Version path value)
+git_refusal_of_places_error (places.Extension path key) = errors.Places (places.Extension path key)
+git_refusal_of_places_error (places.Sha256 path) = errors.Places (places.Sha256 path)
+git_refusal_of_places_error (places.Value path key) = errors.Places (places.Value path key)
+git_refusal_of_places_error (places.Config path line) = errors.Places (places.Config path line)
+git_refusal_of_places_error (places.NoWorkTree path) = errors.Places (places.NoWorkTree path)
+git_refusal_of_places_error places.Fault = errors.Fault
+git_refusal_of_places_error places.OutOfMemory = errors.OutOfMemory
 
-abbrev pub as_places : {A : Type 0} → Result A PlacesError → Result A GitRefusal
-as_places answer = refused_as of_places answer
+abbrev pub places_result_as_git_result : {A : Type 0} → Result A PlacesError → Result A GitRefusal
+places_result_as_git_result answer = map_error git_refusal_of_places_error answer
 
 -- of the configurations and the rules files that they name
-abbrev pub of_files : FilesError → GitRefusal
-of_files (files.Config path line) = errors.Files (files.Config path line)
-of_files (files.Include path) = errors.Files (files.Include path)
-of_files (files.NoFile path) = errors.Files (files.NoFile path)
-of_files (files.Home path) = errors.Files (files.Home path)
-of_files (files.UserDir path value) = errors.Files (files.UserDir path value)
-of_files (files.Condition path) = errors.Files (files.Condition path)
-of_files (files.Depth path) = errors.Files (files.Depth path)
-of_files (files.Foreign path) = errors.Foreign path
-of_files (files.Value path key) = errors.Files (files.Value path key)
-of_files (files.Elsewhere name) = errors.Elsewhere name
-of_files files.Fault = errors.Fault
-of_files files.OutOfMemory = errors.OutOfMemory
+abbrev pub git_refusal_of_files_error : FilesError → GitRefusal
+git_refusal_of_files_error (files.Config path line) = errors.Files (files.Config path line)
+git_refusal_of_files_error (files.Include path) = errors.Files (files.Include path)
+git_refusal_of_files_error (files.NoFile path) = errors.Files (files.NoFile path)
+git_refusal_of_files_error (files.Home path) = errors.Files (files.Home path)
+git_refusal_of_files_error (files.UserDir path value) = errors.Files (files.UserDir path value)
+git_refusal_of_files_error (files.Condition path) = errors.Files (files.Condition path)
+git_refusal_of_files_error (files.Depth path) = errors.Files (files.Depth path)
+git_refusal_of_files_error (files.Foreign path) = errors.Foreign path
+git_refusal_of_files_error (files.Value path key) = errors.Files (files.Value path key)
+git_refusal_of_files_error (files.Elsewhere name) = errors.Elsewhere name
+git_refusal_of_files_error files.Fault = errors.Fault
+git_refusal_of_files_error files.OutOfMemory = errors.OutOfMemory
 
-abbrev pub as_files : {A : Type 0} → Result A FilesError → Result A GitRefusal
-as_files answer = refused_as of_files answer
+abbrev pub files_result_as_git_result : {A : Type 0} → Result A FilesError → Result A GitRefusal
+files_result_as_git_result answer = map_error git_refusal_of_files_error answer
 
 -- of the bytes of the index file at a path
-abbrev pub of_index : List ℕ → IndexFileError → GitRefusal
-of_index path index.Short = errors.IndexFile path index.Short
-of_index path index.Signature = errors.IndexFile path index.Signature
-of_index path (index.Version version) = errors.IndexFile path (index.Version version)
-of_index path index.Sum = errors.IndexFile path index.Sum
-of_index path (index.Entry at) = errors.IndexFile path (index.Entry at)
-of_index path index.Extensions = errors.IndexFile path index.Extensions
-of_index path index.Split = errors.IndexFile path index.Split
-of_index path (index.Unknown name) = errors.IndexFile path (index.Unknown name)
-of_index path (index.Directory at) = errors.IndexFile path (index.Directory at)
-of_index path index.OutOfMemory = errors.OutOfMemory
+abbrev pub git_refusal_of_index_file_error : List ℕ → IndexFileError → GitRefusal
+git_refusal_of_index_file_error path index.Short = errors.IndexFile path index.Short
+git_refusal_of_index_file_error path index.Signature = errors.IndexFile path index.Signature
+git_refusal_of_index_file_error path (index.Version version) = errors.IndexFile path (index.Version version)
+git_refusal_of_index_file_error path index.Sum = errors.IndexFile path index.Sum
+git_refusal_of_index_file_error path (index.Entry at) = errors.IndexFile path (index.Entry at)
+git_refusal_of_index_file_error path index.Extensions = errors.IndexFile path index.Extensions
+git_refusal_of_index_file_error path index.Split = errors.IndexFile path index.Split
+git_refusal_of_index_file_error path (index.Unknown name) = errors.IndexFile path (index.Unknown name)
+git_refusal_of_index_file_error path (index.Directory at) = errors.IndexFile path (index.Directory at)
+git_refusal_of_index_file_error path index.OutOfMemory = errors.OutOfMemory
 
-abbrev pub as_read : List ℕ → Result Index IndexFileError → Result Index GitRefusal
-as_read path (Ok read) = Ok read
-as_read path (Err e) = Err (of_index path e)
+abbrev pub index_result_as_git_result : List ℕ → Result IndexFileContents IndexFileError → Result IndexFileContents GitRefusal
+index_result_as_git_result path (Ok read) = Ok read
+index_result_as_git_result path (Err e) = Err (git_refusal_of_index_file_error path e)
 
 -- of its entries
-abbrev pub as_ordered : List ℕ → Result (List IndexEntry) IndexError → Result (List IndexEntry) GitRefusal
-as_ordered path (Ok entries) = Ok entries
-as_ordered path (Err e) = Err (errors.IndexEntry path e)
+abbrev pub entries_result_as_git_result : List ℕ → Result (List IndexEntry) IndexError → Result (List IndexEntry) GitRefusal
+entries_result_as_git_result path (Ok entries) = Ok entries
+entries_result_as_git_result path (Err e) = Err (errors.IndexEntry path e)

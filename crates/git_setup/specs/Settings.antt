@@ -2,74 +2,74 @@
 use Rattle.std.specs.Prelude.{ℕ, List, Bool, true, false, ◌||◌, codes, Option, Some, None, is_some, Result, Ok, Err, if◌then◌else◌}
 use Rattle.gitbase_core.specs.Steps.{and_then}
 use Rattle.gitbase_core.specs.Text.{eq_ignore_case}
-use Rattle.git_config_lite.specs.Lookups.{boolean, string}
+use Rattle.git_config_lite.specs.Lookups.{last_boolean_value, last_string_value}
 use Rattle.git_config_lite.specs.Sections.{Section}
-use Rattle.git_places.specs.Format.{file_of}
+use Rattle.git_places.specs.Format.{file_of_last_key_value}
 use Rattle.git_setup.specs.Steps.{◌>>=◌}
-use Rattle.git_setup.specs.Switches.{truth_in}
+use Rattle.git_setup.specs.Switches.{read_boolean_or_default}
 use Rattle.git_setup.specs.declared.error.GitRefusal.{GitRefusal}
 use Rattle.git_setup.specs.declared.error.GitRefusal.TheVariants as errors
 use Rattle.git_setup.specs.declared.settings.NodeSettings.{NodeSettings}
 
 -- "core.checkStat": of "default" or "minimal"
-abbrev pub check_stat_by : List ℕ → Option Bool
-check_stat_by value =
+abbrev pub parse_check_stat : List ℕ → Option Bool
+parse_check_stat value =
     if eq_ignore_case value (codes "default") then Some true
     else if eq_ignore_case value (codes "minimal") then Some false
     else None
 
-abbrev check_stat_known : Option (List ℕ) → Option Bool → Result Bool GitRefusal
-check_stat_known file (Some checks) = Ok checks
-check_stat_known file None = Err (errors.Boolean file (codes "core.checkStat"))
+abbrev parsed_check_stat_or_refusal : Option (List ℕ) → Option Bool → Result Bool GitRefusal
+parsed_check_stat_or_refusal file (Some checks) = Ok checks
+parsed_check_stat_or_refusal file None = Err (errors.Boolean file (codes "core.checkStat"))
 
-abbrev check_stat_said : Option (List ℕ) → Option (List ℕ) → Result Bool GitRefusal
-check_stat_said file None = Ok true
-check_stat_said file (Some value) = check_stat_known file (check_stat_by value)
+abbrev check_stat_of_optional_value : Option (List ℕ) → Option (List ℕ) → Result Bool GitRefusal
+check_stat_of_optional_value file None = Ok true
+check_stat_of_optional_value file (Some value) = parsed_check_stat_or_refusal file (parse_check_stat value)
 
-abbrev pub check_stat_in : List Section → Result Bool GitRefusal
-check_stat_in sections = check_stat_said (file_of (codes "core") (codes "checkstat") sections) (string (codes "core") None (codes "checkstat") sections)
+abbrev pub read_check_stat : List Section → Result Bool GitRefusal
+read_check_stat sections = check_stat_of_optional_value (file_of_last_key_value (codes "core") (codes "checkstat") sections) (last_string_value (codes "core") None (codes "checkstat") sections)
 
 -- each of `core.fileMode`, `core.symlinks` and `core.trustctime` is usually true
-unfoldable pub nodes_in : List Section → Result NodeSettings GitRefusal
-nodes_in sections = do
-  modes ← truth_in sections (codes "core") (codes "filemode") (codes "core.fileMode") true
-  links ← truth_in sections (codes "core") (codes "symlinks") (codes "core.symlinks") true
-  times ← truth_in sections (codes "core") (codes "trustctime") (codes "core.trustctime") true
-  checks ← check_stat_in sections
+unfoldable pub read_stat_and_mode_settings : List Section → Result NodeSettings GitRefusal
+read_stat_and_mode_settings sections = do
+  modes ← read_boolean_or_default sections (codes "core") (codes "filemode") (codes "core.fileMode") true
+  links ← read_boolean_or_default sections (codes "core") (codes "symlinks") (codes "core.symlinks") true
+  times ← read_boolean_or_default sections (codes "core") (codes "trustctime") (codes "core.trustctime") true
+  checks ← read_check_stat sections
   Ok (record { file_mode = modes; symlinks = links; trust_ctime = times; check_stat = checks })
 
 -- ---- a program that tells what changed
 
-abbrev is_watched_by : Result (Option Bool) (List ℕ) → Bool
-is_watched_by (Ok None) = false
-is_watched_by (Ok (Some watched)) = watched
-is_watched_by (Err text) = true
+abbrev is_fsmonitor_value_not_false : Result (Option Bool) (List ℕ) → Bool
+is_fsmonitor_value_not_false (Ok None) = false
+is_fsmonitor_value_not_false (Ok (Some watched)) = watched
+is_fsmonitor_value_not_false (Err text) = true
 
 -- "core.fsmonitor": "If set to true, enable the built-in file system monitor daemon .. Otherwise, this variable contains the pathname of
 -- the fsmonitor hook command"
-abbrev pub is_watched : List Section → Bool
-is_watched sections = is_watched_by (boolean (codes "core") None (codes "fsmonitor") sections)
+abbrev pub has_fsmonitor : List Section → Bool
+has_fsmonitor sections = is_fsmonitor_value_not_false (last_boolean_value (codes "core") None (codes "fsmonitor") sections)
 
 -- what such a program tells is not heeded
-abbrev pub node_settings_unless_fsmonitor : List Section → Result NodeSettings GitRefusal
-node_settings_unless_fsmonitor sections = if is_watched sections then Err (errors.Elsewhere (codes "core.fsmonitor")) else nodes_in sections
+abbrev pub stat_and_mode_settings_unless_fsmonitor : List Section → Result NodeSettings GitRefusal
+stat_and_mode_settings_unless_fsmonitor sections = if has_fsmonitor sections then Err (errors.Elsewhere (codes "core.fsmonitor")) else read_stat_and_mode_settings sections
 
 -- ---- conversions
 
-abbrev pub is_said : List ℕ → List Section → Bool
-is_said key sections = is_some (string (codes "core") None key sections)
+abbrev pub has_core_key : List ℕ → List Section → Bool
+has_core_key key sections = is_some (last_string_value (codes "core") None key sections)
 
-abbrev pub is_input : Option (List ℕ) → Bool
-is_input None = false
-is_input (Some value) = eq_ignore_case value (codes "input")
+abbrev pub is_autocrlf_input : Option (List ℕ) → Bool
+is_autocrlf_input None = false
+is_autocrlf_input (Some value) = eq_ignore_case value (codes "input")
 
 -- "core.autocrlf": a boolean, or "input"
-abbrev pub autocrlf_in : List Section → Result Bool GitRefusal
-autocrlf_in sections =
-    if is_input (string (codes "core") None (codes "autocrlf") sections) then Ok true
-    else truth_in sections (codes "core") (codes "autocrlf") (codes "core.autocrlf") false
+abbrev pub converts_line_ends_by_autocrlf : List Section → Result Bool GitRefusal
+converts_line_ends_by_autocrlf sections =
+    if is_autocrlf_input (last_string_value (codes "core") None (codes "autocrlf") sections) then Ok true
+    else read_boolean_or_default sections (codes "core") (codes "autocrlf") (codes "core.autocrlf") false
 
 -- line ends are, or attributes may be, by the configuration alone: `core.autocrlf`, `core.eol`, `core.attributesFile`
-abbrev pub converts_in : List Section → Result Bool GitRefusal
-converts_in sections =
-    and_then (λ (converts : Bool). Ok (converts || (is_said (codes "eol") sections || is_said (codes "attributesfile") sections))) (autocrlf_in sections)
+abbrev pub may_convert_by_config : List Section → Result Bool GitRefusal
+may_convert_by_config sections =
+    and_then (λ (converts : Bool). Ok (converts || (has_core_key (codes "eol") sections || has_core_key (codes "attributesfile") sections))) (converts_line_ends_by_autocrlf sections)

@@ -22,8 +22,8 @@ fn skip_repeated_byte(mark: u8, text: &[u8]) -> &[u8]
 }
 
 /// What follows a slash at the front, if one is there.
-fn past_slash(text: &[u8]) -> &[u8]
-    ensures { result.now ≡ words.past_slash text.now }
+fn skip_one_leading_slash(text: &[u8]) -> &[u8]
+    ensures { result.now ≡ words.skip_one_leading_slash text.now }
 {
     match text {
         [b'/', rest @ ..] => rest,
@@ -32,27 +32,34 @@ fn past_slash(text: &[u8]) -> &[u8]
 }
 
 /// Whether nothing is left of a line.
-fn is_end(text: &[u8]) -> bool
-    ensures { result ≡ words.is_end text.now }
+fn is_line_end_or_empty(text: &[u8]) -> bool
+    ensures { result ≡ words.is_line_end_or_empty text.now }
 {
     matches!(text, [] | [b'\n'] | [b'\r', b'\n'])
 }
 
 /// Whether a rule is of stars alone, with a slash or spaces behind them or not.
-fn is_of_stars(rule: &[u8]) -> bool
-    ensures { result ≡ words.is_of_stars rule.now }
+fn is_rule_of_stars_only(rule: &[u8]) -> bool
+    ensures { result ≡ words.is_rule_of_stars_only rule.now }
 {
     match rule {
-        [b'*', ..] => is_end(skip_repeated_byte(b' ', past_slash(skip_repeated_byte(b'*', rule)))),
+        [b'*', ..] => is_line_end_or_empty(skip_repeated_byte(
+            b' ',
+            skip_one_leading_slash(skip_repeated_byte(b'*', rule)),
+        )),
         _ => false,
     }
 }
 
 /// Adds a rule without its sign.
-fn add_unsigned(alloc: Global, rules: &mut Bytes, rule: &[u8]) -> Result<(), OutOfMemory>
-    ensures { OnOk result (rules.new ≡ rules.old ++ words.unsigned rule.now) }
+fn append_rule_question_marked_if_stars(
+    alloc: Global,
+    rules: &mut Bytes,
+    rule: &[u8],
+) -> Result<(), OutOfMemory>
+    ensures { OnOk result (rules.new ≡ rules.old ++ words.rule_question_marked_if_stars rule.now) }
 {
-    if is_of_stars(rule) {
+    if is_rule_of_stars_only(rule) {
         rules.extend(alloc, b"?")?;
     }
     rules.extend(alloc, rule)?;
@@ -60,15 +67,19 @@ fn add_unsigned(alloc: Global, rules: &mut Bytes, rule: &[u8]) -> Result<(), Out
 }
 
 /// Adds a line.
-fn add_line(alloc: Global, rules: &mut Bytes, line: &[u8]) -> Result<(), OutOfMemory>
+fn append_line_question_marked_if_stars(
+    alloc: Global,
+    rules: &mut Bytes,
+    line: &[u8],
+) -> Result<(), OutOfMemory>
     ensures { OnOk result (rules.new ≡ rules.old ++ words.line line.now) }
 {
     match line {
         [b'!', rest @ ..] => {
             rules.extend(alloc, b"!")?;
-            add_unsigned(alloc, rules, rest)
+            append_rule_question_marked_if_stars(alloc, rules, rest)
         }
-        _ => add_unsigned(alloc, rules, line),
+        _ => append_rule_question_marked_if_stars(alloc, rules, line),
     }
 }
 
@@ -81,7 +92,7 @@ pub fn exempt_top_from_star_rules(alloc: Global, rules: &[u8]) -> Result<Bytes, 
 {
     let mut made = Bytes::new(alloc);
     for line in rules.lines_with_terminator() {
-        add_line(alloc, &mut made, line)?;
+        append_line_question_marked_if_stars(alloc, &mut made, line)?;
     }
     Ok(made)
 }

@@ -1,21 +1,21 @@
 //! A work tree whose ignore rules are asked about paths.
 ghost use Rattle.std.specs.Prelude.{◌≡◌, None, Ok, codes, IfOk};
-ghost use Rattle.git_config_lite.specs.Lookups.{string};
+ghost use Rattle.git_config_lite.specs.Lookups.{last_string_value};
 ghost use Rattle.git_setup.specs.Checked as words;
-ghost use Rattle.git_setup.specs.Finds.{Finds};
+ghost use Rattle.git_setup.specs.Finds.{FindsOverToldTree};
 
 use crate::error::GitRefusal;
-use crate::found::prefix_in;
-use crate::globals::{double_byte_order_mark, ended};
-use crate::parts::real_or_same;
-use crate::read_here::{Read, read_here};
-use crate::switches::switches_in;
-use git_config_files::{Rules, RulesFile, read_stack, rules_files};
+use crate::found::current_prefix_in_work_tree;
+use crate::globals::{double_byte_order_mark, lines_with_final_newline};
+use crate::parts::real_path_or_same;
+use crate::read_here::{Read, read_index_and_configurations};
+use crate::switches::read_case_sparse_and_quote_switches;
+use git_config_files::{Rules, RulesFile, read_rules_outside_work_tree, read_stack};
 use git_config_lite::File;
-use git_places::{Places, Surroundings, dot_git};
+use git_places::{Places, Surroundings, dot_git_path};
 use gitbase_core::{Bytes, OutOfMemory, PathText, State};
 use std::alloc::Global;
-use worktree_fs::{Worktree, from_directory};
+use worktree_fs::{Worktree, resolve_path_from_directory};
 
 /// A file of ignore rules outside the work tree.
 #[derive(Debug, Drop)]
@@ -58,19 +58,27 @@ pub struct Checked {
 }
 
 /// The rules of a file by a name, as a search takes them.
-fn named(alloc: Global, name: &[u8], file: &RulesFile) -> Result<NamedFile, OutOfMemory>
-    ensures { IfOk result (λ rules. rules ≡ words.named name.now file.now) }
+fn named_file_with_normalized_rules(
+    alloc: Global,
+    name: &[u8],
+    file: &RulesFile,
+) -> Result<NamedFile, OutOfMemory>
+    ensures { IfOk result (λ rules. rules ≡ words.named_file_with_normalized_rules name.now
+        file.now) }
 {
     Ok(NamedFile {
         name: Bytes::from_slice(alloc, name)?,
-        bytes: double_byte_order_mark(alloc, ended(alloc, file.bytes.as_bytes())?)?,
+        bytes: double_byte_order_mark(
+            alloc,
+            lines_with_final_newline(alloc, file.bytes.as_bytes())?,
+        )?,
     })
 }
 
 /// What `core.excludesFile` has, as it is written.
-fn written_name(alloc: Global, config: &File) -> Result<Option<Bytes>, OutOfMemory>
+fn read_excludes_file_setting(alloc: Global, config: &File) -> Result<Option<Bytes>, OutOfMemory>
     ensures { IfOk result (λ text. text
-        ≡ string (codes "core") None (codes "excludesfile") config.now.sections) }
+        ≡ last_string_value (codes "core") None (codes "excludesfile") config.now.sections) }
 {
     match config.string(b"core", None, b"excludesfile") {
         Some(text) => Ok(Some(Bytes::from_slice(alloc, text)?)),
@@ -79,19 +87,19 @@ fn written_name(alloc: Global, config: &File) -> Result<Option<Bytes>, OutOfMemo
 }
 
 /// How git names the file of the user's rules, which is at a path.
-fn user_excludes_file_name(
+fn displayed_name_of_user_excludes_file(
     alloc: Global,
     root: &[u8],
     path: &[u8],
     text: &Option<Bytes>,
 ) -> Result<Bytes, OutOfMemory>
-    ensures { IfOk result (λ name. name ≡ words.user_excludes_file_name root.now path.now
-        text.now) }
+    ensures { IfOk result (λ name. name ≡ words.displayed_name_of_user_excludes_file root.now
+        path.now text.now) }
 {
     let Some(text) = text else {
         return Bytes::from_slice(alloc, path);
     };
-    let there = from_directory(alloc, text.as_bytes(), root)?;
+    let there = resolve_path_from_directory(alloc, text.as_bytes(), root)?;
     if there.as_bytes() == path {
         return Bytes::from_slice(alloc, text.as_bytes());
     }
@@ -99,88 +107,89 @@ fn user_excludes_file_name(
 }
 
 /// The rules of the user, if there are some.
-fn user_rules(
+fn named_user_rules_file(
     alloc: Global,
     root: &[u8],
     config: &File,
     file: &Option<RulesFile>,
 ) -> Result<Option<NamedFile>, OutOfMemory>
     ensures { IfOk result
-        (λ rules. rules ≡ words.user_rules root.now config.now.sections file.now) }
+        (λ rules. rules ≡ words.named_user_rules_file root.now config.now.sections file.now) }
 {
     let Some(file) = file else {
         return Ok(None);
     };
-    let text = written_name(alloc, config)?;
-    let name = user_excludes_file_name(alloc, root, file.path.as_bytes(), &text)?;
-    Ok(Some(named(alloc, name.as_bytes(), file)?))
+    let text = read_excludes_file_setting(alloc, config)?;
+    let name = displayed_name_of_user_excludes_file(alloc, root, file.path.as_bytes(), &text)?;
+    Ok(Some(named_file_with_normalized_rules(alloc, name.as_bytes(), file)?))
 }
 
 /// How git names the file of the repository's rules.
-fn info_exclude_file_name<W: Worktree>(
+fn displayed_name_of_info_exclude<W: Worktree>(
     alloc: Global,
     worktree: &mut W,
     places: &Places,
 ) -> Result<Bytes, GitRefusal>
-    ensures { Finds W.Worktree worktree.old worktree.new
-        (λ t. Ok (words.info_exclude_file_name t places.now)) result }
+    ensures { FindsOverToldTree W.Worktree worktree.old worktree.new
+        (λ t. Ok (words.displayed_name_of_info_exclude t places.now)) result }
 {
-    let usual = dot_git(alloc, places.root.as_bytes())?;
+    let usual = dot_git_path(alloc, places.root.as_bytes())?;
     if places.common_dir.as_bytes() == usual.as_bytes() {
         return Ok(Bytes::from_slice(alloc, b".git/info/exclude")?);
     }
-    let common = real_or_same(alloc, worktree, places.common_dir.as_bytes())?;
-    Ok(from_directory(alloc, b"info/exclude", common.as_bytes())?)
+    let common = real_path_or_same(alloc, worktree, places.common_dir.as_bytes())?;
+    Ok(resolve_path_from_directory(alloc, b"info/exclude", common.as_bytes())?)
 }
 
 /// The rules of the repository, if there are some.
-fn repository_rules<W: Worktree>(
+fn named_info_exclude_file<W: Worktree>(
     alloc: Global,
     worktree: &mut W,
     places: &Places,
     file: &Option<RulesFile>,
 ) -> Result<Option<NamedFile>, GitRefusal>
-    ensures { Finds W.Worktree worktree.old worktree.new
-        (λ t. Ok (words.repository_rules t places.now file.now)) result }
+    ensures { FindsOverToldTree W.Worktree worktree.old worktree.new
+        (λ t. Ok (words.named_info_exclude_file t places.now file.now)) result }
 {
     let Some(file) = file else {
         return Ok(None);
     };
-    let name = info_exclude_file_name(alloc, worktree, places)?;
-    Ok(Some(named(alloc, name.as_bytes(), file)?))
+    let name = displayed_name_of_info_exclude(alloc, worktree, places)?;
+    Ok(Some(named_file_with_normalized_rules(alloc, name.as_bytes(), file)?))
 }
 
 /// The rules outside the work tree, by the names that git prints.
 ///
 /// See docs/DIFFERENCES.md#check-ignore-names.
-fn outer_of<W: Worktree>(
+fn rules_files_outside_work_tree<W: Worktree>(
     alloc: Global,
     worktree: &mut W,
     places: &Places,
     config: &File,
     rules: &Rules,
 ) -> Result<OuterFiles, GitRefusal>
-    ensures { Finds W.Worktree worktree.old worktree.new
-        (λ t. Ok (words.outer_of t places.now config.now.sections rules.now)) result }
+    ensures { FindsOverToldTree W.Worktree worktree.old worktree.new
+        (λ t. Ok (words.rules_files_outside_work_tree t places.now config.now.sections rules.now))
+        result }
 {
-    let user = user_rules(alloc, places.root.as_bytes(), config, &rules.user)?;
-    let repository = repository_rules(alloc, worktree, places, &rules.repository)?;
+    let user = named_user_rules_file(alloc, places.root.as_bytes(), config, &rules.user)?;
+    let repository = named_info_exclude_file(alloc, worktree, places, &rules.repository)?;
     Ok(OuterFiles { user, repository })
 }
 
 /// What the configurations say, and no entries of the index.
-#[tactic(auto, unfolding(crate::specs::Checked::unindexed_in))]
-fn read_unindexed<W: Worktree>(
+#[tactic(auto, unfolding(crate::specs::Checked::read_config_with_empty_index))]
+fn read_config_with_empty_index<W: Worktree>(
     alloc: Global,
     worktree: &mut W,
     places: &Places,
     around: &Surroundings,
 ) -> Result<Read, GitRefusal>
-    ensures { Finds W.Worktree worktree.old worktree.new
-        (λ t. words.unindexed_in t places.now around.now) result }
+    ensures { FindsOverToldTree W.Worktree worktree.old worktree.new
+        (λ t. words.read_config_with_empty_index t places.now around.now) result }
 {
     let stack = read_stack(alloc, worktree, places, around)?;
-    let switches = switches_in(alloc, &stack.file)?;
+    let switches = read_case_sparse_and_quote_switches(alloc, &stack.file)?;
     Ok(Read {
         stack,
         switches,
@@ -189,24 +198,24 @@ fn read_unindexed<W: Worktree>(
 }
 
 /// What the index and the configurations say; of the index nothing, where it is left aside.
-fn read_by<W: Worktree>(
+fn read_config_and_maybe_index<W: Worktree>(
     alloc: Global,
     worktree: &mut W,
     places: &Places,
     around: &Surroundings,
     leaves_index: bool,
 ) -> Result<Read, GitRefusal>
-    ensures { Finds W.Worktree worktree.old worktree.new
-        (λ t. words.read_by t places.now around.now leaves_index) result }
+    ensures { FindsOverToldTree W.Worktree worktree.old worktree.new
+        (λ t. words.read_config_and_maybe_index t places.now around.now leaves_index) result }
 {
     if leaves_index {
-        return read_unindexed(alloc, worktree, places, around);
+        return read_config_with_empty_index(alloc, worktree, places, around);
     }
-    read_here(alloc, worktree, places, around)
+    read_index_and_configurations(alloc, worktree, places, around)
 }
 
 /// A work tree by what was read of it.
-fn checked_with<W: Worktree>(
+fn check_ignore_setup_from_parts<W: Worktree>(
     alloc: Global,
     worktree: &mut W,
     places: &Places,
@@ -214,12 +223,13 @@ fn checked_with<W: Worktree>(
     read: Read,
     rules: &Rules,
 ) -> Result<Checked, GitRefusal>
-    ensures { Finds W.Worktree worktree.old worktree.new
-        (λ t. Ok (words.checked_with t places.now around.now read rules.now)) result }
+    ensures { FindsOverToldTree W.Worktree worktree.old worktree.new
+        (λ t. Ok (words.check_ignore_setup_from_parts t places.now around.now read rules.now))
+        result }
 {
-    let outer = outer_of(alloc, worktree, places, &read.stack.file, rules)?;
+    let outer = rules_files_outside_work_tree(alloc, worktree, places, &read.stack.file, rules)?;
     let root = PathText::from_bytes(alloc, places.root.as_bytes())?;
-    let prefix = prefix_in(alloc, root.as_bytes(), around.directory.as_bytes())?;
+    let prefix = current_prefix_in_work_tree(alloc, root.as_bytes(), around.directory.as_bytes())?;
     let Read {
         stack: _,
         switches,
@@ -257,18 +267,18 @@ fn checked_with<W: Worktree>(
 ///
 /// - `Fault`: the worktree failed, which it counted. No fault reads as "nothing is there".
 /// - `OutOfMemory` for want of memory.
-#[tactic(auto, unfolding(crate::specs::Checked::checked_in))]
-pub fn checked_at<W: Worktree>(
+#[tactic(auto, unfolding(crate::specs::Checked::read_check_ignore_setup))]
+pub fn read_check_ignore_setup<W: Worktree>(
     alloc: Global,
     worktree: &mut W,
     places: &Places,
     around: &Surroundings,
     leaves_index: bool,
 ) -> Result<Checked, GitRefusal>
-    ensures { Finds W.Worktree worktree.old worktree.new
-        (λ t. words.checked_in t places.now around.now leaves_index) result }
+    ensures { FindsOverToldTree W.Worktree worktree.old worktree.new
+        (λ t. words.read_check_ignore_setup t places.now around.now leaves_index) result }
 {
-    let read = read_by(alloc, worktree, places, around, leaves_index)?;
-    let rules = rules_files(alloc, worktree, places, around, &read.stack.file)?;
-    checked_with(alloc, worktree, places, around, read, &rules)
+    let read = read_config_and_maybe_index(alloc, worktree, places, around, leaves_index)?;
+    let rules = read_rules_outside_work_tree(alloc, worktree, places, around, &read.stack.file)?;
+    check_ignore_setup_from_parts(alloc, worktree, places, around, read, &rules)
 }

@@ -109,9 +109,9 @@ impl From<OutOfMemory> for GitRefusal {
 
 impl From<ReadError> for GitRefusal {
     ghost use Rattle.std.specs.Prelude.{◌≡◌};
-    ghost use Rattle.git_setup.specs.Refusals.{of_read};
+    ghost use Rattle.git_setup.specs.Refusals.{git_refusal_of_read_error};
 
-    ghost from_gives = { λ refused e. e ≡ of_read refused };
+    ghost from_gives = { λ refused e. e ≡ git_refusal_of_read_error refused };
 
     fn from(refused: ReadError) -> GitRefusal {
         match refused {
@@ -123,9 +123,9 @@ impl From<ReadError> for GitRefusal {
 
 impl From<PlacesError> for GitRefusal {
     ghost use Rattle.std.specs.Prelude.{◌≡◌};
-    ghost use Rattle.git_setup.specs.Refusals.{of_places};
+    ghost use Rattle.git_setup.specs.Refusals.{git_refusal_of_places_error};
 
-    ghost from_gives = { λ refused e. e ≡ of_places refused };
+    ghost from_gives = { λ refused e. e ≡ git_refusal_of_places_error refused };
 
     fn from(refused: PlacesError) -> GitRefusal {
         match refused {
@@ -138,9 +138,9 @@ impl From<PlacesError> for GitRefusal {
 
 impl From<FilesError> for GitRefusal {
     ghost use Rattle.std.specs.Prelude.{◌≡◌};
-    ghost use Rattle.git_setup.specs.Refusals.{of_files};
+    ghost use Rattle.git_setup.specs.Refusals.{git_refusal_of_files_error};
 
-    ghost from_gives = { λ refused e. e ≡ of_files refused };
+    ghost from_gives = { λ refused e. e ≡ git_refusal_of_files_error refused };
 
     fn from(refused: FilesError) -> GitRefusal {
         match refused {

@@ -2,21 +2,24 @@
 ghost use Rattle.std.specs.Prelude.{◌≡◌, IfOk};
 ghost use Rattle.git_config_files.specs.Safe.{require_trusted_top};
 ghost use Rattle.git_places.specs.Limits as bounds;
-ghost use Rattle.git_places.specs.Upward.{top_in};
-ghost use Rattle.git_setup.specs.Finds.{Finds, FindsWith};
+ghost use Rattle.git_places.specs.Upward.{nearest_top_within_limits};
+ghost use Rattle.git_setup.specs.Finds.{FindsOverToldTree, FindsOverToldTreeAndOwners};
 ghost use Rattle.git_setup.specs.Found as words;
-ghost use Rattle.git_setup.specs.Refusals.{as_files, as_places};
+ghost use Rattle.git_setup.specs.Refusals.{files_result_as_git_result, places_result_as_git_result};
 
 use crate::asked::Asked;
 use crate::each::EachSpec;
 use crate::error::GitRefusal;
-use crate::parts::{Parts, is_for_deletion, parts_here};
+use crate::parts::{Parts, is_for_deletion, read_remaining_setup_parts};
 use crate::pathspecs::AskedSpecs;
-use crate::placed::beneath;
-use crate::read_here::read_here;
+use crate::placed::path_below_root;
+use crate::read_here::read_index_and_configurations;
 use git_config_files::{FilesError, require_trusted_top};
 use git_config_lite::File;
-use git_places::{Limits, Places, PlacesError, Surroundings, Top, find_top, limits_of, places_of};
+use git_places::{
+    Limits, Places, PlacesError, Surroundings, Top, find_work_tree_top, places_of_work_tree_top,
+    search_limits_of_surroundings,
+};
 use gitbase_core::{Bytes, MemoryStore, OutOfMemory, PathText};
 use std::alloc::Global;
 use worktree_fs::{Owners, Worktree};
@@ -41,8 +44,8 @@ pub struct Found {
 }
 
 /// An answer of the search for a work tree, its refusal as one of the whole.
-fn of_places<T: Drop>(answer: Result<T, PlacesError>) -> Result<T, GitRefusal>
-    ensures { result ≡ as_places answer }
+fn places_result_as_git_result<T: Drop>(answer: Result<T, PlacesError>) -> Result<T, GitRefusal>
+    ensures { result ≡ places_result_as_git_result answer }
 {
     match answer {
         Ok(given) => Ok(given),
@@ -51,8 +54,8 @@ fn of_places<T: Drop>(answer: Result<T, PlacesError>) -> Result<T, GitRefusal>
 }
 
 /// The same of an answer by configurations.
-fn of_files<T: Drop>(answer: Result<T, FilesError>) -> Result<T, GitRefusal>
-    ensures { result ≡ as_files answer }
+fn files_result_as_git_result<T: Drop>(answer: Result<T, FilesError>) -> Result<T, GitRefusal>
+    ensures { result ≡ files_result_as_git_result answer }
 {
     match answer {
         Ok(given) => Ok(given),
@@ -61,81 +64,88 @@ fn of_files<T: Drop>(answer: Result<T, FilesError>) -> Result<T, GitRefusal>
 }
 
 /// Where the search for the work tree ends.
-fn limits_here<W: Worktree, O: Owners>(
+fn find_search_limits<W: Worktree, O: Owners>(
     alloc: Global,
     worktree: &mut W,
     owners: &mut O,
     around: &Surroundings,
 ) -> Result<Limits, GitRefusal>
-    ensures { FindsWith W.Worktree O.Owners worktree.old worktree.new owners.old owners.new
-        (λ t owned. as_places (bounds.limits_of t owned around.now)) result }
+    ensures { FindsOverToldTreeAndOwners W.Worktree O.Owners worktree.old worktree.new owners.old
+        owners.new (λ t owned. places_result_as_git_result (bounds.search_limits_of_surroundings t
+        owned around.now)) result }
 {
-    let answer = limits_of(alloc, worktree, owners, around);
-    of_places(answer)
+    let answer = search_limits_of_surroundings(alloc, worktree, owners, around);
+    places_result_as_git_result(answer)
 }
 
 /// The nearest work tree, whoever owns it.
-fn nearest_here<W: Worktree, O: Owners>(
+fn find_nearest_top<W: Worktree, O: Owners>(
     alloc: Global,
     worktree: &mut W,
     owners: &mut O,
     directory: &[u8],
     limits: &Limits,
 ) -> Result<Top, GitRefusal>
-    ensures { FindsWith W.Worktree O.Owners worktree.old worktree.new owners.old owners.new
-        (λ t owned. as_places (top_in limits.now t owned directory.now)) result }
+    ensures { FindsOverToldTreeAndOwners W.Worktree O.Owners worktree.old worktree.new owners.old
+        owners.new (λ t owned. places_result_as_git_result (nearest_top_within_limits limits.now t
+        owned directory.now)) result }
 {
-    let answer = find_top(alloc, worktree, owners, directory, limits);
-    of_places(answer)
+    let answer = find_work_tree_top(alloc, worktree, owners, directory, limits);
+    places_result_as_git_result(answer)
 }
 
 /// A work tree, if it is the user's or safe.
-fn own_here<W: Worktree, O: Owners>(
+fn require_trusted_top_here<W: Worktree, O: Owners>(
     alloc: Global,
     worktree: &mut W,
     owners: &mut O,
     around: &Surroundings,
     top: Top,
 ) -> Result<Top, GitRefusal>
-    ensures { FindsWith W.Worktree O.Owners worktree.old worktree.new owners.old owners.new
-        (λ t owned. as_files (require_trusted_top t owned around.now top)) result }
+    ensures { FindsOverToldTreeAndOwners W.Worktree O.Owners worktree.old worktree.new owners.old
+        owners.new (λ t owned. files_result_as_git_result (require_trusted_top t owned around.now
+        top)) result }
 {
     let answer = require_trusted_top(alloc, worktree, owners, around, top);
-    of_files(answer)
+    files_result_as_git_result(answer)
 }
 
 /// The nearest work tree, if it is the user's or safe.
-fn top_by<W: Worktree, O: Owners>(
+fn find_trusted_top_within_limits<W: Worktree, O: Owners>(
     alloc: Global,
     worktree: &mut W,
     owners: &mut O,
     around: &Surroundings,
     limits: &Limits,
 ) -> Result<Top, GitRefusal>
-    ensures { FindsWith W.Worktree O.Owners worktree.old worktree.new owners.old owners.new
-        (λ t owned. words.top_by t owned around.now limits.now) result }
+    ensures { FindsOverToldTreeAndOwners W.Worktree O.Owners worktree.old worktree.new owners.old
+        owners.new (λ t owned. words.find_trusted_top_within_limits t owned around.now limits.now)
+        result }
 {
     let directory = around.directory.as_bytes();
-    let top = nearest_here(alloc, worktree, owners, directory, limits)?;
-    own_here(alloc, worktree, owners, around, top)
+    let top = find_nearest_top(alloc, worktree, owners, directory, limits)?;
+    require_trusted_top_here(alloc, worktree, owners, around, top)
 }
 
 /// That of the current directory.
-fn top_here<W: Worktree, O: Owners>(
+fn find_trusted_top<W: Worktree, O: Owners>(
     alloc: Global,
     worktree: &mut W,
     owners: &mut O,
     around: &Surroundings,
 ) -> Result<Top, GitRefusal>
-    ensures { FindsWith W.Worktree O.Owners worktree.old worktree.new owners.old owners.new
-        (λ t owned. words.top_here t owned around.now) result }
+    ensures { FindsOverToldTreeAndOwners W.Worktree O.Owners worktree.old worktree.new owners.old
+        owners.new (λ t owned. words.find_trusted_top t owned around.now) result }
 {
-    let limits = limits_here(alloc, worktree, owners, around)?;
-    top_by(alloc, worktree, owners, around, &limits)
+    let limits = find_search_limits(alloc, worktree, owners, around)?;
+    find_trusted_top_within_limits(alloc, worktree, owners, around, &limits)
 }
 
 /// The refusal of a variable that points git elsewhere.
-fn elsewhere(alloc: Global, name: &[u8]) -> Result<GitRefusal, OutOfMemory>
+fn refusal_of_variable_pointing_elsewhere(
+    alloc: Global,
+    name: &[u8],
+) -> Result<GitRefusal, OutOfMemory>
     ensures { IfOk result (λ e. e ≡ GitRefusal.Elsewhere name.now) }
 {
     Ok(GitRefusal::Elsewhere {
@@ -144,24 +154,25 @@ fn elsewhere(alloc: Global, name: &[u8]) -> Result<GitRefusal, OutOfMemory>
 }
 
 /// The nearest work tree, unless a variable points git elsewhere.
-pub fn top_found<W: Worktree, O: Owners>(
+pub fn find_top_unless_variable_redirects_git<W: Worktree, O: Owners>(
     alloc: Global,
     worktree: &mut W,
     owners: &mut O,
     around: &Surroundings,
 ) -> Result<Top, GitRefusal>
-    ensures { FindsWith W.Worktree O.Owners worktree.old worktree.new owners.old owners.new
-        (λ t owned. words.top_found t owned around.now) result }
+    ensures { FindsOverToldTreeAndOwners W.Worktree O.Owners worktree.old worktree.new owners.old
+        owners.new (λ t owned. words.find_top_unless_variable_redirects_git t owned around.now)
+        result }
 {
     if let Some(name) = &around.elsewhere {
-        return Err(elsewhere(alloc, name.as_bytes())?);
+        return Err(refusal_of_variable_pointing_elsewhere(alloc, name.as_bytes())?);
     }
-    top_here(alloc, worktree, owners, around)
+    find_trusted_top(alloc, worktree, owners, around)
 }
 
 /// The options, with one of them from the configuration.
-fn options_with(options: &SetupOptions, ignore_case: bool) -> SetupOptions
-    ensures { result ≡ words.options_with options.now ignore_case }
+fn options_with_ignore_case(options: &SetupOptions, ignore_case: bool) -> SetupOptions
+    ensures { result ≡ words.options_with_ignore_case options.now ignore_case }
 {
     let mut options = *options;
     options.ignore_case = ignore_case;
@@ -169,12 +180,12 @@ fn options_with(options: &SetupOptions, ignore_case: bool) -> SetupOptions
 }
 
 /// The current directory, where that matters.
-fn current_for(
+fn current_dir_if_deleting(
     alloc: Global,
     options: &SetupOptions,
     directory: &[u8],
 ) -> Result<Option<PathText>, OutOfMemory>
-    ensures { IfOk result (λ path. path ≡ words.current_for options.now directory.now) }
+    ensures { IfOk result (λ path. path ≡ words.current_dir_if_deleting options.now directory.now) }
 {
     if is_for_deletion(options) {
         return Ok(Some(PathText::from_bytes(alloc, directory)?));
@@ -183,30 +194,35 @@ fn current_for(
 }
 
 /// The current directory, from the top of a work tree.
-pub fn prefix_in(alloc: Global, root: &[u8], directory: &[u8]) -> Result<Bytes, OutOfMemory>
-    ensures { IfOk result (λ prefix. prefix ≡ words.prefix_in root.now directory.now) }
+pub fn current_prefix_in_work_tree(
+    alloc: Global,
+    root: &[u8],
+    directory: &[u8],
+) -> Result<Bytes, OutOfMemory>
+    ensures { IfOk result (λ prefix. prefix ≡ words.current_prefix_in_work_tree root.now
+        directory.now) }
 {
-    match beneath(root, directory) {
+    match path_below_root(root, directory) {
         Some(prefix) => Bytes::from_slice(alloc, prefix),
         None => Ok(Bytes::new(alloc)),
     }
 }
 
 /// The work tree at these places, with the setup of these parts.
-fn found_with(
+fn found_setup_from_places_and_parts(
     alloc: Global,
     places: Places,
     around: &Surroundings,
     asked: &Asked,
     parts: Parts,
 ) -> Result<Found, OutOfMemory>
-    ensures { IfOk result
-        (λ found. found ≡ words.found_with places around.now asked.now parts) }
+    ensures { IfOk result (λ found. found ≡ words.found_setup_from_places_and_parts places
+        around.now asked.now parts) }
 {
     let directory = around.directory.as_bytes();
-    let prefix = prefix_in(alloc, places.root.as_bytes(), directory)?;
-    let current_dir = current_for(alloc, &asked.options, directory)?;
-    let options = options_with(&asked.options, parts.ignore_case);
+    let prefix = current_prefix_in_work_tree(alloc, places.root.as_bytes(), directory)?;
+    let current_dir = current_dir_if_deleting(alloc, &asked.options, directory)?;
+    let options = options_with_ignore_case(&asked.options, parts.ignore_case);
     let AskedSpecs { all, each } = parts.specs;
     let setup = Setup {
         git_dir: Some(places.own_git),
@@ -233,21 +249,21 @@ fn found_with(
 }
 
 /// What is found at the top of a work tree.
-#[tactic(auto, unfolding(crate::specs::Found::found_at))]
-fn found_at<W: Worktree>(
+#[tactic(auto, unfolding(crate::specs::Found::read_setup_at_top))]
+fn read_setup_at_top<W: Worktree>(
     alloc: Global,
     worktree: &mut W,
     around: &Surroundings,
     asked: &Asked,
     top: Top,
 ) -> Result<Found, GitRefusal>
-    ensures { Finds W.Worktree worktree.old worktree.new
-        (λ t. words.found_at t around.now asked.now top) result }
+    ensures { FindsOverToldTree W.Worktree worktree.old worktree.new
+        (λ t. words.read_setup_at_top t around.now asked.now top) result }
 {
-    let places = places_of(alloc, worktree, top)?;
-    let read = read_here(alloc, worktree, &places, around)?;
-    let parts = parts_here(alloc, worktree, &places, around, asked, read)?;
-    Ok(found_with(alloc, places, around, asked, parts)?)
+    let places = places_of_work_tree_top(alloc, worktree, top)?;
+    let read = read_index_and_configurations(alloc, worktree, &places, around)?;
+    let parts = read_remaining_setup_parts(alloc, worktree, &places, around, asked, read)?;
+    Ok(found_setup_from_places_and_parts(alloc, places, around, asked, parts)?)
 }
 
 /// The work tree around the current directory, and the setup of it that git's files give, for what
@@ -266,10 +282,11 @@ fn found_at<W: Worktree>(
 /// The first refusal, in this order:
 ///
 /// - `Elsewhere`: a variable of the environment points git elsewhere.
-/// - `Places`: there is no work tree, as [`limits_of`] and [`find_top`] say.
+/// - `RootAndSetupPaths`: there is no work tree, as [`search_limits_of_surroundings`] and
+///   [`find_work_tree_top`] say.
 /// - `Foreign`, `Files`: it is another user's, or a configuration that would say so is not read, as
 ///   [`require_trusted_top`] says.
-/// - `Places`: its repository is not read here, as [`places_of`] says.
+/// - `RootAndSetupPaths`: its repository is not read here, as [`places_of_work_tree_top`] says.
 /// - `IndexNode`, `IndexFile`: what stands in the place of the index is no file, or is outside the
 ///   grammar of one.
 /// - `Files`: a configuration is not read, as [`git_config_files::read_stack`] says.
@@ -294,17 +311,17 @@ fn found_at<W: Worktree>(
 /// - `OutOfMemory` for want of memory.
 ///
 /// See docs/DECISIONS.md#setup-of-git.
-#[tactic(auto, unfolding(crate::specs::Found::found_in))]
-pub fn setup_here<W: Worktree, O: Owners>(
+#[tactic(auto, unfolding(crate::specs::Found::find_and_read_setup))]
+pub fn find_and_read_setup<W: Worktree, O: Owners>(
     alloc: Global,
     worktree: &mut W,
     owners: &mut O,
     around: &Surroundings,
     asked: &Asked,
 ) -> Result<Found, GitRefusal>
-    ensures { FindsWith W.Worktree O.Owners worktree.old worktree.new owners.old owners.new
-        (λ t owned. words.found_in t owned around.now asked.now) result }
+    ensures { FindsOverToldTreeAndOwners W.Worktree O.Owners worktree.old worktree.new owners.old
+        owners.new (λ t owned. words.find_and_read_setup t owned around.now asked.now) result }
 {
-    let top = top_found(alloc, worktree, owners, around)?;
-    found_at(alloc, worktree, around, asked, top)
+    let top = find_top_unless_variable_redirects_git(alloc, worktree, owners, around)?;
+    read_setup_at_top(alloc, worktree, around, asked, top)
 }

@@ -1,18 +1,18 @@
 //! A work tree whose paths are compared with its index, as it is called for in a directory of it.
 ghost use Rattle.std.specs.Prelude.{◌≡◌};
-ghost use Rattle.git_setup.specs.Finds.{Decides, Finds};
+ghost use Rattle.git_setup.specs.Finds.{IsFoundOrRefusesMemory, FindsOverToldTree};
 ghost use Rattle.git_setup.specs.FromDirectory as words;
 
-use crate::compared::{Compared, settings_read};
+use crate::compared::{Compared, read_comparison_settings};
 use crate::details::Details;
 use crate::each::EachSpec;
 use crate::entries::Entries;
 use crate::error::GitRefusal;
-use crate::found::prefix_in;
-use crate::index::index_path;
-use crate::indexed::{Indexed, indexed_here};
-use crate::pathspecs::{AskedSpecs, specs_in};
-use crate::present::index_seen;
+use crate::found::current_prefix_in_work_tree;
+use crate::index::path_of_index_file;
+use crate::indexed::{Indexed, read_index_and_details_of_git_dir};
+use crate::pathspecs::{AskedSpecs, parse_pathspec_arguments};
+use crate::present::index_with_present_entries_unskipped;
 use crate::settings::Settings;
 use git_places::{Places, Surroundings};
 use gitbase_core::{Bytes, PathText, State};
@@ -31,24 +31,24 @@ pub struct ComparedFrom {
 }
 
 /// The entries of an index, each as it is seen in the work tree.
-fn seen_here<W: Worktree>(
+fn index_with_actual_skip_flags<W: Worktree>(
     alloc: Global,
     worktree: &mut W,
     places: &Places,
     looks: bool,
     entries: Entries,
 ) -> Result<State, GitRefusal>
-    ensures { Finds W.Worktree worktree.old worktree.new
-        (λ t. words.seen_here t places.now looks entries) result }
+    ensures { FindsOverToldTree W.Worktree worktree.old worktree.new
+        (λ t. words.index_with_actual_skip_flags t places.now looks entries) result }
 {
-    let path = index_path(alloc, places.git_dir.as_bytes())?;
+    let path = path_of_index_file(alloc, places.git_dir.as_bytes())?;
     let root = places.root.as_bytes();
-    index_seen(alloc, worktree, root, path.as_bytes(), looks, entries)
+    index_with_present_entries_unskipped(alloc, worktree, root, path.as_bytes(), looks, entries)
 }
 
 /// What is compared, with the path specs and the directory.
-#[tactic(auto, unfolding(crate::specs::FromDirectory::compared_from_parts))]
-fn compared_from_parts(
+#[tactic(auto, unfolding(crate::specs::FromDirectory::comparison_setup_with_parsed_pathspecs))]
+fn comparison_setup_with_parsed_pathspecs(
     alloc: Global,
     places: &Places,
     around: &Surroundings,
@@ -58,13 +58,15 @@ fn compared_from_parts(
     details: Details,
     settings: Settings,
 ) -> Result<ComparedFrom, GitRefusal>
-    ensures { Decides result
-        (words.compared_from_parts places.now around.now prefers paths.now index details settings) }
+    ensures { IsFoundOrRefusesMemory result (words.comparison_setup_with_parsed_pathspecs places.now
+        around.now prefers paths.now index details settings) }
 {
     let top = places.root.as_bytes();
     let directory = around.directory.as_bytes();
-    let AskedSpecs { all, each } = specs_in(alloc, prefers, false, top, directory, paths)?;
-    let prefix = prefix_in(alloc, top, directory)?;
+    let AskedSpecs { all, each } = parse_pathspec_arguments(
+        alloc, prefers, false, top, directory, paths,
+    )?;
+    let prefix = current_prefix_in_work_tree(alloc, top, directory)?;
     let root = PathText::from_bytes(alloc, top)?;
     let compared = Compared {
         root,
@@ -81,17 +83,17 @@ fn compared_from_parts(
 }
 
 /// What the work tree at these places and its index are compared by, as
-/// [`compared_at`](crate::compared_at) reads it: but each entry of the index is as it is seen in
-/// the work tree, as [`crate::setup_here`] has it; with each path spec by itself, and the current
-/// directory from the top. Where `prefers` says so, that directory is meant if there are no path
-/// specs, and if each excludes.
+/// [`read_comparison_setup`](crate::read_comparison_setup) reads it: but each entry of the index is
+/// as it is seen in the work tree, as [`crate::setup_here`] has it; with each path spec by itself,
+/// and the current directory from the top. Where `prefers` says so, that directory is meant if
+/// there are no path specs, and if each excludes.
 ///
 /// # Errors
 ///
 /// The first refusal, in this order:
 ///
 /// - `IndexNode`, `IndexFile`, `Files`, `Boolean`, `Elsewhere`: as
-///   [`compared_at`](crate::compared_at) has them.
+///   [`read_comparison_setup`](crate::read_comparison_setup) has them.
 /// - `SparseDirectory`: an entry of the index stands for all that is beneath a directory, and
 ///   something is in its place.
 /// - `IndexEntry`: an entry breaks a rule of [`gitbase_core::State`].
@@ -101,8 +103,8 @@ fn compared_from_parts(
 ///
 /// - `Fault`: the worktree failed, which it counted. No fault reads as "nothing is there".
 /// - `OutOfMemory` for want of memory.
-#[tactic(auto, unfolding(crate::specs::FromDirectory::compared_from))]
-pub fn compared_from<W: Worktree>(
+#[tactic(auto, unfolding(crate::specs::FromDirectory::read_comparison_setup_from_directory))]
+pub fn read_comparison_setup_from_directory<W: Worktree>(
     alloc: Global,
     worktree: &mut W,
     places: &Places,
@@ -110,15 +112,22 @@ pub fn compared_from<W: Worktree>(
     prefers: bool,
     paths: &[Bytes],
 ) -> Result<ComparedFrom, GitRefusal>
-    ensures { Finds W.Worktree worktree.old worktree.new
-        (λ t. words.compared_from t places.now around.now prefers paths.now) result }
+    ensures { FindsOverToldTree W.Worktree worktree.old worktree.new
+        (λ t. words.read_comparison_setup_from_directory t places.now around.now prefers paths.now)
+        result }
 {
-    let indexed = indexed_here(alloc, worktree, places.git_dir.as_bytes())?;
-    let settings = settings_read(alloc, worktree, places, around, indexed.entries.as_slice())?;
+    let indexed = read_index_and_details_of_git_dir(alloc, worktree, places.git_dir.as_bytes())?;
+    let settings = read_comparison_settings(
+        alloc,
+        worktree,
+        places,
+        around,
+        indexed.entries.as_slice(),
+    )?;
     let Indexed { entries, details } = indexed;
     let looks = settings.looks_for_skipped;
-    let index = seen_here(alloc, worktree, places, looks, entries)?;
-    compared_from_parts(
+    let index = index_with_actual_skip_flags(alloc, worktree, places, looks, entries)?;
+    comparison_setup_with_parsed_pathspecs(
         alloc, places, around, prefers, paths, index, details, settings,
     )
 }

@@ -8,8 +8,8 @@ use gitbase_core::{Bytes, OutOfMemory};
 use std::alloc::Global;
 
 /// Lines, with a line feed behind the last one too.
-pub fn ended(alloc: Global, bytes: &[u8]) -> Result<Bytes, OutOfMemory>
-    ensures { IfOk result (λ rules. rules ≡ words.ended bytes.now) }
+pub fn lines_with_final_newline(alloc: Global, bytes: &[u8]) -> Result<Bytes, OutOfMemory>
+    ensures { IfOk result (λ rules. rules ≡ words.lines_with_final_newline bytes.now) }
 {
     let mut rules = Bytes::from_slice(alloc, bytes)?;
     if bytes.is_empty() {
@@ -23,11 +23,14 @@ pub fn ended(alloc: Global, bytes: &[u8]) -> Result<Bytes, OutOfMemory>
 }
 
 /// The lines of a rules file, if there is one.
-fn rules_text(alloc: Global, file: &Option<RulesFile>) -> Result<Bytes, OutOfMemory>
-    ensures { IfOk result (λ rules. rules ≡ words.rules_text file.now) }
+fn text_of_optional_rules_file(
+    alloc: Global,
+    file: &Option<RulesFile>,
+) -> Result<Bytes, OutOfMemory>
+    ensures { IfOk result (λ rules. rules ≡ words.text_of_optional_rules_file file.now) }
 {
     match file {
-        Some(file) => ended(alloc, file.bytes.as_bytes()),
+        Some(file) => lines_with_final_newline(alloc, file.bytes.as_bytes()),
         None => Ok(Bytes::new(alloc)),
     }
 }
@@ -45,12 +48,12 @@ pub fn double_byte_order_mark(alloc: Global, rules: Bytes) -> Result<Bytes, OutO
 }
 
 /// The rules of the user, and behind them those of the repository, as they leave the top alone.
-#[tactic(auto, unfolding(crate::specs::GlobalRules::globals_of))]
-pub fn globals_of(alloc: Global, rules: &Rules) -> Result<Bytes, OutOfMemory>
-    ensures { IfOk result (λ globals. globals ≡ words.globals_of rules.now) }
+#[tactic(auto, unfolding(crate::specs::GlobalRules::combined_global_rules))]
+pub fn combined_global_rules(alloc: Global, rules: &Rules) -> Result<Bytes, OutOfMemory>
+    ensures { IfOk result (λ globals. globals ≡ words.combined_global_rules rules.now) }
 {
-    let mut globals = rules_text(alloc, &rules.user)?;
-    let repository = rules_text(alloc, &rules.repository)?;
+    let mut globals = text_of_optional_rules_file(alloc, &rules.user)?;
+    let repository = text_of_optional_rules_file(alloc, &rules.repository)?;
     globals.extend(alloc, repository.as_bytes())?;
     Ok(double_byte_order_mark(
         alloc,

@@ -2,8 +2,8 @@
 ghost use Rattle.std.specs.Prelude.{◌≡◌, false, option_copied, Ok, IfOk};
 ghost use Rattle.std.specs.List.{list_any};
 ghost use Rattle.worktree_fs.specs.Tree.{look};
-ghost use Rattle.worktree_report.specs.Loading.{modules_path};
-ghost use Rattle.git_setup.specs.Finds.{Decides, Finds};
+ghost use Rattle.worktree_report.specs.Loading.{gitmodules_path};
+ghost use Rattle.git_setup.specs.Finds.{IsFoundOrRefusesMemory, FindsOverToldTree};
 ghost use Rattle.git_setup.specs.Ignoring as words;
 
 use crate::error::GitRefusal;
@@ -13,36 +13,36 @@ use std::alloc::Global;
 use worktree_fs::{ReadAnswer, Worktree};
 
 /// Whether a submodule may be left out by a value of its `ignore`.
-fn may_leave_out(value: &[u8]) -> bool
-    ensures { result ≡ words.may_leave_out value.now }
+fn ignore_value_may_skip_submodule(value: &[u8]) -> bool
+    ensures { result ≡ words.ignore_value_may_skip_submodule value.now }
 {
     !(value == b"none".as_slice()
         || value == b"untracked".as_slice()
         || value == b"dirty".as_slice())
 }
 
-fn value_leaves_out(value: Option<&[u8]>) -> bool
-    ensures { result ≡ words.value_leaves_out (option_copied value.entry) }
+fn optional_ignore_value_may_skip(value: Option<&[u8]>) -> bool
+    ensures { result ≡ words.optional_ignore_value_may_skip (option_copied value.entry) }
 {
     match value {
-        Some(value) => may_leave_out(value),
+        Some(value) => ignore_value_may_skip_submodule(value),
         None => false,
     }
 }
 
 /// Whether a section has a key by which submodules are left out.
-fn leaves_out(section: &Section) -> bool
-    ensures { result ≡ words.leaves_out section.now }
+fn section_may_skip_submodule(section: &Section) -> bool
+    ensures { result ≡ words.section_may_skip_submodule section.now }
 {
-    value_leaves_out(section.value(b"ignore"))
+    optional_ignore_value_may_skip(section.value(b"ignore"))
 }
 
 /// Whether a configuration does.
-fn some_leaves_out(config: &File) -> bool
-    ensures { result ≡ list_any words.leaves_out config.now.sections }
+fn config_may_skip_submodule(config: &File) -> bool
+    ensures { result ≡ list_any words.section_may_skip_submodule config.now.sections }
 {
     for section in config.sections() {
-        if leaves_out(section) {
+        if section_may_skip_submodule(section) {
             return true;
         }
     }
@@ -50,8 +50,8 @@ fn some_leaves_out(config: &File) -> bool
 }
 
 /// What the configuration of the submodules is read as.
-fn modules_meta() -> Metadata
-    ensures { result ≡ words.modules_meta }
+fn metadata_of_gitmodules() -> Metadata
+    ensures { result ≡ words.metadata_of_gitmodules }
 {
     Metadata {
         source: Source::Modules,
@@ -60,31 +60,33 @@ fn modules_meta() -> Metadata
 }
 
 /// Whether the bytes of a `.gitmodules` have some submodule left out, or are outside its grammar.
-fn bytes_leave_out(alloc: Global, bytes: &[u8]) -> Result<bool, GitRefusal>
-    ensures { Decides result (Ok (words.bytes_leave_out bytes.now)) }
+fn gitmodules_bytes_may_skip(alloc: Global, bytes: &[u8]) -> Result<bool, GitRefusal>
+    ensures { IsFoundOrRefusesMemory result (Ok (words.gitmodules_bytes_may_skip bytes.now)) }
 {
-    match File::from_bytes(alloc, bytes, modules_meta()) {
-        Ok(file) => Ok(some_leaves_out(&file)),
+    match File::from_bytes(alloc, bytes, metadata_of_gitmodules()) {
+        Ok(file) => Ok(config_may_skip_submodule(&file)),
         Err(ParseError::Syntax { line: _ }) => Ok(true),
         Err(ParseError::OutOfMemory) => Err(GitRefusal::OutOfMemory),
     }
 }
 
-fn is_unmerged_modules(entry: &IndexEntry) -> bool
-    ensures { result ≡ words.is_unmerged_modules entry.now }
+fn is_unmerged_gitmodules_entry(entry: &IndexEntry) -> bool
+    ensures { result ≡ words.is_unmerged_gitmodules_entry entry.now }
 {
     entry.stage != 0 && entry.path.as_bytes() == b".gitmodules".as_slice()
 }
 
 /// Whether the `.gitmodules` of an index is not merged.
-fn some_unmerged(entries: &[IndexEntry]) -> bool
-    ensures { result ≡ list_any words.is_unmerged_modules entries.now }
+fn has_unmerged_gitmodules(entries: &[IndexEntry]) -> bool
+    ensures { result ≡ list_any words.is_unmerged_gitmodules_entry entries.now }
 {
-    entries.iter().any(|entry| is_unmerged_modules(entry))
+    entries
+        .iter()
+        .any(|entry| is_unmerged_gitmodules_entry(entry))
 }
 
-fn modules_path(alloc: Global, root: &[u8]) -> Result<PathText, OutOfMemory>
-    ensures { IfOk result (λ path. path ≡ modules_path root.now) }
+fn path_of_gitmodules(alloc: Global, root: &[u8]) -> Result<PathText, OutOfMemory>
+    ensures { IfOk result (λ path. path ≡ gitmodules_path root.now) }
 {
     let mut path = PathText::from_bytes(alloc, root)?;
     path.push_component(alloc, b".gitmodules")?;
@@ -92,18 +94,19 @@ fn modules_path(alloc: Global, root: &[u8]) -> Result<PathText, OutOfMemory>
 }
 
 /// Whether the `.gitmodules` of a work tree has some submodule left out, or is no file.
-fn modules_leave_out<W: Worktree>(
+fn gitmodules_file_may_skip<W: Worktree>(
     alloc: Global,
     worktree: &mut W,
     root: &[u8],
 ) -> Result<bool, GitRefusal>
-    ensures { Finds W.Worktree worktree.old worktree.new
-        (λ t. Ok (words.modules_leave_out (look t (modules_path root.now) false))) result }
+    ensures { FindsOverToldTree W.Worktree worktree.old worktree.new
+        (λ t. Ok (words.gitmodules_file_may_skip (look t (gitmodules_path root.now) false)))
+        result }
 {
-    let path = modules_path(alloc, root)?;
+    let path = path_of_gitmodules(alloc, root)?;
     let mut bytes = Bytes::new(alloc);
     match worktree.read(alloc, path.as_bytes(), false, &mut bytes)? {
-        ReadAnswer::Read => bytes_leave_out(alloc, bytes.as_bytes()),
+        ReadAnswer::Read => gitmodules_bytes_may_skip(alloc, bytes.as_bytes()),
         _ => Ok(true),
     }
 }
@@ -120,14 +123,14 @@ pub fn may_ignore_submodules<W: Worktree>(
     config: &File,
     entries: &[IndexEntry],
 ) -> Result<bool, GitRefusal>
-    ensures { Finds W.Worktree worktree.old worktree.new
+    ensures { FindsOverToldTree W.Worktree worktree.old worktree.new
         (λ t. Ok (words.may_ignore_submodules t root.now config.now.sections entries.now)) result }
 {
-    if some_unmerged(entries) {
+    if has_unmerged_gitmodules(entries) {
         return Ok(false);
     }
-    if some_leaves_out(config) {
+    if config_may_skip_submodule(config) {
         return Ok(true);
     }
-    modules_leave_out(alloc, worktree, root)
+    gitmodules_file_may_skip(alloc, worktree, root)
 }

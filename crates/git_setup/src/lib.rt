@@ -29,12 +29,12 @@ mod written;
 
 pub use asked::Asked;
 pub use below_top::exempt_top_from_star_rules;
-pub use checked::{Checked, NamedFile, OuterFiles, checked_at};
-pub use compared::{Compared, compared_at, places_here};
+pub use checked::{Checked, NamedFile, OuterFiles, read_check_ignore_setup};
+pub use compared::{Compared, find_repository_places, read_comparison_setup};
 pub use details::Details;
 pub use each::{AskedSpec, EachSpec};
 pub use error::GitRefusal;
-pub use found::{Found, setup_here};
-pub use from_directory::{ComparedFrom, compared_from};
-pub use index::index_path;
+pub use found::{Found, find_and_read_setup};
+pub use from_directory::{ComparedFrom, read_comparison_setup_from_directory};
+pub use index::path_of_index_file;
 pub use settings::{NodeSettings, Settings};

@@ -1,13 +1,13 @@
 //! The git directories of a work tree that lie in it under another name than `.git`.
 ghost use Rattle.std.specs.Prelude.{◌≡◌, IfOk, Ok};
-ghost use Rattle.git_setup.specs.Finds.{Finds};
+ghost use Rattle.git_setup.specs.Finds.{FindsOverToldTree};
 ghost use Rattle.git_setup.specs.OwnDirectories as words;
-ghost use Rattle.git_setup.specs.Placed.{beneath};
+ghost use Rattle.git_setup.specs.Placed.{path_below_root};
 
 use crate::error::GitRefusal;
-use crate::placed::beneath;
+use crate::placed::path_below_root;
 use git_places::Places;
-use gitbase_core::{OutOfMemory, PathText, basename, is_dot_git};
+use gitbase_core::{OutOfMemory, PathText, basename, is_dot_git_ignoring_case};
 use std::alloc::Global;
 use worktree_fs::Worktree;
 
@@ -22,65 +22,78 @@ pub struct OwnDirectories {
 }
 
 /// Whether a deletion could take a path below the top.
-fn is_at_risk(path: &[u8]) -> bool
-    ensures { result ≡ words.is_at_risk path.now }
+fn is_below_top_not_dot_git(path: &[u8]) -> bool
+    ensures { result ≡ words.is_below_top_not_dot_git path.now }
 {
-    !path.is_empty() && !is_dot_git(basename(path))
+    !path.is_empty() && !is_dot_git_ignoring_case(basename(path))
 }
 
 /// A path from the top, of one below it that a deletion could take.
-fn at_risk(alloc: Global, root: &[u8], real: &[u8]) -> Result<Option<PathText>, OutOfMemory>
-    ensures { IfOk result (λ found. found ≡ words.at_risk (beneath root.now real.now)) }
+fn path_below_top_unless_dot_git(
+    alloc: Global,
+    root: &[u8],
+    real: &[u8],
+) -> Result<Option<PathText>, OutOfMemory>
+    ensures { IfOk result (λ found. found ≡ words.path_below_top_unless_dot_git
+        (path_below_root root.now real.now)) }
 {
-    match beneath(root, real) {
-        Some(path) if is_at_risk(path) => Ok(Some(PathText::from_bytes(alloc, path)?)),
+    match path_below_root(root, real) {
+        Some(path) if is_below_top_not_dot_git(path) => Ok(Some(PathText::from_bytes(
+            alloc, path,
+        )?)),
         _ => Ok(None),
     }
 }
 
 /// Where a directory lies below the top, if a deletion could take it.
-fn place_in<W: Worktree>(
+fn real_path_below_unless_dot_git<W: Worktree>(
     alloc: Global,
     worktree: &mut W,
     root: &[u8],
     directory: &[u8],
 ) -> Result<Option<PathText>, GitRefusal>
-    ensures { Finds W.Worktree worktree.old worktree.new
-        (λ t. Ok (words.at_risk (words.place_in t root.now directory.now))) result }
+    ensures { FindsOverToldTree W.Worktree worktree.old worktree.new
+        (λ t. Ok (words.path_below_top_unless_dot_git (words.real_path_below_top t root.now
+        directory.now))) result }
 {
     match worktree.real_path(alloc, directory, b"/")? {
-        Some(real) => Ok(at_risk(alloc, root, real.as_bytes())?),
+        Some(real) => Ok(path_below_top_unless_dot_git(alloc, root, real.as_bytes())?),
         None => Ok(None),
     }
 }
 
 /// The git directories of a work tree that a deletion could take.
-fn own_directories<W: Worktree>(
+fn git_dirs_needing_protection<W: Worktree>(
     alloc: Global,
     worktree: &mut W,
     places: &Places,
 ) -> Result<OwnDirectories, GitRefusal>
-    ensures { Finds W.Worktree worktree.old worktree.new
-        (λ t. Ok (words.own_directories t places.now)) result }
+    ensures { FindsOverToldTree W.Worktree worktree.old worktree.new
+        (λ t. Ok (words.git_dirs_needing_protection t places.now)) result }
 {
     let root = places.root.as_bytes();
-    let git = place_in(alloc, worktree, root, places.git_dir.as_bytes())?;
-    let common = place_in(alloc, worktree, root, places.common_dir.as_bytes())?;
+    let git = real_path_below_unless_dot_git(alloc, worktree, root, places.git_dir.as_bytes())?;
+    let common = real_path_below_unless_dot_git(
+        alloc,
+        worktree,
+        root,
+        places.common_dir.as_bytes(),
+    )?;
     Ok(OwnDirectories { git, common })
 }
 
 /// The same where something is to be deleted, and none else.
-pub fn own_for<W: Worktree>(
+pub fn git_dirs_needing_protection_if_deleting<W: Worktree>(
     alloc: Global,
     worktree: &mut W,
     deletes: bool,
     places: &Places,
 ) -> Result<OwnDirectories, GitRefusal>
-    ensures { Finds W.Worktree worktree.old worktree.new
-        (λ t. Ok (words.own_for deletes t places.now)) result }
+    ensures { FindsOverToldTree W.Worktree worktree.old worktree.new
+        (λ t. Ok (words.git_dirs_needing_protection_if_deleting deletes t places.now)) result }
 {
     if deletes {
-        return own_directories(alloc, worktree, places);
+        return git_dirs_needing_protection(alloc, worktree, places);
     }
     Ok(OwnDirectories {
         git: None,

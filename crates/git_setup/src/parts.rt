@@ -1,16 +1,16 @@
 //! What a setup has of a repository.
 ghost use Rattle.std.specs.Prelude.{◌≡◌, ◌++◌, ◌∷◌, [], codes, map, Ok, OnOk, unwrap_or};
 ghost use Rattle.worktree_fs.specs.Changes.{real_path};
-ghost use Rattle.git_setup.specs.Finds.{Finds};
+ghost use Rattle.git_setup.specs.Finds.{FindsOverToldTree};
 ghost use Rattle.git_setup.specs.Found as words;
 
 use crate::asked::Asked;
 use crate::error::GitRefusal;
-use crate::globals::globals_of;
-use crate::pathspecs::{AskedSpecs, specs_in};
-use crate::protected::{Protected, protected_here};
+use crate::globals::combined_global_rules;
+use crate::pathspecs::{AskedSpecs, parse_pathspec_arguments};
+use crate::protected::{Protected, find_protected_paths};
 use crate::read_here::Read;
-use git_config_files::{Configured, Rules, Stack, rules_files};
+use git_config_files::{Configured, Rules, Stack, read_rules_outside_work_tree};
 use git_config_lite::{File, Source};
 use git_places::{Places, Surroundings};
 use gitbase_core::{Bytes, OutOfMemory, PathText, State};
@@ -47,12 +47,12 @@ pub fn is_for_deletion(options: &SetupOptions) -> bool
 }
 
 /// A path without its links, or as it is where nothing is there.
-pub fn real_or_same<W: Worktree>(
+pub fn real_path_or_same<W: Worktree>(
     alloc: Global,
     worktree: &mut W,
     path: &[u8],
 ) -> Result<PathText, GitRefusal>
-    ensures { Finds W.Worktree worktree.old worktree.new
+    ensures { FindsOverToldTree W.Worktree worktree.old worktree.new
         (λ t. Ok (unwrap_or (real_path t path.now (codes "/")) path.now)) result }
 {
     match worktree.real_path(alloc, path, b"/")? {
@@ -74,34 +74,34 @@ fn push(
 }
 
 /// Configurations by their paths without links.
-fn real_configs<W: Worktree>(
+fn real_paths_of_configs<W: Worktree>(
     alloc: Global,
     worktree: &mut W,
     files: &[Configured],
 ) -> Result<Configs, GitRefusal>
-    ensures { Finds W.Worktree worktree.old worktree.new
-        (λ t. Ok (map (words.config_real t) files.now)) result }
+    ensures { FindsOverToldTree W.Worktree worktree.old worktree.new
+        (λ t. Ok (map (words.config_by_real_path t) files.now)) result }
 {
     let mut configs = Vec::new(alloc);
     for file in files {
-        let path = real_or_same(alloc, worktree, file.path.as_bytes())?;
+        let path = real_path_or_same(alloc, worktree, file.path.as_bytes())?;
         push(&mut configs, file.source, path)?;
     }
     Ok(Configs::from_vec(configs))
 }
 
 /// The configurations that are read for submodules, if these are asked for.
-fn configs_for<W: Worktree>(
+fn configs_if_submodules_requested<W: Worktree>(
     alloc: Global,
     worktree: &mut W,
     options: &SetupOptions,
     files: &[Configured],
 ) -> Result<Configs, GitRefusal>
-    ensures { Finds W.Worktree worktree.old worktree.new
-        (λ t. Ok (words.configs_for t options.now files.now)) result }
+    ensures { FindsOverToldTree W.Worktree worktree.old worktree.new
+        (λ t. Ok (words.configs_if_submodules_requested t options.now files.now)) result }
 {
     if options.submodules {
-        return real_configs(alloc, worktree, files);
+        return real_paths_of_configs(alloc, worktree, files);
     }
     Ok(Configs::from_vec(Vec::new(alloc)))
 }
@@ -120,7 +120,7 @@ pub struct Pieces {
 }
 
 /// These, with what the rules files and the configurations give.
-fn pieces_of<W: Worktree>(
+fn pieces_from_rules_and_configs<W: Worktree>(
     alloc: Global,
     worktree: &mut W,
     options: &SetupOptions,
@@ -129,11 +129,12 @@ fn pieces_of<W: Worktree>(
     specs: AskedSpecs,
     worktrees: Protected,
 ) -> Result<Pieces, GitRefusal>
-    ensures { Finds W.Worktree worktree.old worktree.new
-        (λ t. Ok (words.pieces_of t options.now files.now rules.now specs worktrees)) result }
+    ensures { FindsOverToldTree W.Worktree worktree.old worktree.new
+        (λ t. Ok (words.pieces_from_rules_and_configs t options.now files.now rules.now specs
+        worktrees)) result }
 {
-    let globals = globals_of(alloc, rules)?;
-    let configs = configs_for(alloc, worktree, options, files)?;
+    let globals = combined_global_rules(alloc, rules)?;
+    let configs = configs_if_submodules_requested(alloc, worktree, options, files)?;
     Ok(Pieces {
         globals,
         specs,
@@ -143,23 +144,23 @@ fn pieces_of<W: Worktree>(
 }
 
 /// The rules files outside the work tree.
-#[tactic(auto, unfolding(crate::specs::Found::rules_read))]
-fn rules_here<W: Worktree>(
+#[tactic(auto, unfolding(crate::specs::Found::read_outer_rules_files))]
+fn read_outer_rules_files<W: Worktree>(
     alloc: Global,
     worktree: &mut W,
     places: &Places,
     around: &Surroundings,
     read: &Read,
 ) -> Result<Rules, GitRefusal>
-    ensures { Finds W.Worktree worktree.old worktree.new
-        (λ t. words.rules_read t places.now around.now read.now) result }
+    ensures { FindsOverToldTree W.Worktree worktree.old worktree.new
+        (λ t. words.read_outer_rules_files t places.now around.now read.now) result }
 {
-    Ok(rules_files(alloc, worktree, places, around, &read.stack.file)?)
+    Ok(read_rules_outside_work_tree(alloc, worktree, places, around, &read.stack.file)?)
 }
 
 /// What a setup has of rules files, path specs and submodules.
-#[tactic(auto, unfolding(crate::specs::Found::pieces_by))]
-fn pieces_here<W: Worktree>(
+#[tactic(auto, unfolding(crate::specs::Found::read_rules_specs_and_protected_paths))]
+fn read_rules_specs_and_protected_paths<W: Worktree>(
     alloc: Global,
     worktree: &mut W,
     places: &Places,
@@ -167,13 +168,14 @@ fn pieces_here<W: Worktree>(
     asked: &Asked,
     read: &Read,
 ) -> Result<Pieces, GitRefusal>
-    ensures { Finds W.Worktree worktree.old worktree.new
-        (λ t. words.pieces_by t places.now around.now asked.now read.now) result }
+    ensures { FindsOverToldTree W.Worktree worktree.old worktree.new
+        (λ t. words.read_rules_specs_and_protected_paths t places.now around.now asked.now read.now)
+        result }
 {
-    let rules = rules_here(alloc, worktree, places, around, read)?;
+    let rules = read_outer_rules_files(alloc, worktree, places, around, read)?;
     let root = places.root.as_bytes();
     let directory = around.directory.as_bytes();
-    let specs = specs_in(
+    let specs = parse_pathspec_arguments(
         alloc,
         asked.prefers_current,
         false,
@@ -184,9 +186,9 @@ fn pieces_here<W: Worktree>(
     let deletes = is_for_deletion(&asked.options);
     let ignore_case = read.switches.ignore_case;
     let entries = read.index.entries();
-    let worktrees = protected_here(alloc, worktree, deletes, ignore_case, places, entries)?;
+    let worktrees = find_protected_paths(alloc, worktree, deletes, ignore_case, places, entries)?;
     let files = read.stack.files.as_slice();
-    pieces_of(
+    pieces_from_rules_and_configs(
         alloc,
         worktree,
         &asked.options,
@@ -198,15 +200,15 @@ fn pieces_here<W: Worktree>(
 }
 
 /// What the configurations say.
-fn config_of(stack: Stack) -> File
+fn config_file_of_stack(stack: Stack) -> File
     ensures { result ≡ stack.file }
 {
     stack.file
 }
 
 /// What a setup has of a repository.
-#[tactic(auto, unfolding(crate::specs::Found::parts_by))]
-pub fn parts_here<W: Worktree>(
+#[tactic(auto, unfolding(crate::specs::Found::read_remaining_setup_parts))]
+pub fn read_remaining_setup_parts<W: Worktree>(
     alloc: Global,
     worktree: &mut W,
     places: &Places,
@@ -214,10 +216,12 @@ pub fn parts_here<W: Worktree>(
     asked: &Asked,
     read: Read,
 ) -> Result<Parts, GitRefusal>
-    ensures { Finds W.Worktree worktree.old worktree.new
-        (λ t. words.parts_by t places.now around.now asked.now read) result }
+    ensures { FindsOverToldTree W.Worktree worktree.old worktree.new
+        (λ t. words.read_remaining_setup_parts t places.now around.now asked.now read) result }
 {
-    let pieces = pieces_here(alloc, worktree, places, around, asked, &read)?;
+    let pieces = read_rules_specs_and_protected_paths(
+        alloc, worktree, places, around, asked, &read,
+    )?;
     let Read {
         stack,
         switches,
@@ -226,7 +230,7 @@ pub fn parts_here<W: Worktree>(
     Ok(Parts {
         ignore_case: switches.ignore_case,
         quote_path: switches.quote_path,
-        config: config_of(stack),
+        config: config_file_of_stack(stack),
         index,
         globals: pieces.globals,
         specs: pieces.specs,

@@ -1,13 +1,13 @@
 //! The path specs that are asked for.
 ghost use Rattle.std.specs.Prelude.{◌≡◌, [], IfOk, OnOk, ◌++◌, ◌∷◌};
-ghost use Rattle.glob_rules.specs.PathSpecText.{spec_of};
+ghost use Rattle.glob_rules.specs.PathSpecText.{parse_path_spec};
 ghost use Rattle.git_setup.specs.AskedSpecs as words;
-ghost use Rattle.git_setup.specs.Finds.{Decides};
+ghost use Rattle.git_setup.specs.Finds.{IsFoundOrRefusesMemory};
 
 use crate::each::{AskedSpec, EachSpec};
 use crate::error::GitRefusal;
-use crate::placed::{beneath, outside, resolve_pathspec_from_top};
-use crate::written::{Written, written_in};
+use crate::placed::{outside, path_below_root, resolve_pathspec_from_top};
+use crate::written::{Written, pathspecs_with_implied_current_directory};
 use gitbase_core::{Bytes, OutOfMemory, PathText};
 use glob_rules::pathspec::{Defaults, Error, Search, Spec};
 use std::alloc::Global;
@@ -22,7 +22,7 @@ pub struct AskedSpecs {
 }
 
 /// The refusal of a text that is no path spec.
-fn no_spec(alloc: Global, text: &[u8]) -> Result<GitRefusal, OutOfMemory>
+fn refusal_text_is_no_pathspec(alloc: Global, text: &[u8]) -> Result<GitRefusal, OutOfMemory>
     ensures { IfOk result (λ e. e ≡ GitRefusal.PathSpec text.now) }
 {
     Ok(GitRefusal::PathSpec {
@@ -31,29 +31,36 @@ fn no_spec(alloc: Global, text: &[u8]) -> Result<GitRefusal, OutOfMemory>
 }
 
 /// The path spec of a whole text; `text` is what was asked for.
-fn spec_of(alloc: Global, ignore_case: bool, text: &[u8], whole: &[u8]) -> Result<Spec, GitRefusal>
-    ensures { Decides result (words.as_spec text.now (spec_of ignore_case whole.now)) }
+fn parse_resolved_pathspec(
+    alloc: Global,
+    ignore_case: bool,
+    text: &[u8],
+    whole: &[u8],
+) -> Result<Spec, GitRefusal>
+    ensures { IsFoundOrRefusesMemory result (words.parsed_spec_or_refusal text.now
+        (parse_path_spec ignore_case whole.now)) }
 {
     match Spec::parse(alloc, whole, Defaults { ignore_case }) {
         Ok(spec) => Ok(spec),
-        Err(Error::Parse { at: _ }) => Err(no_spec(alloc, text)?),
+        Err(Error::Parse { at: _ }) => Err(refusal_text_is_no_pathspec(alloc, text)?),
         Err(Error::Normalize) => Err(outside(alloc, text)?),
         Err(Error::OutOfMemory) => Err(GitRefusal::OutOfMemory),
     }
 }
 
 /// The path spec of a text from a directory of the work tree.
-fn spec_here(
+fn parse_pathspec_from_prefix(
     alloc: Global,
     ignore_case: bool,
     root: &[u8],
     prefix: &[u8],
     text: &[u8],
 ) -> Result<Spec, GitRefusal>
-    ensures { Decides result (words.spec_here ignore_case root.now prefix.now text.now) }
+    ensures { IsFoundOrRefusesMemory result (words.parse_pathspec_from_prefix ignore_case root.now
+        prefix.now text.now) }
 {
     let whole = resolve_pathspec_from_top(alloc, root, prefix, text)?;
-    spec_of(alloc, ignore_case, text, whole.as_bytes())
+    parse_resolved_pathspec(alloc, ignore_case, text, whole.as_bytes())
 }
 
 /// Adds a path spec at the end.
@@ -65,27 +72,33 @@ fn push(done: &mut Vec<Spec>, spec: Spec) -> Result<(), OutOfMemory>
 }
 
 /// The path specs of some texts from a directory of the work tree.
-fn specs_after(
+fn parse_all_pathspecs(
     alloc: Global,
     ignore_case: bool,
     root: &[u8],
     prefix: &[u8],
     written: &[Written],
 ) -> Result<Search, GitRefusal>
-    ensures { Decides result
-        (words.specs_after ignore_case root.now prefix.now [] written.now) }
+    ensures { IsFoundOrRefusesMemory result
+        (words.parse_all_pathspecs ignore_case root.now prefix.now [] written.now) }
 {
     let mut done = Vec::new(alloc);
     for one in written {
-        let spec = spec_here(alloc, ignore_case, root, prefix, one.text.as_bytes())?;
+        let spec = parse_pathspec_from_prefix(
+            alloc,
+            ignore_case,
+            root,
+            prefix,
+            one.text.as_bytes(),
+        )?;
         push(&mut done, spec)?;
     }
     Ok(Search::from_specs(done))
 }
 
 /// A path spec by itself, with what tells of it.
-fn asked_spec(alloc: Global, told: &[u8], spec: Spec) -> Result<AskedSpec, OutOfMemory>
-    ensures { IfOk result (λ asked. asked ≡ words.asked_spec told.now spec) }
+fn single_spec_with_text(alloc: Global, told: &[u8], spec: Spec) -> Result<AskedSpec, OutOfMemory>
+    ensures { IfOk result (λ asked. asked ≡ words.single_spec_with_text told.now spec) }
 {
     let mut specs = Vec::new(alloc);
     specs.push(spec)?;
@@ -96,56 +109,62 @@ fn asked_spec(alloc: Global, told: &[u8], spec: Spec) -> Result<AskedSpec, OutOf
 }
 
 /// The path spec of a text from a directory of the work tree, by itself.
-fn alone_here(
+fn parse_single_spec_with_text(
     alloc: Global,
     ignore_case: bool,
     root: &[u8],
     prefix: &[u8],
     one: &Written,
 ) -> Result<AskedSpec, GitRefusal>
-    ensures { Decides result (words.alone_here ignore_case root.now prefix.now one.now) }
+    ensures { IsFoundOrRefusesMemory result (words.parse_single_spec_with_text ignore_case root.now
+        prefix.now one.now) }
 {
-    let spec = spec_here(alloc, ignore_case, root, prefix, one.text.as_bytes())?;
-    Ok(asked_spec(alloc, one.told.as_bytes(), spec)?)
+    let spec = parse_pathspec_from_prefix(alloc, ignore_case, root, prefix, one.text.as_bytes())?;
+    Ok(single_spec_with_text(alloc, one.told.as_bytes(), spec)?)
 }
 
 /// Those of some texts, each by itself.
-fn each_after(
+fn parse_each_pathspec_alone(
     alloc: Global,
     ignore_case: bool,
     root: &[u8],
     prefix: &[u8],
     written: &[Written],
 ) -> Result<EachSpec, GitRefusal>
-    ensures { Decides result
-        (words.each_after ignore_case root.now prefix.now [] written.now) }
+    ensures { IsFoundOrRefusesMemory result
+        (words.parse_each_pathspec_alone ignore_case root.now prefix.now [] written.now) }
 {
     let mut done = EachSpec::new(alloc);
     for one in written {
-        let alone = alone_here(alloc, ignore_case, root, prefix, one)?;
+        let alone = parse_single_spec_with_text(alloc, ignore_case, root, prefix, one)?;
         done.push(alone)?;
     }
     Ok(done)
 }
 
 /// Those of some texts, together and each by itself.
-#[tactic(auto, unfolding(crate::specs::AskedSpecs::specs_from))]
-fn specs_from(
+#[tactic(auto, unfolding(crate::specs::AskedSpecs::parse_specs_together_and_each))]
+fn parse_specs_together_and_each(
     alloc: Global,
     ignore_case: bool,
     root: &[u8],
     prefix: &[u8],
     written: &[Written],
 ) -> Result<AskedSpecs, GitRefusal>
-    ensures { Decides result (words.specs_from ignore_case root.now prefix.now written.now) }
+    ensures { IsFoundOrRefusesMemory result (words.parse_specs_together_and_each ignore_case
+        root.now prefix.now written.now) }
 {
-    let all = specs_after(alloc, ignore_case, root, prefix, written)?;
-    let each = each_after(alloc, ignore_case, root, prefix, written)?;
+    let all = parse_all_pathspecs(alloc, ignore_case, root, prefix, written)?;
+    let each = parse_each_pathspec_alone(alloc, ignore_case, root, prefix, written)?;
     Ok(AskedSpecs { all, each })
 }
 
 /// The refusal of paths that are asked for from a directory that is not in the work tree.
-fn outside_root(alloc: Global, directory: &[u8], root: &[u8]) -> Result<GitRefusal, OutOfMemory>
+fn refusal_outside_root(
+    alloc: Global,
+    directory: &[u8],
+    root: &[u8],
+) -> Result<GitRefusal, OutOfMemory>
     ensures { IfOk result (λ e. e ≡ GitRefusal.OutsideRoot directory.now root.now) }
 {
     Ok(GitRefusal::OutsideRoot {
@@ -155,8 +174,8 @@ fn outside_root(alloc: Global, directory: &[u8], root: &[u8]) -> Result<GitRefus
 }
 
 /// Whether the directory has to be in the work tree.
-fn asks_from(prefers: bool, texts: &[Bytes]) -> bool
-    ensures { result ≡ words.asks_from prefers texts.now }
+fn needs_directory_in_work_tree(prefers: bool, texts: &[Bytes]) -> bool
+    ensures { result ≡ words.needs_directory_in_work_tree prefers texts.now }
 {
     match texts {
         [] => prefers,
@@ -165,7 +184,7 @@ fn asks_from(prefers: bool, texts: &[Bytes]) -> bool
 }
 
 /// Those of some texts from the directory `prefix` of the work tree.
-fn specs_within(
+fn parse_specs_in_prefix(
     alloc: Global,
     prefers: bool,
     ignore_case: bool,
@@ -173,16 +192,17 @@ fn specs_within(
     prefix: &[u8],
     texts: &[Bytes],
 ) -> Result<AskedSpecs, GitRefusal>
-    ensures { Decides result (words.specs_from ignore_case root.now prefix.now
-        (words.written_in prefers prefix.now texts.now)) }
+    ensures { IsFoundOrRefusesMemory result (words.parse_specs_together_and_each ignore_case
+        root.now prefix.now (words.pathspecs_with_implied_current_directory prefers prefix.now
+        texts.now)) }
 {
-    let written = written_in(alloc, prefers, prefix, texts)?;
-    specs_from(alloc, ignore_case, root, prefix, &written)
+    let written = pathspecs_with_implied_current_directory(alloc, prefers, prefix, texts)?;
+    parse_specs_together_and_each(alloc, ignore_case, root, prefix, &written)
 }
 
 /// The path specs of some texts, asked for from a directory of the work tree at `root`. Where
 /// `prefers` says so, the directory is meant if there are none, and if each excludes.
-pub fn specs_in(
+pub fn parse_pathspec_arguments(
     alloc: Global,
     prefers: bool,
     ignore_case: bool,
@@ -190,17 +210,17 @@ pub fn specs_in(
     directory: &[u8],
     texts: &[Bytes],
 ) -> Result<AskedSpecs, GitRefusal>
-    ensures { Decides result
-        (words.specs_in prefers ignore_case root.now directory.now texts.now) }
+    ensures { IsFoundOrRefusesMemory result
+        (words.parse_pathspec_arguments prefers ignore_case root.now directory.now texts.now) }
 {
-    if !asks_from(prefers, texts) {
+    if !needs_directory_in_work_tree(prefers, texts) {
         return Ok(AskedSpecs {
             all: Search::from_specs(Vec::new(alloc)),
             each: EachSpec::new(alloc),
         });
     }
-    match beneath(root, directory) {
-        Some(prefix) => specs_within(alloc, prefers, ignore_case, root, prefix, texts),
-        None => Err(outside_root(alloc, directory, root)?),
+    match path_below_root(root, directory) {
+        Some(prefix) => parse_specs_in_prefix(alloc, prefers, ignore_case, root, prefix, texts),
+        None => Err(refusal_outside_root(alloc, directory, root)?),
     }
 }

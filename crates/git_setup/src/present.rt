@@ -1,22 +1,23 @@
 //! The entries of an index by what is in the work tree.
 ghost use Rattle.std.specs.Prelude.{◌≡◌, [], false, None, Ok, IfOk};
-ghost use Rattle.gitbase_core.specs.Path.{joined, without_slash};
-ghost use Rattle.git_index.specs.Head.{flags_of};
-ghost use Rattle.git_setup.specs.Finds.{Decides, Finds};
+ghost use Rattle.gitbase_core.specs.Path.{path_joined_with_slash, without_trailing_slash};
+ghost use Rattle.git_index.specs.Head.{flags_of_assumed_and_skipped};
+ghost use Rattle.git_setup.specs.Finds.{IsFoundOrRefusesMemory, FindsOverToldTree};
 ghost use Rattle.git_setup.specs.Present as words;
-ghost use Rattle.git_setup.specs.Refusals.{as_ordered};
-ghost use Rattle.gitbase_core.specs.Index.{index_of};
+ghost use Rattle.git_setup.specs.Refusals.{entries_result_as_git_result};
+ghost use Rattle.gitbase_core.specs.Index.{checked_index_entries};
 
 use crate::entries::Entries;
 use crate::error::GitRefusal;
 use gitbase_core::{
-    Flags, IndexEntry, IndexError, OutOfMemory, PathText, State, is_top, lies_beneath,
+    Flags, IndexEntry, IndexError, OutOfMemory, PathText, State, is_beneath_directory,
+    is_empty_or_root_path,
 };
 use std::alloc::Global;
 use worktree_fs::Worktree;
 
-fn flags_of(assumed: bool) -> Flags
-    ensures { result ≡ flags_of assumed false }
+fn assume_valid_or_no_flags(assumed: bool) -> Flags
+    ensures { result ≡ flags_of_assumed_and_skipped assumed false }
 {
     if assumed {
         Flags::ASSUME_VALID
@@ -26,15 +27,15 @@ fn flags_of(assumed: bool) -> Flags
 }
 
 /// An entry without its skip flag.
-fn unskipped(mut entry: IndexEntry) -> IndexEntry
-    ensures { result ≡ words.unskipped entry }
+fn entry_without_skip_flag(mut entry: IndexEntry) -> IndexEntry
+    ensures { result ≡ words.entry_without_skip_flag entry }
 {
-    entry.flags = flags_of(entry.flags.contains(Flags::ASSUME_VALID));
+    entry.flags = assume_valid_or_no_flags(entry.flags.contains(Flags::ASSUME_VALID));
     entry
 }
 
-fn path_in(alloc: Global, root: &[u8], path: &[u8]) -> Result<PathText, OutOfMemory>
-    ensures { IfOk result (λ whole. whole ≡ joined root.now path.now) }
+fn join_root_and_path(alloc: Global, root: &[u8], path: &[u8]) -> Result<PathText, OutOfMemory>
+    ensures { IfOk result (λ whole. whole ≡ path_joined_with_slash root.now path.now) }
 {
     let mut whole = PathText::from_bytes(alloc, root)?;
     whole.push_component(alloc, path)?;
@@ -42,22 +43,22 @@ fn path_in(alloc: Global, root: &[u8], path: &[u8]) -> Result<PathText, OutOfMem
 }
 
 /// Whether a node is at a path of the work tree.
-pub fn is_present<W: Worktree>(
+pub fn exists_in_work_tree<W: Worktree>(
     alloc: Global,
     worktree: &mut W,
     root: &[u8],
     path: &[u8],
 ) -> Result<bool, GitRefusal>
-    ensures { Finds W.Worktree worktree.old worktree.new
-        (λ t. Ok (words.is_present t root.now path.now)) result }
+    ensures { FindsOverToldTree W.Worktree worktree.old worktree.new
+        (λ t. Ok (words.exists_in_work_tree t root.now path.now)) result }
 {
-    let whole = path_in(alloc, root, path)?;
+    let whole = join_root_and_path(alloc, root, path)?;
     Ok(worktree.kind(alloc, whole.as_bytes())?.is_some())
 }
 
 /// A path without the slash at its end, if there is one.
-fn without_slash(path: &[u8]) -> &[u8]
-    ensures { result.now ≡ without_slash path.now }
+fn path_without_trailing_slash(path: &[u8]) -> &[u8]
+    ensures { result.now ≡ without_trailing_slash path.now }
 {
     if path.last() == Some(&b'/') {
         return &path[..path.len() - 1];
@@ -75,8 +76,8 @@ fn refuse_present_sparse_entry(entry: IndexEntry, present: bool) -> Result<Index
     Ok(entry)
 }
 
-fn is_skipped(entry: &IndexEntry) -> bool
-    ensures { result ≡ words.is_skipped entry.now }
+fn has_skip_worktree_flag(entry: &IndexEntry) -> bool
+    ensures { result ≡ words.has_skip_worktree_flag entry.now }
 {
     entry.flags.contains(Flags::SKIP_WORKTREE)
 }
@@ -98,18 +99,18 @@ struct Seen {
 }
 
 /// Whether a path lies beneath a directory that is known not to be there.
-fn is_gone_above(last: &Option<Looked>, path: &[u8]) -> bool
-    ensures { result ≡ words.is_gone_above last.now path.now }
+fn lies_beneath_known_absent_directory(last: &Option<Looked>, path: &[u8]) -> bool
+    ensures { result ≡ words.lies_beneath_known_absent_directory last.now path.now }
 {
     match last {
         None => false,
-        Some(looked) => !looked.present && lies_beneath(looked.directory.as_bytes(), path),
+        Some(looked) => !looked.present && is_beneath_directory(looked.directory.as_bytes(), path),
     }
 }
 
 /// Whether a directory is known to be there.
-fn is_there(last: &Option<Looked>, directory: &[u8]) -> bool
-    ensures { result ≡ words.is_there last.now directory.now }
+fn is_known_present_directory(last: &Option<Looked>, directory: &[u8]) -> bool
+    ensures { result ≡ words.is_known_present_directory last.now directory.now }
 {
     match last {
         None => false,
@@ -118,16 +119,16 @@ fn is_there(last: &Option<Looked>, directory: &[u8]) -> bool
 }
 
 /// A directory, by one look at it.
-fn looked_at<W: Worktree>(
+fn presence_of_directory<W: Worktree>(
     alloc: Global,
     worktree: &mut W,
     root: &[u8],
     directory: &[u8],
 ) -> Result<Looked, GitRefusal>
-    ensures { Finds W.Worktree worktree.old worktree.new
-        (λ t. Ok (words.looked_at t root.now directory.now)) result }
+    ensures { FindsOverToldTree W.Worktree worktree.old worktree.new
+        (λ t. Ok (words.presence_of_directory t root.now directory.now)) result }
 {
-    let present = is_present(alloc, worktree, root, directory)?;
+    let present = exists_in_work_tree(alloc, worktree, root, directory)?;
     Ok(Looked {
         directory: PathText::from_bytes(alloc, directory)?,
         present,
@@ -135,96 +136,107 @@ fn looked_at<W: Worktree>(
 }
 
 /// What is known of the directory above a path: one look, unless it is known already.
-fn known_above<W: Worktree>(
+fn known_or_found_presence_of_parent<W: Worktree>(
     alloc: Global,
     worktree: &mut W,
     root: &[u8],
     last: Option<Looked>,
     path: &PathText,
 ) -> Result<Option<Looked>, GitRefusal>
-    ensures { Finds W.Worktree worktree.old worktree.new
-        (λ t. Ok (words.known_above t root.now last path.now)) result }
+    ensures { FindsOverToldTree W.Worktree worktree.old worktree.new
+        (λ t. Ok (words.known_or_found_presence_of_parent t root.now last path.now)) result }
 {
-    if is_gone_above(&last, path.as_bytes()) {
+    if lies_beneath_known_absent_directory(&last, path.as_bytes()) {
         return Ok(last);
     }
     let Some(directory) = path.parent() else {
         return Ok(last);
     };
-    if is_top(directory) || is_there(&last, directory) {
+    if is_empty_or_root_path(directory) || is_known_present_directory(&last, directory) {
         return Ok(last);
     }
-    let looked = looked_at(alloc, worktree, root, directory)?;
+    let looked = presence_of_directory(alloc, worktree, root, directory)?;
     Ok(Some(looked))
 }
 
 /// Whether something is at a path, by what is known of the directory above it.
-fn is_present_by<W: Worktree>(
+fn exists_unless_directory_absent<W: Worktree>(
     alloc: Global,
     worktree: &mut W,
     root: &[u8],
     last: &Option<Looked>,
     path: &[u8],
 ) -> Result<bool, GitRefusal>
-    ensures { Finds W.Worktree worktree.old worktree.new
-        (λ t. Ok (words.is_present_by t root.now last.now path.now)) result }
+    ensures { FindsOverToldTree W.Worktree worktree.old worktree.new
+        (λ t. Ok (words.exists_unless_directory_absent t root.now last.now path.now)) result }
 {
-    if is_gone_above(last, path) {
+    if lies_beneath_known_absent_directory(last, path) {
         return Ok(false);
     }
-    is_present(alloc, worktree, root, path)
+    exists_in_work_tree(alloc, worktree, root, path)
 }
 
 /// A skipped entry, without its flag if something is in its place.
-fn as_present(entry: IndexEntry, present: bool) -> IndexEntry
-    ensures { result ≡ words.as_present entry present }
+fn entry_unskipped_if_present(entry: IndexEntry, present: bool) -> IndexEntry
+    ensures { result ≡ words.entry_unskipped_if_present entry present }
 {
     if present {
-        return unskipped(entry);
+        return entry_without_skip_flag(entry);
     }
     entry
 }
 
 /// A skipped entry as it is seen in the work tree.
-#[tactic(auto, unfolding(crate::specs::Present::skipped_entry_as_seen))]
-fn skipped_entry_as_seen<W: Worktree>(
+#[tactic(auto, unfolding(crate::specs::Present::skipped_entry_unskipped_if_present))]
+fn skipped_entry_unskipped_if_present<W: Worktree>(
     alloc: Global,
     worktree: &mut W,
     root: &[u8],
     last: Option<Looked>,
     entry: IndexEntry,
 ) -> Result<Seen, GitRefusal>
-    ensures { Finds W.Worktree worktree.old worktree.new
-        (λ t. Ok (words.skipped_entry_as_seen t root.now last entry)) result }
+    ensures { FindsOverToldTree W.Worktree worktree.old worktree.new
+        (λ t. Ok (words.skipped_entry_unskipped_if_present t root.now last entry)) result }
 {
-    let last = known_above(alloc, worktree, root, last, &entry.path)?;
-    let present = is_present_by(alloc, worktree, root, &last, entry.path.as_bytes())?;
+    let last = known_or_found_presence_of_parent(alloc, worktree, root, last, &entry.path)?;
+    let present = exists_unless_directory_absent(
+        alloc,
+        worktree,
+        root,
+        &last,
+        entry.path.as_bytes(),
+    )?;
     Ok(Seen {
-        entry: as_present(entry, present),
+        entry: entry_unskipped_if_present(entry, present),
         last,
     })
 }
 
 /// An entry that stands for a directory, as it is seen in the work tree.
-#[tactic(auto, unfolding(crate::specs::Present::directory_as_seen))]
-fn directory_as_seen<W: Worktree>(
+#[tactic(auto, unfolding(crate::specs::Present::require_sparse_directory_absent))]
+fn require_sparse_directory_absent<W: Worktree>(
     alloc: Global,
     worktree: &mut W,
     root: &[u8],
     last: Option<Looked>,
     entry: IndexEntry,
 ) -> Result<Seen, GitRefusal>
-    ensures { Finds W.Worktree worktree.old worktree.new
-        (λ t. words.directory_as_seen t root.now last entry) result }
+    ensures { FindsOverToldTree W.Worktree worktree.old worktree.new
+        (λ t. words.require_sparse_directory_absent t root.now last entry) result }
 {
-    let present = is_present(alloc, worktree, root, without_slash(entry.path.as_bytes()))?;
+    let present = exists_in_work_tree(
+        alloc,
+        worktree,
+        root,
+        path_without_trailing_slash(entry.path.as_bytes()),
+    )?;
     let entry = refuse_present_sparse_entry(entry, present)?;
     Ok(Seen { entry, last })
 }
 
 /// An entry as it is seen in the work tree, by what was looked at before.
-#[tactic(auto, unfolding(crate::specs::Present::seen_by))]
-fn entry_as_seen<W: Worktree>(
+#[tactic(auto, unfolding(crate::specs::Present::entry_unskipped_or_refused_if_present))]
+fn entry_unskipped_or_refused_if_present<W: Worktree>(
     alloc: Global,
     worktree: &mut W,
     root: &[u8],
@@ -232,33 +244,35 @@ fn entry_as_seen<W: Worktree>(
     last: Option<Looked>,
     entry: IndexEntry,
 ) -> Result<Seen, GitRefusal>
-    ensures { Finds W.Worktree worktree.old worktree.new
-        (λ t. words.seen_by t root.now looks last entry) result }
+    ensures { FindsOverToldTree W.Worktree worktree.old worktree.new
+        (λ t. words.entry_unskipped_or_refused_if_present t root.now looks last entry) result }
 {
     if entry.mode.is_sparse() {
-        return directory_as_seen(alloc, worktree, root, last, entry);
+        return require_sparse_directory_absent(alloc, worktree, root, last, entry);
     }
-    if looks && is_skipped(&entry) {
-        return skipped_entry_as_seen(alloc, worktree, root, last, entry);
+    if looks && has_skip_worktree_flag(&entry) {
+        return skipped_entry_unskipped_if_present(alloc, worktree, root, last, entry);
     }
     Ok(Seen { entry, last })
 }
 
 /// Entries, each as it is seen in the work tree, with one look a directory.
-fn seen_along<W: Worktree>(
+fn entries_unskipped_with_cached_looks<W: Worktree>(
     alloc: Global,
     worktree: &mut W,
     root: &[u8],
     looks: bool,
     entries: Entries,
 ) -> Result<Entries, GitRefusal>
-    ensures { Finds W.Worktree worktree.old worktree.new
-        (λ t. words.seen_along t root.now looks None [] entries) result }
+    ensures { FindsOverToldTree W.Worktree worktree.old worktree.new
+        (λ t. words.entries_unskipped_with_cached_looks t root.now looks None [] entries) result }
 {
     let mut done = Entries::new(alloc);
     let mut last = None;
     for entry in entries.into_vec() {
-        let seen = entry_as_seen(alloc, worktree, root, looks, last, entry)?;
+        let seen = entry_unskipped_or_refused_if_present(
+            alloc, worktree, root, looks, last, entry,
+        )?;
         done.push(seen.entry)?;
         last = seen.last;
     }
@@ -266,21 +280,25 @@ fn seen_along<W: Worktree>(
 }
 
 /// Entries, each as it is seen in the work tree.
-fn all_seen<W: Worktree>(
+fn entries_unskipped_if_present<W: Worktree>(
     alloc: Global,
     worktree: &mut W,
     root: &[u8],
     looks: bool,
     entries: Entries,
 ) -> Result<Entries, GitRefusal>
-    ensures { Finds W.Worktree worktree.old worktree.new
-        (λ t. words.seen_after t root.now looks [] entries) result }
+    ensures { FindsOverToldTree W.Worktree worktree.old worktree.new
+        (λ t. words.append_entries_unskipped_if_present t root.now looks [] entries) result }
 {
-    seen_along(alloc, worktree, root, looks, entries)
+    entries_unskipped_with_cached_looks(alloc, worktree, root, looks, entries)
 }
 
 /// The refusal of an entry of the index file at a path.
-fn entry_error(alloc: Global, path: &[u8], error: IndexError) -> Result<GitRefusal, OutOfMemory>
+fn refusal_of_index_entry(
+    alloc: Global,
+    path: &[u8],
+    error: IndexError,
+) -> Result<GitRefusal, OutOfMemory>
     ensures { IfOk result (λ e. e ≡ GitRefusal.IndexEntry path.now error) }
 {
     Ok(GitRefusal::IndexEntry {
@@ -290,12 +308,17 @@ fn entry_error(alloc: Global, path: &[u8], error: IndexError) -> Result<GitRefus
 }
 
 /// Entries of the index file at a path, as an index.
-pub fn index_from_entries(alloc: Global, path: &[u8], entries: Entries) -> Result<State, GitRefusal>
-    ensures { Decides result (as_ordered path.now (index_of entries)) }
+pub fn checked_index_from_entries(
+    alloc: Global,
+    path: &[u8],
+    entries: Entries,
+) -> Result<State, GitRefusal>
+    ensures { IsFoundOrRefusesMemory result (entries_result_as_git_result path.now
+        (checked_index_entries entries)) }
 {
     match State::from_entries(entries.into_vec()) {
         Ok(index) => Ok(index),
-        Err(error) => Err(entry_error(alloc, path, error)?),
+        Err(error) => Err(refusal_of_index_entry(alloc, path, error)?),
     }
 }
 
@@ -309,7 +332,7 @@ pub fn index_from_entries(alloc: Global, path: &[u8], entries: Entries) -> Resul
 /// was looked at last is known.
 ///
 /// See docs/DIFFERENCES.md#sparse-index and docs/DECISIONS.md#look-at-skipped.
-pub fn index_seen<W: Worktree>(
+pub fn index_with_present_entries_unskipped<W: Worktree>(
     alloc: Global,
     worktree: &mut W,
     root: &[u8],
@@ -317,9 +340,9 @@ pub fn index_seen<W: Worktree>(
     looks: bool,
     entries: Entries,
 ) -> Result<State, GitRefusal>
-    ensures { Finds W.Worktree worktree.old worktree.new
-        (λ t. words.index_seen t root.now path.now looks entries) result }
+    ensures { FindsOverToldTree W.Worktree worktree.old worktree.new
+        (λ t. words.index_with_present_entries_unskipped t root.now path.now looks entries) result }
 {
-    let entries = all_seen(alloc, worktree, root, looks, entries)?;
-    index_from_entries(alloc, path, entries)
+    let entries = entries_unskipped_if_present(alloc, worktree, root, looks, entries)?;
+    checked_index_from_entries(alloc, path, entries)
 }

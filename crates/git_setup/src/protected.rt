@@ -1,12 +1,12 @@
 //! What a deletion leaves alone as a work tree of its own: submodules, and git directories of this
 //! one.
 ghost use Rattle.std.specs.Prelude.{◌≡◌, [], IfOk, OnOk, find, option_copied};
-ghost use Rattle.git_setup.specs.Finds.{Decides, Finds};
-ghost use Rattle.git_setup.specs.OwnDirectories.{own_for};
+ghost use Rattle.git_setup.specs.Finds.{IsFoundOrRefusesMemory, FindsOverToldTree};
+ghost use Rattle.git_setup.specs.OwnDirectories.{git_dirs_needing_protection_if_deleting};
 ghost use Rattle.git_setup.specs.Protected as words;
 
 use crate::error::GitRefusal;
-use crate::own_directories::{OwnDirectories, own_for};
+use crate::own_directories::{OwnDirectories, git_dirs_needing_protection_if_deleting};
 use git_places::Places;
 use gitbase_core::{IndexEntry, OutOfMemory, PathText};
 use std::alloc::Global;
@@ -46,19 +46,20 @@ impl Protected {
     }
 }
 
-fn is_submodule(entry: &IndexEntry) -> bool
-    ensures { result ≡ words.is_submodule entry.now }
+fn is_submodule_entry(entry: &IndexEntry) -> bool
+    ensures { result ≡ words.is_submodule_entry entry.now }
 {
     entry.mode.is_submodule()
 }
 
 /// Adds a path, if there is one.
-fn add_path(
+fn insert_optional_path(
     alloc: Global,
     paths: &mut BTreeSet<PathText>,
     path: &Option<PathText>,
 ) -> Result<(), OutOfMemory>
-    ensures { OnOk result (paths.new.keys ≡ words.with_path paths.old.keys path.now) }
+    ensures { OnOk result (paths.new.keys ≡ words.paths_with_optional_path paths.old.keys
+        path.now) }
 {
     if let Some(path) = path {
         paths.insert(PathText::from_bytes(alloc, path.as_bytes())?)?;
@@ -67,18 +68,19 @@ fn add_path(
 }
 
 /// The paths of git directories, and of the submodules of an index.
-fn protected_paths(
+fn paths_of_git_dirs_and_submodules(
     alloc: Global,
     own: &OwnDirectories,
     entries: &[IndexEntry],
 ) -> Result<Protected, OutOfMemory>
-    ensures { IfOk result (λ paths. paths ≡ words.protected_paths own.now entries.now) }
+    ensures { IfOk result (λ paths. paths ≡ words.paths_of_git_dirs_and_submodules own.now
+        entries.now) }
 {
     let mut paths = BTreeSet::new(alloc);
-    add_path(alloc, &mut paths, &own.git)?;
-    add_path(alloc, &mut paths, &own.common)?;
+    insert_optional_path(alloc, &mut paths, &own.git)?;
+    insert_optional_path(alloc, &mut paths, &own.common)?;
     for entry in entries {
-        if is_submodule(entry) {
+        if is_submodule_entry(entry) {
             paths.insert(PathText::from_bytes(alloc, entry.path.as_bytes())?)?;
         }
     }
@@ -86,39 +88,39 @@ fn protected_paths(
 }
 
 /// The first submodule of an index.
-fn first_submodule(entries: &[IndexEntry]) -> Option<&IndexEntry>
-    ensures { option_copied result ≡ find words.is_submodule entries.now }
+fn first_submodule_entry(entries: &[IndexEntry]) -> Option<&IndexEntry>
+    ensures { option_copied result ≡ find words.is_submodule_entry entries.now }
 {
-    entries.iter().find(|entry| is_submodule(entry))
+    entries.iter().find(|entry| is_submodule_entry(entry))
 }
 
 /// What a deletion leaves alone: these git directories, and the submodules of an index.
 ///
 /// See docs/DIFFERENCES.md#submodule-in-other-letters.
-fn protected_in(
+fn protected_paths_if_deleting(
     alloc: Global,
     deletes: bool,
     ignore_case: bool,
     own: &OwnDirectories,
     entries: &[IndexEntry],
 ) -> Result<Protected, GitRefusal>
-    ensures { Decides result
-        (words.protected_in deletes ignore_case own.now entries.now) }
+    ensures { IsFoundOrRefusesMemory result
+        (words.protected_paths_if_deleting deletes ignore_case own.now entries.now) }
 {
     if !deletes {
         return Ok(Protected::new(alloc));
     }
-    match first_submodule(entries) {
+    match first_submodule_entry(entries) {
         Some(entry) if ignore_case => Err(GitRefusal::SubmoduleCase {
             path: PathText::from_bytes(alloc, entry.path.as_bytes())?,
         }),
-        _ => Ok(protected_paths(alloc, own, entries)?),
+        _ => Ok(paths_of_git_dirs_and_submodules(alloc, own, entries)?),
     }
 }
 
 /// What a deletion leaves alone in a work tree: its git directories, and the submodules of its
 /// index.
-pub fn protected_here<W: Worktree>(
+pub fn find_protected_paths<W: Worktree>(
     alloc: Global,
     worktree: &mut W,
     deletes: bool,
@@ -126,10 +128,10 @@ pub fn protected_here<W: Worktree>(
     places: &Places,
     entries: &[IndexEntry],
 ) -> Result<Protected, GitRefusal>
-    ensures { Finds W.Worktree worktree.old worktree.new
-        (λ t. words.protected_in deletes ignore_case (own_for deletes t places.now) entries.now)
-        result }
+    ensures { FindsOverToldTree W.Worktree worktree.old worktree.new
+        (λ t. words.protected_paths_if_deleting deletes ignore_case
+        (git_dirs_needing_protection_if_deleting deletes t places.now) entries.now) result }
 {
-    let own = own_for(alloc, worktree, deletes, places)?;
-    protected_in(alloc, deletes, ignore_case, &own, entries)
+    let own = git_dirs_needing_protection_if_deleting(alloc, worktree, deletes, places)?;
+    protected_paths_if_deleting(alloc, deletes, ignore_case, &own, entries)
 }

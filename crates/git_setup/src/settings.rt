@@ -1,12 +1,12 @@
 //! What the configuration says of how a work tree is compared with its index.
 ghost use Rattle.std.specs.Prelude.{◌≡◌, is_some, option_copied, IfOk};
-ghost use Rattle.git_setup.specs.Finds.{Decides};
+ghost use Rattle.git_setup.specs.Finds.{IsFoundOrRefusesMemory};
 ghost use Rattle.git_setup.specs.Settings as words;
 
 use crate::error::GitRefusal;
-use crate::switches::{boolean_error, truth_in};
+use crate::switches::{read_boolean_or_default, refusal_of_invalid_config_value};
 use git_config_lite::File;
-use git_places::file_of;
+use git_places::file_of_last_key_value;
 use gitbase_core::{Bytes, OutOfMemory, eq_ignore_case};
 use std::alloc::Global;
 
@@ -39,8 +39,8 @@ pub struct Settings {
 }
 
 /// Whether all fields of a node count, by the value of `core.checkStat`.
-fn check_stat_by(value: &[u8]) -> Option<bool>
-    ensures { result ≡ words.check_stat_by value.now }
+fn parse_check_stat(value: &[u8]) -> Option<bool>
+    ensures { result ≡ words.parse_check_stat value.now }
 {
     if eq_ignore_case(value, b"default") {
         Some(true)
@@ -52,17 +52,17 @@ fn check_stat_by(value: &[u8]) -> Option<bool>
 }
 
 /// Whether all fields of a node count.
-fn check_stat_in(alloc: Global, config: &File) -> Result<bool, GitRefusal>
-    ensures { Decides result (words.check_stat_in config.now.sections) }
+fn read_check_stat(alloc: Global, config: &File) -> Result<bool, GitRefusal>
+    ensures { IsFoundOrRefusesMemory result (words.read_check_stat config.now.sections) }
 {
     let Some(value) = config.string(b"core", None, b"checkstat") else {
         return Ok(true);
     };
-    match check_stat_by(value) {
+    match parse_check_stat(value) {
         Some(checks) => Ok(checks),
         None => {
-            let file = file_of(config, b"core", b"checkstat");
-            Err(boolean_error(alloc, file, b"core.checkStat")?)
+            let file = file_of_last_key_value(config, b"core", b"checkstat");
+            Err(refusal_of_invalid_config_value(alloc, file, b"core.checkStat")?)
         }
     }
 }
@@ -70,13 +70,28 @@ fn check_stat_in(alloc: Global, config: &File) -> Result<bool, GitRefusal>
 /// What the configuration says of how nodes are compared.
 ///
 /// See docs/DIFFERENCES.md#diff-check-stat.
-#[tactic(auto, unfolding(crate::specs::Settings::nodes_in))]
-fn nodes_in(alloc: Global, config: &File) -> Result<NodeSettings, GitRefusal>
-    ensures { Decides result (words.nodes_in config.now.sections) }
+#[tactic(auto, unfolding(crate::specs::Settings::read_stat_and_mode_settings))]
+fn read_stat_and_mode_settings(alloc: Global, config: &File) -> Result<NodeSettings, GitRefusal>
+    ensures { IsFoundOrRefusesMemory result (words.read_stat_and_mode_settings
+        config.now.sections) }
 {
-    let file_mode = truth_in(alloc, config, b"core", b"filemode", b"core.fileMode", true)?;
-    let symlinks = truth_in(alloc, config, b"core", b"symlinks", b"core.symlinks", true)?;
-    let trust_ctime = truth_in(
+    let file_mode = read_boolean_or_default(
+        alloc,
+        config,
+        b"core",
+        b"filemode",
+        b"core.fileMode",
+        true,
+    )?;
+    let symlinks = read_boolean_or_default(
+        alloc,
+        config,
+        b"core",
+        b"symlinks",
+        b"core.symlinks",
+        true,
+    )?;
+    let trust_ctime = read_boolean_or_default(
         alloc,
         config,
         b"core",
@@ -84,7 +99,7 @@ fn nodes_in(alloc: Global, config: &File) -> Result<NodeSettings, GitRefusal>
         b"core.trustctime",
         true,
     )?;
-    let check_stat = check_stat_in(alloc, config)?;
+    let check_stat = read_check_stat(alloc, config)?;
     Ok(NodeSettings {
         file_mode,
         symlinks,
@@ -94,7 +109,7 @@ fn nodes_in(alloc: Global, config: &File) -> Result<NodeSettings, GitRefusal>
 }
 
 /// That a key of the configuration is not heeded.
-fn not_heeded(alloc: Global, key: &[u8]) -> Result<GitRefusal, OutOfMemory>
+fn refusal_key_not_supported(alloc: Global, key: &[u8]) -> Result<GitRefusal, OutOfMemory>
     ensures { IfOk result (λ e. e ≡ GitRefusal.Elsewhere key.now) }
 {
     Ok(GitRefusal::Elsewhere {
@@ -104,8 +119,8 @@ fn not_heeded(alloc: Global, key: &[u8]) -> Result<GitRefusal, OutOfMemory>
 
 /// Whether a program tells which files changed: any value of `core.fsmonitor` but one that is
 /// false.
-fn is_watched(config: &File) -> bool
-    ensures { result ≡ words.is_watched config.now.sections }
+fn has_fsmonitor(config: &File) -> bool
+    ensures { result ≡ words.has_fsmonitor config.now.sections }
 {
     !matches!(
         config.boolean(b"core", None, b"fsmonitor"),
@@ -117,28 +132,29 @@ fn is_watched(config: &File) -> bool
 /// changed.
 ///
 /// See docs/DIFFERENCES.md#diff-watched.
-pub fn node_settings_unless_fsmonitor(
+pub fn stat_and_mode_settings_unless_fsmonitor(
     alloc: Global,
     config: &File,
 ) -> Result<NodeSettings, GitRefusal>
-    ensures { Decides result (words.node_settings_unless_fsmonitor config.now.sections) }
+    ensures { IsFoundOrRefusesMemory result (words.stat_and_mode_settings_unless_fsmonitor
+        config.now.sections) }
 {
-    if is_watched(config) {
-        return Err(not_heeded(alloc, b"core.fsmonitor")?);
+    if has_fsmonitor(config) {
+        return Err(refusal_key_not_supported(alloc, b"core.fsmonitor")?);
     }
-    nodes_in(alloc, config)
+    read_stat_and_mode_settings(alloc, config)
 }
 
-/// Whether a key of `core` has a value.
-fn is_said(config: &File, key: &[u8]) -> bool
-    ensures { result ≡ words.is_said key.now config.now.sections }
+/// Whether a key of `text_without_leading_star` has a value.
+fn has_core_key(config: &File, key: &[u8]) -> bool
+    ensures { result ≡ words.has_core_key key.now config.now.sections }
 {
     config.string(b"core", None, key).is_some()
 }
 
 /// Whether a value of `core.autocrlf` has line ends converted on their way into the index alone.
-fn is_input(value: Option<&[u8]>) -> bool
-    ensures { result ≡ words.is_input (option_copied value.entry) }
+fn is_autocrlf_input(value: Option<&[u8]>) -> bool
+    ensures { result ≡ words.is_autocrlf_input (option_copied value.entry) }
 {
     match value {
         Some(value) => eq_ignore_case(value, b"input"),
@@ -147,21 +163,22 @@ fn is_input(value: Option<&[u8]>) -> bool
 }
 
 /// Whether `core.autocrlf` has line ends converted.
-fn autocrlf_in(alloc: Global, config: &File) -> Result<bool, GitRefusal>
-    ensures { Decides result (words.autocrlf_in config.now.sections) }
+fn converts_line_ends_by_autocrlf(alloc: Global, config: &File) -> Result<bool, GitRefusal>
+    ensures { IsFoundOrRefusesMemory result (words.converts_line_ends_by_autocrlf
+        config.now.sections) }
 {
-    if is_input(config.string(b"core", None, b"autocrlf")) {
+    if is_autocrlf_input(config.string(b"core", None, b"autocrlf")) {
         return Ok(true);
     }
-    truth_in(alloc, config, b"core", b"autocrlf", b"core.autocrlf", false)
+    read_boolean_or_default(alloc, config, b"core", b"autocrlf", b"core.autocrlf", false)
 }
 
 /// Whether the configuration alone says that bytes may be converted.
-pub fn converts_in(alloc: Global, config: &File) -> Result<bool, GitRefusal>
-    ensures { Decides result (words.converts_in config.now.sections) }
+pub fn may_convert_by_config(alloc: Global, config: &File) -> Result<bool, GitRefusal>
+    ensures { IsFoundOrRefusesMemory result (words.may_convert_by_config config.now.sections) }
 {
-    let converts = autocrlf_in(alloc, config)?;
-    let ends = is_said(config, b"eol");
-    let attributes = is_said(config, b"attributesfile");
+    let converts = converts_line_ends_by_autocrlf(alloc, config)?;
+    let ends = has_core_key(config, b"eol");
+    let attributes = has_core_key(config, b"attributesfile");
     Ok(converts | (ends | attributes))
 }

@@ -1,12 +1,12 @@
 //! What the configuration says of how names compare, of a sparse work tree, and of how paths are
 //! written.
 ghost use Rattle.std.specs.Prelude.{◌≡◌, IfOk, option_copied};
-ghost use Rattle.git_setup.specs.Finds.{Decides};
+ghost use Rattle.git_setup.specs.Finds.{IsFoundOrRefusesMemory};
 ghost use Rattle.git_setup.specs.Switches as words;
 
 use crate::error::GitRefusal;
 use git_config_lite::File;
-use git_places::{file_of, path_copied};
+use git_places::{copy_optional_path, file_of_last_key_value};
 use gitbase_core::{Bytes, OutOfMemory, PathText};
 use std::alloc::Global;
 
@@ -23,7 +23,7 @@ pub struct Switches {
 }
 
 /// The refusal of the value of a key in a file, by what the key is called.
-pub fn boolean_error(
+pub fn refusal_of_invalid_config_value(
     alloc: Global,
     file: Option<&PathText>,
     name: &[u8],
@@ -31,14 +31,14 @@ pub fn boolean_error(
     ensures { IfOk result (λ e. e ≡ GitRefusal.Boolean (option_copied file.entry) name.now) }
 {
     Ok(GitRefusal::Boolean {
-        path: path_copied(alloc, file)?,
+        path: copy_optional_path(alloc, file)?,
         key: Bytes::from_slice(alloc, name)?,
     })
 }
 
 /// What a key says as a boolean, and the usual answer where it says nothing; `name` is what it is
 /// called where it is refused.
-pub fn truth_in(
+pub fn read_boolean_or_default(
     alloc: Global,
     config: &File,
     section: &[u8],
@@ -46,24 +46,32 @@ pub fn truth_in(
     name: &[u8],
     usual: bool,
 ) -> Result<bool, GitRefusal>
-    ensures { Decides result (words.truth_in config.now.sections section.now key.now name.now
-        usual) }
+    ensures { IsFoundOrRefusesMemory result (words.read_boolean_or_default config.now.sections
+        section.now key.now name.now usual) }
 {
     match config.boolean(section, None, key) {
         Ok(Some(truth)) => Ok(truth),
         Ok(None) => Ok(usual),
-        Err(_) => Err(boolean_error(alloc, file_of(config, section, key), name)?),
+        Err(_) => Err(refusal_of_invalid_config_value(
+            alloc,
+            file_of_last_key_value(config, section, key),
+            name,
+        )?),
     }
 }
 
 /// The switches of a configuration.
 ///
 /// See docs/DIFFERENCES.md#last-boolean.
-#[tactic(auto, unfolding(crate::specs::Switches::switches_in))]
-pub fn switches_in(alloc: Global, config: &File) -> Result<Switches, GitRefusal>
-    ensures { Decides result (words.switches_in config.now.sections) }
+#[tactic(auto, unfolding(crate::specs::Switches::read_case_sparse_and_quote_switches))]
+pub fn read_case_sparse_and_quote_switches(
+    alloc: Global,
+    config: &File,
+) -> Result<Switches, GitRefusal>
+    ensures { IsFoundOrRefusesMemory result (words.read_case_sparse_and_quote_switches
+        config.now.sections) }
 {
-    let ignore_case = truth_in(
+    let ignore_case = read_boolean_or_default(
         alloc,
         config,
         b"core",
@@ -71,7 +79,7 @@ pub fn switches_in(alloc: Global, config: &File) -> Result<Switches, GitRefusal>
         b"core.ignoreCase",
         false,
     )?;
-    let sparse = truth_in(
+    let sparse = read_boolean_or_default(
         alloc,
         config,
         b"core",
@@ -79,7 +87,7 @@ pub fn switches_in(alloc: Global, config: &File) -> Result<Switches, GitRefusal>
         b"core.sparseCheckout",
         false,
     )?;
-    let expects = truth_in(
+    let expects = read_boolean_or_default(
         alloc,
         config,
         b"sparse",
@@ -87,7 +95,7 @@ pub fn switches_in(alloc: Global, config: &File) -> Result<Switches, GitRefusal>
         b"sparse.expectFilesOutsideOfPatterns",
         false,
     )?;
-    let quote_path = truth_in(
+    let quote_path = read_boolean_or_default(
         alloc,
         config,
         b"core",

@@ -3,7 +3,7 @@ ghost use Rattle.std.specs.Prelude.{◌≡◌, ◌&&◌, ◌++◌, ◌∷◌, []
 ghost use Rattle.std.specs.List.{list_any};
 ghost use Rattle.git_setup.specs.AskedSpecs as words;
 
-use crate::placed::parted;
+use crate::placed::split_pathspec_into_magic_and_path;
 use gitbase_core::{Bytes, OutOfMemory};
 use std::alloc::Global;
 
@@ -20,12 +20,12 @@ pub struct Written {
 fn excludes(alloc: Global, text: &[u8]) -> Result<bool, OutOfMemory>
     ensures { IfOk result (λ is. is ≡ words.excludes text.now) }
 {
-    Ok(parted(alloc, text)?.excludes)
+    Ok(split_pathspec_into_magic_and_path(alloc, text)?.excludes)
 }
 
 /// Whether one of some texts does not.
-fn has_positive(alloc: Global, texts: &[Bytes]) -> Result<bool, OutOfMemory>
-    ensures { IfOk result (λ is. is ≡ list_any words.is_positive texts.now) }
+fn has_positive_pathspec(alloc: Global, texts: &[Bytes]) -> Result<bool, OutOfMemory>
+    ensures { IfOk result (λ is. is ≡ list_any words.is_positive_pathspec texts.now) }
 {
     for text in texts {
         if !excludes(alloc, text.as_bytes())? {
@@ -36,18 +36,27 @@ fn has_positive(alloc: Global, texts: &[Bytes]) -> Result<bool, OutOfMemory>
 }
 
 /// Whether the directory itself is meant, in which texts are asked for.
-fn means_here(alloc: Global, prefix: &[u8], texts: &[Bytes]) -> Result<bool, OutOfMemory>
-    ensures { IfOk result (λ is. is ≡ words.means_here prefix.now texts.now) }
+fn is_current_directory_implied(
+    alloc: Global,
+    prefix: &[u8],
+    texts: &[Bytes],
+) -> Result<bool, OutOfMemory>
+    ensures { IfOk result (λ is. is ≡ words.is_current_directory_implied prefix.now texts.now) }
 {
     if texts.is_empty() {
         return Ok(!prefix.is_empty());
     }
-    Ok(!has_positive(alloc, texts)?)
+    Ok(!has_positive_pathspec(alloc, texts)?)
 }
 
 /// What tells of the directory in which texts are asked for.
-fn told_here(alloc: Global, prefix: &[u8], texts: &[Bytes]) -> Result<Bytes, OutOfMemory>
-    ensures { IfOk result (λ told. told ≡ words.told_here prefix.now texts.now) }
+fn name_of_current_directory_spec(
+    alloc: Global,
+    prefix: &[u8],
+    texts: &[Bytes],
+) -> Result<Bytes, OutOfMemory>
+    ensures { IfOk result (λ told. told ≡ words.name_of_current_directory_spec prefix.now
+        texts.now) }
 {
     if !texts.is_empty() {
         return Bytes::from_slice(alloc, b".");
@@ -67,14 +76,14 @@ fn current_directory_pathspec(
         texts.now) }
 {
     Ok(Written {
-        told: told_here(alloc, prefix, texts)?,
+        told: name_of_current_directory_spec(alloc, prefix, texts)?,
         text: Bytes::from_slice(alloc, b":(literal).")?,
     })
 }
 
 /// A text as it is asked for.
-fn as_written(alloc: Global, text: &[u8]) -> Result<Written, OutOfMemory>
-    ensures { IfOk result (λ written. written ≡ words.as_written text.now) }
+fn written_pathspec_of_text(alloc: Global, text: &[u8]) -> Result<Written, OutOfMemory>
+    ensures { IfOk result (λ written. written ≡ words.written_pathspec_of_text text.now) }
 {
     Ok(Written {
         told: Bytes::from_slice(alloc, text)?,
@@ -83,18 +92,19 @@ fn as_written(alloc: Global, text: &[u8]) -> Result<Written, OutOfMemory>
 }
 
 /// Texts as they are asked for.
-fn all_written(alloc: Global, texts: &[Bytes]) -> Result<Vec<Written>, OutOfMemory>
-    ensures { IfOk result (λ written. written.items ≡ map words.as_written texts.now) }
+fn written_pathspecs_of_texts(alloc: Global, texts: &[Bytes]) -> Result<Vec<Written>, OutOfMemory>
+    ensures { IfOk result (λ written. written.items ≡ map words.written_pathspec_of_text
+        texts.now) }
 {
     let mut written = Vec::new(alloc);
     for text in texts {
-        written.push(as_written(alloc, text.as_bytes())?)?;
+        written.push(written_pathspec_of_text(alloc, text.as_bytes())?)?;
     }
     Ok(written)
 }
 
 /// Adds the directory in which texts are asked for.
-fn add_here(
+fn push_current_directory_pathspec(
     alloc: Global,
     written: &mut Vec<Written>,
     prefix: &[u8],
@@ -108,36 +118,37 @@ fn add_here(
 }
 
 /// Whether the directory is to stand behind some texts.
-fn takes_here(
+fn is_current_directory_to_be_added(
     alloc: Global,
     prefers: bool,
     prefix: &[u8],
     texts: &[Bytes],
 ) -> Result<bool, OutOfMemory>
-    ensures { IfOk result (λ is. is ≡ (prefers && words.means_here prefix.now texts.now)) }
+    ensures { IfOk result (λ is. is ≡ (prefers && words.is_current_directory_implied prefix.now
+        texts.now)) }
 {
     if !prefers {
         return Ok(false);
     }
-    means_here(alloc, prefix, texts)
+    is_current_directory_implied(alloc, prefix, texts)
 }
 
 /// Some texts as they are asked for in the directory `prefix` of a work tree. Where `prefers` says
 /// so, the directory itself stands behind them if there are none, unless it is the top, and if each
 /// excludes.
-#[tactic(auto, unfolding(crate::specs::AskedSpecs::written_in))]
-pub fn written_in(
+#[tactic(auto, unfolding(crate::specs::AskedSpecs::pathspecs_with_implied_current_directory))]
+pub fn pathspecs_with_implied_current_directory(
     alloc: Global,
     prefers: bool,
     prefix: &[u8],
     texts: &[Bytes],
 ) -> Result<Vec<Written>, OutOfMemory>
-    ensures { IfOk result
-        (λ written. written.items ≡ words.written_in prefers prefix.now texts.now) }
+    ensures { IfOk result (λ written. written.items ≡ words.pathspecs_with_implied_current_directory
+        prefers prefix.now texts.now) }
 {
-    let mut written = all_written(alloc, texts)?;
-    if takes_here(alloc, prefers, prefix, texts)? {
-        add_here(alloc, &mut written, prefix, texts)?;
+    let mut written = written_pathspecs_of_texts(alloc, texts)?;
+    if is_current_directory_to_be_added(alloc, prefers, prefix, texts)? {
+        push_current_directory_pathspec(alloc, &mut written, prefix, texts)?;
     }
     Ok(written)
 }

@@ -1,9 +1,9 @@
 //! What is asked in the trees of the rows, from their words.
 use git_places::Surroundings;
-use git_setup::{Asked, Found, GitRefusal, setup_here};
+use git_setup::{Asked, Found, GitRefusal, find_and_read_setup};
 use gitbase_core::{Bytes, OutOfMemory, PathText};
 use std::alloc::Global;
-use test_cases::tree_of;
+use test_cases::tree_from_steps;
 use worktree_fs::{MemoryOwners, OwnedNode, Ownership};
 use worktree_report::{Setup, SetupOptions};
 
@@ -80,8 +80,8 @@ pub fn found_in(
     directory: &[u8],
     asked: &Asked,
 ) -> Option<Result<Found, GitRefusal>> {
-    let mut tree = tree_of(alloc, steps, b'$')?;
+    let mut tree = tree_from_steps(alloc, steps, b'$')?;
     let mut owners = owners_of(alloc).ok()?;
     let around = surroundings_in(alloc, directory)?;
-    Some(setup_here(alloc, &mut tree, &mut owners, &around, asked))
+    Some(find_and_read_setup(alloc, &mut tree, &mut owners, &around, asked))
 }

@@ -5,10 +5,10 @@ use crate::asked::{asked_alone, asked_for, owners_of, surroundings_in, usual_opt
 use bstr::ByteSlice;
 use dir_classify::ForDeletionMode;
 use git_places::Surroundings;
-use git_setup::{Asked, Found, GitRefusal, setup_here};
+use git_setup::{Asked, Found, GitRefusal, find_and_read_setup};
 use gitbase_core::{Bytes, PathText};
 use std::alloc::Global;
-use test_cases::{split_at_byte, tree_of};
+use test_cases::{split_at_byte, tree_from_steps};
 use worktree_fs::{MemoryOwners, MemoryWorktree};
 use worktree_report::SetupOptions;
 
@@ -107,7 +107,7 @@ fn answers(
     asked: &Asked,
     want: &[u8],
 ) -> bool {
-    match setup_here(alloc, tree, owners, around, asked) {
+    match find_and_read_setup(alloc, tree, owners, around, asked) {
         Ok(_) => want == b"ok".as_slice(),
         Err(error) => is_refused(&error, want),
     }
@@ -154,7 +154,7 @@ fn is_answered(alloc: Global, want: &[u8], letters: &[u8], rest: &[u8]) -> Optio
     let (directory, rest) = split_at_byte(rest, b'^');
     let (spec, steps) = split_at_byte(rest, b'^');
     let all = steps_of(alloc, steps)?;
-    let mut tree = tree_of(alloc, &all, b'$')?;
+    let mut tree = tree_from_steps(alloc, &all, b'$')?;
     let mut owners = owners_of(alloc).ok()?;
     let around = around_of(alloc, letters, directory)?;
     let asked = asked_of(alloc, letters, spec)?;

@@ -6,7 +6,7 @@ use git_setup::{Asked, Found};
 use gitbase_core::PathText;
 use std::alloc::Global;
 use std::collections::BTreeSet;
-use test_cases::{lines_of, split_at_byte};
+use test_cases::{replace_marks_by_line_feeds, split_at_byte};
 use worktree_report::{Configs, Setup, SetupOptions};
 
 fn are_in(paths: &BTreeSet<PathText>, others: &BTreeSet<PathText>) -> bool {
@@ -61,7 +61,7 @@ fn is_met(alloc: Global, row: &[u8]) -> bool {
     let (text, rest) = split_at_byte(row, b'^');
     let (directory, rest) = split_at_byte(rest, b'^');
     let (_, steps) = split_at_byte(rest, b'^');
-    let Some(lines) = lines_of(alloc, text, b'$') else {
+    let Some(lines) = replace_marks_by_line_feeds(alloc, text, b'$') else {
         return false;
     };
     match Setup::parse(alloc, &lines) {

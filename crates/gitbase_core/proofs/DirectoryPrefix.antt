@@ -6,8 +6,8 @@ use Rattle.std.specs.Str.{bytes_eq}
 use Rattle.std.proofs.lemmas.Cmp.{nat_cmp_total, nat_eq_equiv, tied_itself}
 use Rattle.std.proofs.lemmas.List.{append-nil, take-append-drop, length-append, length-take, get_or-append-add}
 use Rattle.std.proofs.lemmas.Slice.Eq.{bytes_eq-Decides}
-use Rattle.gitbase_core.specs.Index.{path_cmp}
-use Rattle.gitbase_core.specs.Path.{is_empty, ends_in_slash, joined, directory_prefix}
+use Rattle.gitbase_core.specs.Index.{compare_path_bytes}
+use Rattle.gitbase_core.specs.Path.{is_empty, ends_in_slash, path_joined_with_slash, path_with_trailing_slash}
 
 -- ---- prefixes in two parts
 
@@ -44,13 +44,13 @@ front-fits front path h =
     omega (arith, length-take (length front) path)
 
 -- a common front does not count
-pub cmp-front : (front a b : List ℕ) → path_cmp (front ++ a) (front ++ b) ≡ path_cmp a b
+pub cmp-front : (front a b : List ℕ) → compare_path_bytes (front ++ a) (front ++ b) ≡ compare_path_bytes a b
 cmp-front [] a b = refl
 cmp-front (f ∷ front) a b = rw (tied_itself nat_cmp_total f) (cmp-front front a b)
 
 -- ---- fronts of directories
 
-pub joined-front : (directory name : List ℕ) → joined directory name ≡ directory_prefix directory ++ name
+pub joined-front : (directory name : List ℕ) → path_joined_with_slash directory name ≡ path_with_trailing_slash directory ++ name
 joined-front directory name = by_test (is_empty directory || ends_in_slash directory)
   where
     by_test : (t : Bool) → cond t (directory ++ name) (directory ++ 47 ∷ name) ≡ cond t directory (directory ++ 47 ∷ []) ++ name
@@ -67,7 +67,7 @@ or-right : (a b : Bool) → b ≡ true → (a || b) ≡ true
 or-right true b h = refl
 or-right false b h = h
 
-front-closed : (directory : List ℕ) → (is_empty (directory_prefix directory) || ends_in_slash (directory_prefix directory)) ≡ true
+front-closed : (directory : List ℕ) → (is_empty (path_with_trailing_slash directory) || ends_in_slash (path_with_trailing_slash directory)) ≡ true
 front-closed directory = by_test (is_empty directory || ends_in_slash directory) refl
   where
     by_test : (t : Bool) → (is_empty directory || ends_in_slash directory) ≡ t
@@ -79,8 +79,8 @@ not_empty : (front : List ℕ) (b : ℕ) (name : List ℕ) → is_empty (front +
 not_empty [] b name = refl
 not_empty (f ∷ front) b name = refl
 
-front-append : (front name : List ℕ) → (is_empty front || ends_in_slash front) ≡ true → directory_prefix (front ++ name) ≡ front ++ directory_prefix name
-front-append front [] closed = ap directory_prefix (append-nil front) ∙ rw closed (sym (append-nil front))
+front-append : (front name : List ℕ) → (is_empty front || ends_in_slash front) ≡ true → path_with_trailing_slash (front ++ name) ≡ front ++ path_with_trailing_slash name
+front-append front [] closed = ap path_with_trailing_slash (append-nil front) ∙ rw closed (sym (append-nil front))
 front-append front (b ∷ name) closed = rw (not_empty front b name, ends-append front b name) (by_test (ends_in_slash (b ∷ name)))
   where
     by_test : (t : Bool) → cond t (front ++ b ∷ name) ((front ++ b ∷ name) ++ 47 ∷ []) ≡ front ++ cond t (b ∷ name) (b ∷ name ++ 47 ∷ [])
@@ -88,5 +88,5 @@ front-append front (b ∷ name) closed = rw (not_empty front b name, ends-append
     by_test false = append_assoc front (b ∷ name) (47 ∷ [])
 
 -- the front of a directory in a directory
-pub front-joined : (directory name : List ℕ) → directory_prefix (joined directory name) ≡ directory_prefix directory ++ directory_prefix name
-front-joined directory name = ap directory_prefix (joined-front directory name) ∙ front-append (directory_prefix directory) name (front-closed directory)
+pub front-joined : (directory name : List ℕ) → path_with_trailing_slash (path_joined_with_slash directory name) ≡ path_with_trailing_slash directory ++ path_with_trailing_slash name
+front-joined directory name = ap path_with_trailing_slash (joined-front directory name) ∙ front-append (path_with_trailing_slash directory) name (front-closed directory)

@@ -10,18 +10,18 @@ use Rattle.std.proofs.lemmas.Cmp.{nat_cmp_total, nat_list_cmp_total, tied_itself
 use Rattle.std.proofs.lemmas.List.{drop_more, drop_all, drop-map, take-map, length-map, length-drop, map-append}
 use Rattle.std.proofs.lemmas.Map.Lookups.{exact_bytes}
 use Rattle.gitbase_core.specs.Text.{fold_case}
-use Rattle.gitbase_core.specs.Index.{path_cmp, prefix_cmp}
+use Rattle.gitbase_core.specs.Index.{compare_path_bytes, compare_path_start_with_prefix}
 use Rattle.gitbase_core.proofs.PrefixOrder.{prefix_cmp-append, take-min, drop-min}
 
 -- ---- byte by byte
 
 pub fold_case-step : (left right : List ℕ) (i : ℕ) → i < length left → i < length right
-    → path_cmp (fold_case (drop i left)) (fold_case (drop i right))
+    → compare_path_bytes (fold_case (drop i left)) (fold_case (drop i right))
     ≡ ordering_then (nat_cmp (to_ascii_lowercase (get_or left i 0)) (to_ascii_lowercase (get_or right i 0)))
-    (path_cmp (fold_case (drop (i + 1) left)) (fold_case (drop (i + 1) right)))
+    (compare_path_bytes (fold_case (drop (i + 1) left)) (fold_case (drop (i + 1) right)))
 fold_case-step left right i low high =
-    ap (λ (l : List ℕ). path_cmp (fold_case l) (fold_case (drop i right))) (drop_more left i 0 low)
-    ∙ ap (λ (r : List ℕ). path_cmp (fold_case (get_or left i 0 ∷ drop (i + 1) left)) (fold_case r)) (drop_more right i 0 high)
+    ap (λ (l : List ℕ). compare_path_bytes (fold_case l) (fold_case (drop i right))) (drop_more left i 0 low)
+    ∙ ap (λ (r : List ℕ). compare_path_bytes (fold_case (get_or left i 0 ∷ drop (i + 1) left)) (fold_case r)) (drop_more right i 0 high)
 
 pub decided : (o rest : Ordering) → is_eq o ≡ false → ordering_then o rest ≡ o
 decided Less rest h = refl
@@ -36,26 +36,26 @@ undecided Greater rest h = absurd (cc)
 less : (a b : ℕ) → a < b → nat_cmp a b ≡ Less
 less a b low = rw (lt-ltb a b low) refl
 
-ended-left : (a : ℕ) (right : List ℕ) (n b : ℕ) → a + length right ≡ b → path_cmp [] (fold_case right) ≡ nat_cmp a b
+ended-left : (a : ℕ) (right : List ℕ) (n b : ℕ) → a + length right ≡ b → compare_path_bytes [] (fold_case right) ≡ nat_cmp a b
 ended-left a [] n b size = let same : a ≡ b = omega arith in rw same (sym (tied_itself nat_cmp_total b))
 ended-left a (y ∷ right) n b size = sym (less a b (omega arith))
 
-ended-right : (b : ℕ) (left : List ℕ) (n a : ℕ) → b + length left ≡ a → path_cmp (fold_case left) [] ≡ nat_cmp a b
+ended-right : (b : ℕ) (left : List ℕ) (n a : ℕ) → b + length left ≡ a → compare_path_bytes (fold_case left) [] ≡ nat_cmp a b
 ended-right b [] n a size = let same : a ≡ b = omega arith in rw same (sym (tied_itself nat_cmp_total b))
 ended-right b (x ∷ left) n a size = sym (nat_cmp_total.antisymm a b ∙ ap ordering_reverse (less b a (omega arith)))
 
 -- where one of two paths ends, their lengths decide
 pub ended : (left right : List ℕ) (n : ℕ) → n ≡ min (length left) (length right)
-    → path_cmp (fold_case (drop n left)) (fold_case (drop n right)) ≡ nat_cmp (length left) (length right)
+    → compare_path_bytes (fold_case (drop n left)) (fold_case (drop n right)) ≡ nat_cmp (length left) (length right)
 ended left right n is =
     elim (cases_lt (length left) (length right)) [
       | inl low ↦
           let e : n ≡ length left = omega arith in
-          ap (λ (l : List ℕ). path_cmp (fold_case l) (fold_case (drop n right))) (drop_all n left (omega arith))
+          ap (λ (l : List ℕ). compare_path_bytes (fold_case l) (fold_case (drop n right))) (drop_all n left (omega arith))
           ∙ ended-left (length left) (drop n right) n (length right) (omega (arith, length-drop n right))
       | inr high ↦
           let e : n ≡ length right = omega arith in
-          ap (λ (r : List ℕ). path_cmp (fold_case (drop n left)) (fold_case r)) (drop_all n right (omega arith))
+          ap (λ (r : List ℕ). compare_path_bytes (fold_case (drop n left)) (fold_case r)) (drop_all n right (omega arith))
           ∙ ended-right (length right) (drop n left) n (length left) (omega (arith, length-drop n left))
     ]
 
@@ -64,32 +64,32 @@ equal_is Less h = absurd (cc)
 equal_is Equal h = refl
 equal_is Greater h = absurd (cc)
 
-pub same_from_order : (a b : List ℕ) (o : Ordering) → o ≡ path_cmp a b → is_eq o ≡ true → a ≡ b
+pub same_from_order : (a b : List ℕ) (o : Ordering) → o ≡ compare_path_bytes a b → is_eq o ≡ true → a ≡ b
 same_from_order a b o is tied = exact_bytes a b (sym is ∙ equal_is o tied)
 
-pub other_from_order : (a b : List ℕ) (o : Ordering) → o ≡ path_cmp a b → is_eq o ≡ false → a ≡ b → ⊥
+pub other_from_order : (a b : List ℕ) (o : Ordering) → o ≡ compare_path_bytes a b → is_eq o ≡ false → a ≡ b → ⊥
 other_from_order a b o is differs same =
-    let tied : path_cmp a b ≡ Equal = rw same (tied_itself nat_list_cmp_total b) in
+    let tied : compare_path_bytes a b ≡ Equal = rw same (tied_itself nat_list_cmp_total b) in
     let equal : is_eq o ≡ true = ap is_eq (is ∙ tied) in
     absurd (cc (equal, differs))
 
 -- ---- beside a prefix in two parts
 
-front-same : (front path : List ℕ) → path_cmp (fold_case (take (length front) path)) (fold_case front) ≡ prefix_cmp (fold_case front) (fold_case path)
+front-same : (front path : List ℕ) → compare_path_bytes (fold_case (take (length front) path)) (fold_case front) ≡ compare_path_start_with_prefix (fold_case front) (fold_case path)
 front-same front path =
-    ap (λ (p : List ℕ). path_cmp p (fold_case front))
+    ap (λ (p : List ℕ). compare_path_bytes p (fold_case front))
     (sym (take-map to_ascii_lowercase (length front) path) ∙ ap (λ (n : ℕ). take n (fold_case path)) (sym (length-map front to_ascii_lowercase)))
 
-pub fold_case-parts : (front back path : List ℕ) → ordering_then (path_cmp (fold_case (take (min (length path) (length front)) path)) (fold_case front))
-    (path_cmp (fold_case (take (min (length (drop (min (length path) (length front)) path)) (length back)) (drop (min (length path) (length front)) path))) (fold_case back))
-    ≡ prefix_cmp (fold_case (front ++ back)) (fold_case path)
+pub fold_case-parts : (front back path : List ℕ) → ordering_then (compare_path_bytes (fold_case (take (min (length path) (length front)) path)) (fold_case front))
+    (compare_path_bytes (fold_case (take (min (length (drop (min (length path) (length front)) path)) (length back)) (drop (min (length path) (length front)) path))) (fold_case back))
+    ≡ compare_path_start_with_prefix (fold_case (front ++ back)) (fold_case path)
 fold_case-parts front back path =
     rw (take-min (length front) path, drop-min (length front) path, take-min (length back) (drop (length front) path))
-    (ap (λ (o : Ordering). ordering_then o (path_cmp (fold_case (take (length back) (drop (length front) path))) (fold_case back))) (front-same front path)
-    ∙ ap (ordering_then (prefix_cmp (fold_case front) (fold_case path))) (front-same back (drop (length front) path)
-    ∙ ap (prefix_cmp (fold_case back)) (sym (drop-map to_ascii_lowercase (length front) path) ∙ ap (λ (n : ℕ). drop n (fold_case path)) (sym (length-map front to_ascii_lowercase))))
+    (ap (λ (o : Ordering). ordering_then o (compare_path_bytes (fold_case (take (length back) (drop (length front) path))) (fold_case back))) (front-same front path)
+    ∙ ap (ordering_then (compare_path_start_with_prefix (fold_case front) (fold_case path))) (front-same back (drop (length front) path)
+    ∙ ap (compare_path_start_with_prefix (fold_case back)) (sym (drop-map to_ascii_lowercase (length front) path) ∙ ap (λ (n : ℕ). drop n (fold_case path)) (sym (length-map front to_ascii_lowercase))))
     ∙ prefix_cmp-append (fold_case front) (fold_case back) (fold_case path)
-    ∙ ap (λ (p : List ℕ). prefix_cmp p (fold_case path)) (sym (map-append to_ascii_lowercase front back)))
+    ∙ ap (λ (p : List ℕ). compare_path_start_with_prefix p (fold_case path)) (sym (map-append to_ascii_lowercase front back)))
 
 -- ---- the numbers below a bound
 

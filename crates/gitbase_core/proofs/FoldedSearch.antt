@@ -17,13 +17,13 @@ use Rattle.std.proofs.lemmas.List.Sums.{position_or_len_is}
 use Rattle.std.proofs.lemmas.Option.{slice_get_within, get_or_from_slice_get, slice_get-get_or}
 use Rattle.std.proofs.lemmas.Slice.Eq.{bytes_eq-Decides}
 use Rattle.gitbase_core.specs.Text.{fold_case}
-use Rattle.gitbase_core.specs.Lookup.{folded_path, folded_path_of, number_cmp, IsLookupOf, entry_at_icase, entry_beneath_icase}
-use Rattle.gitbase_core.specs.Index.{path_cmp, key_begins, IsRun, AscendsBy, IsLowerBound}
+use Rattle.gitbase_core.specs.Lookup.{folded_path_of_optional_entry, folded_path_of_numbered_entry, compare_entry_numbers_by_folded_path, IsCaseFoldedLookupOfEntries, first_entry_at_path_icase, first_entry_beneath_directory_icase}
+use Rattle.gitbase_core.specs.Index.{compare_path_bytes, key_begins_with_prefix, IsExactRangeOfMatches, IsSortedByPathKey, IsFirstElementNotBelowPath}
 use Rattle.gitbase_core.specs.declared.entry.IndexEntry.{IndexEntry}
 use Rattle.gitbase_core.proofs.PathSearch.{find-none, other, past}
 
-pub number_cmp_total : (entries : List IndexEntry) → IsTotalOrder (number_cmp entries)
-number_cmp_total entries = then_total (on_total (folded_path_of entries) nat_list_cmp_total) nat_cmp_total
+pub number_cmp_total : (entries : List IndexEntry) → IsTotalOrder (compare_entry_numbers_by_folded_path entries)
+number_cmp_total entries = then_total (on_total (folded_path_of_numbered_entry entries) nat_list_cmp_total) nat_cmp_total
 
 -- an order by two parts in which a later element is not below an earlier one
 not_below-first : (o p : Ordering) → is_lt (ordering_then o p) ≡ false → is_le (ordering_reverse o) ≡ true
@@ -48,23 +48,23 @@ all-false p (x ∷ xs) none k d low = by_test (p x) refl (λ rest. all-false p x
     by_test false e more zero low = e
     by_test false e more (suc k) low = more (rw e at none) k d (omega arith)
 
-module _ (entries : List IndexEntry) (numbers : List ℕ) (is : IsLookupOf entries numbers) where
-  pair : (i j : ℕ) (d : ℕ) → i ≤ j → j < length numbers → is_lt (number_cmp entries (get_or numbers j d) (get_or numbers i d)) ≡ false
-  pair i j d low high = sorted_far (λ a b. is_lt (number_cmp entries a b)) (ranks_by (number_cmp_total entries) (λ (n : ℕ). n)) numbers is.ascending i j d low high
+module _ (entries : List IndexEntry) (numbers : List ℕ) (is : IsCaseFoldedLookupOfEntries entries numbers) where
+  pair : (i j : ℕ) (d : ℕ) → i ≤ j → j < length numbers → is_lt (compare_entry_numbers_by_folded_path entries (get_or numbers j d) (get_or numbers i d)) ≡ false
+  pair i j d low high = sorted_far (λ a b. is_lt (compare_entry_numbers_by_folded_path entries a b)) (ranks_by (number_cmp_total entries) (λ (n : ℕ). n)) numbers is.ascending i j d low high
 
-  pub never-fold_case : AscendsBy (folded_path_of entries) numbers
+  pub never-fold_case : IsSortedByPathKey (folded_path_of_numbered_entry entries) numbers
   never-fold_case = record {
     at = λ i j d low high.
-        ap is_le (nat_list_cmp_total.antisymm (folded_path_of entries (get_or numbers i d)) (folded_path_of entries (get_or numbers j d)))
+        ap is_le (nat_list_cmp_total.antisymm (folded_path_of_numbered_entry entries (get_or numbers i d)) (folded_path_of_numbered_entry entries (get_or numbers j d)))
         ∙ not_below-first _ (nat_cmp (get_or numbers j d) (get_or numbers i d)) (pair i j d low high);
   }
 
   -- numbers of one folded path ascend
-  in_order : (i j d : ℕ) → i ≤ j → j < length numbers → folded_path_of entries (get_or numbers i d) ≡ folded_path_of entries (get_or numbers j d)
+  in_order : (i j d : ℕ) → i ≤ j → j < length numbers → folded_path_of_numbered_entry entries (get_or numbers i d) ≡ folded_path_of_numbered_entry entries (get_or numbers j d)
       → get_or numbers i d ≤ get_or numbers j d
   in_order i j d low high same =
-      let tied : path_cmp (folded_path_of entries (get_or numbers j d)) (folded_path_of entries (get_or numbers i d)) ≡ Equal =
-      rw same (tied_itself nat_list_cmp_total (folded_path_of entries (get_or numbers j d))) in
+      let tied : compare_path_bytes (folded_path_of_numbered_entry entries (get_or numbers j d)) (folded_path_of_numbered_entry entries (get_or numbers i d)) ≡ Equal =
+      rw same (tied_itself nat_list_cmp_total (folded_path_of_numbered_entry entries (get_or numbers j d))) in
       not_lt (get_or numbers j d) (get_or numbers i d) (rw tied at (pair i j d low high))
 
   -- each entry's number stands somewhere
@@ -77,7 +77,7 @@ module _ (entries : List IndexEntry) (numbers : List ℕ) (is : IsLookupOf entri
   within j d low = All-permutation (λ n. n < length entries) (range_with_len 0 (length entries)) numbers is.all
       (λ k e below. omega (arith, length-range_with_len 0 (length entries), get_or-range_with_len 0 (length entries) k e (omega (arith, length-range_with_len 0 (length entries))))) j d low
 
-  folded_at : (k : ℕ) (d : IndexEntry) → k < length entries → folded_path_of entries k ≡ fold_case (get_or entries k d).path
+  folded_at : (k : ℕ) (d : IndexEntry) → k < length entries → folded_path_of_numbered_entry entries k ≡ fold_case (get_or entries k d).path
   folded_at k d low = rw (slice_get-get_or entries k d low) refl
 
 some_at : (entries : List IndexEntry) (n : ℕ) → n < length entries → slice_get entries n ≡ None → ⊥
@@ -98,9 +98,9 @@ first_is t entries n e here passes none =
     fails k below true h = absurd (none k e below h)
     fails k below false h = h
 
-module _ (path : List ℕ) (entries : List IndexEntry) (numbers : List ℕ) (is : IsLookupOf entries numbers) where
-  pub found-fold_case : (n : ℕ) (e : IndexEntry) → IsLowerBound (folded_path_of entries) (fold_case path) numbers (Some n) → slice_get entries n ≡ Some e
-      → fold_case e.path ≡ fold_case path → Some e ≡ entry_at_icase path entries
+module _ (path : List ℕ) (entries : List IndexEntry) (numbers : List ℕ) (is : IsCaseFoldedLookupOfEntries entries numbers) where
+  pub found-fold_case : (n : ℕ) (e : IndexEntry) → IsFirstElementNotBelowPath (folded_path_of_numbered_entry entries) (fold_case path) numbers (Some n) → slice_get entries n ≡ Some e
+      → fold_case e.path ≡ fold_case path → Some e ≡ first_entry_at_path_icase path entries
   found-fold_case n e first here same =
       first_is (λ x. bytes_eq (fold_case x.path) (fold_case path)) entries n e here ((bytes_eq-Decides (fold_case e.path) (fold_case path)).1 same)
       (λ k d below passes.
@@ -108,47 +108,47 @@ module _ (path : List ℕ) (entries : List IndexEntry) (numbers : List ℕ) (is 
       let there = place entries numbers is k low in
       let at : ℕ = first.0 in
       let number : get_or numbers at k ≡ n = get_or_from_slice_get numbers at n k first.1 in
-      let key : folded_path_of entries (get_or numbers there.0 k) ≡ fold_case path =
-      ap (folded_path_of entries) there.2 ∙ folded_at entries numbers is k d low ∙ (bytes_eq-Decides _ _).0 passes in
+      let key : folded_path_of_numbered_entry entries (get_or numbers there.0 k) ≡ fold_case path =
+      ap (folded_path_of_numbered_entry entries) there.2 ∙ folded_at entries numbers is k d low ∙ (bytes_eq-Decides _ _).0 passes in
       elim (cases_lt there.0 at) [
         | inl before ↦
-            let less : path_cmp (folded_path_of entries (get_or numbers there.0 k)) (fold_case path) ≡ Less = first.2 there.0 k before in
+            let less : compare_path_bytes (folded_path_of_numbered_entry entries (get_or numbers there.0 k)) (fold_case path) ≡ Less = first.2 there.0 k before in
             absurd (cc (rw key at less, tied_itself nat_list_cmp_total (fold_case path)))
         | inr behind ↦
-            let own : folded_path_of entries (get_or numbers at k) ≡ fold_case path = ap (folded_path_of entries) number ∙ rw here same in
+            let own : folded_path_of_numbered_entry entries (get_or numbers at k) ≡ fold_case path = ap (folded_path_of_numbered_entry entries) number ∙ rw here same in
             let order = in_order entries numbers is at there.0 k behind there.1 (own ∙ sym key) in
             absurd (omega (arith, order, number, there.2, below))
       ])
 
-  pub none-fold_case : None ≡ find (λ n. bytes_eq (folded_path_of entries n) (fold_case path)) numbers → None ≡ entry_at_icase path entries
+  pub none-fold_case : None ≡ find (λ n. bytes_eq (folded_path_of_numbered_entry entries n) (fold_case path)) numbers → None ≡ first_entry_at_path_icase path entries
   none-fold_case none =
       sym (find-none (λ x. bytes_eq (fold_case x.path) (fold_case path)) entries (λ k d low.
       let there = place entries numbers is k low in
-      let fails = all-false (λ n. bytes_eq (folded_path_of entries n) (fold_case path)) numbers (sym none) there.0 k there.1 in
-      ap (λ (p : List ℕ). bytes_eq p (fold_case path)) (sym (ap (folded_path_of entries) there.2 ∙ folded_at entries numbers is k d low)) ∙ fails))
+      let fails = all-false (λ n. bytes_eq (folded_path_of_numbered_entry entries n) (fold_case path)) numbers (sym none) there.0 k there.1 in
+      ap (λ (p : List ℕ). bytes_eq p (fold_case path)) (sym (ap (folded_path_of_numbered_entry entries) there.2 ∙ folded_at entries numbers is k d low)) ∙ fails))
 
-  pub other-fold_case : (n : ℕ) (e : IndexEntry) → IsLowerBound (folded_path_of entries) (fold_case path) numbers (Some n) → slice_get entries n ≡ Some e
-      → (fold_case e.path ≡ fold_case path → ⊥) → None ≡ entry_at_icase path entries
+  pub other-fold_case : (n : ℕ) (e : IndexEntry) → IsFirstElementNotBelowPath (folded_path_of_numbered_entry entries) (fold_case path) numbers (Some n) → slice_get entries n ≡ Some e
+      → (fold_case e.path ≡ fold_case path → ⊥) → None ≡ first_entry_at_path_icase path entries
   other-fold_case n e first here differs =
-      none-fold_case (other (folded_path_of entries) (fold_case path) numbers (never-fold_case entries numbers is) n first (λ same. differs (cc (ap folded_path here, same))))
+      none-fold_case (other (folded_path_of_numbered_entry entries) (fold_case path) numbers (never-fold_case entries numbers is) n first (λ same. differs (cc (ap folded_path_of_optional_entry here, same))))
 
-  pub past-fold_case : IsLowerBound (folded_path_of entries) (fold_case path) numbers None → None ≡ entry_at_icase path entries
-  past-fold_case first = none-fold_case (past (folded_path_of entries) (fold_case path) numbers (never-fold_case entries numbers is) first)
+  pub past-fold_case : IsFirstElementNotBelowPath (folded_path_of_numbered_entry entries) (fold_case path) numbers None → None ≡ first_entry_at_path_icase path entries
+  past-fold_case first = none-fold_case (past (folded_path_of_numbered_entry entries) (fold_case path) numbers (never-fold_case entries numbers is) first)
 
-  pub number-within : (n : ℕ) → IsLowerBound (folded_path_of entries) (fold_case path) numbers (Some n) → n < length entries
+  pub number-within : (n : ℕ) → IsFirstElementNotBelowPath (folded_path_of_numbered_entry entries) (fold_case path) numbers (Some n) → n < length entries
   number-within n first =
       let at : ℕ = first.0 in
       let number : get_or numbers at n ≡ n = get_or_from_slice_get numbers at n n first.1 in
       omega (arith, number, within entries numbers is at n (slice_get_within numbers at n first.1))
 
-  module _ (start end : ℕ) (run : IsRun (key_begins (folded_path_of entries) (fold_case (path ++ 47 ∷ []))) numbers start end) where
+  module _ (start end : ℕ) (run : IsExactRangeOfMatches (key_begins_with_prefix (folded_path_of_numbered_entry entries) (fold_case (path ++ 47 ∷ []))) numbers start end) where
     in_run : (k : ℕ) (d : IndexEntry) → k < length entries → starts_with nat_eq (fold_case (get_or entries k d).path) (fold_case (path ++ 47 ∷ [])) ≡ true
         → Contains (slice_range numbers start end) k
     in_run k d low passes =
         let there = place entries numbers is k low in
-        let key : folded_path_of entries (get_or numbers there.0 k) ≡ fold_case (get_or entries k d).path =
-        ap (folded_path_of entries) there.2 ∙ folded_at entries numbers is k d low in
-        let inside : key_begins (folded_path_of entries) (fold_case (path ++ 47 ∷ [])) (get_or numbers there.0 k) ≡ true = rw key passes in
+        let key : folded_path_of_numbered_entry entries (get_or numbers there.0 k) ≡ fold_case (get_or entries k d).path =
+        ap (folded_path_of_numbered_entry entries) there.2 ∙ folded_at entries numbers is k d low in
+        let inside : key_begins_with_prefix (folded_path_of_numbered_entry entries) (fold_case (path ++ 47 ∷ [])) (get_or numbers there.0 k) ≡ true = rw key passes in
         elim (cases_lt there.0 start) [
           | inl before ↦ absurd (cc (run.before there.0 k before, inside))
           | inr from ↦
@@ -169,7 +169,7 @@ module _ (path : List ℕ) (entries : List IndexEntry) (numbers : List ℕ) (is 
         ]
 
     pub least-fold_case : (n : ℕ) (e : IndexEntry) → Contains (slice_range numbers start end) n → All (λ m. n ≤ m) (slice_range numbers start end)
-        → slice_get entries n ≡ Some e → Some e ≡ entry_beneath_icase path entries
+        → slice_get entries n ≡ Some e → Some e ≡ first_entry_beneath_directory_icase path entries
     least-fold_case n e there least here =
         let order = run.order in
         let fits = run.fits in
@@ -178,8 +178,8 @@ module _ (path : List ℕ) (entries : List IndexEntry) (numbers : List ℕ) (is 
         let low : there.0 < end - start = omega (arith, there.1) in
         let number : get_or numbers (start + there.0) n ≡ n =
         sym (get_or-take (end - start) (drop start numbers) there.0 n low ∙ get_or-drop start numbers there.0 n) ∙ there.2 in
-        let inside : key_begins (folded_path_of entries) (fold_case (path ++ 47 ∷ [])) n ≡ true =
-        ap (key_begins (folded_path_of entries) (fold_case (path ++ 47 ∷ []))) (sym number) ∙ run.inside (start + there.0) n (omega arith) (omega arith) in
+        let inside : key_begins_with_prefix (folded_path_of_numbered_entry entries) (fold_case (path ++ 47 ∷ [])) n ≡ true =
+        ap (key_begins_with_prefix (folded_path_of_numbered_entry entries) (fold_case (path ++ 47 ∷ []))) (sym number) ∙ run.inside (start + there.0) n (omega arith) (omega arith) in
         first_is (λ x. starts_with nat_eq (fold_case x.path) (fold_case (path ++ 47 ∷ []))) entries n e here (rw here at inside)
         (λ k d below passes.
         let found = in_run k d (omega (arith, slice_get_within entries n e here)) passes in
@@ -187,7 +187,7 @@ module _ (path : List ℕ) (entries : List IndexEntry) (numbers : List ℕ) (is 
 
     -- the entry of the least number of the run is the first
     pub number-in_run : (n : ℕ) → Contains (slice_range numbers start end) n → All (λ m. n ≤ m) (slice_range numbers start end)
-        → slice_get entries n ≡ entry_beneath_icase path entries
+        → slice_get entries n ≡ first_entry_beneath_directory_icase path entries
     number-in_run n there least = by_entry (slice_get entries n) refl
       where
         low : n < length entries
@@ -204,11 +204,11 @@ module _ (path : List ℕ) (entries : List IndexEntry) (numbers : List ℕ) (is 
         none : slice_get entries n ≡ None → ⊥
         none here = some_at entries n low here
 
-        by_entry : (o : Option IndexEntry) → slice_get entries n ≡ o → slice_get entries n ≡ entry_beneath_icase path entries
+        by_entry : (o : Option IndexEntry) → slice_get entries n ≡ o → slice_get entries n ≡ first_entry_beneath_directory_icase path entries
         by_entry None here = absurd (none here)
         by_entry (Some e) here = here ∙ least-fold_case n e there least here
 
-    pub no-fold_case : slice_range numbers start end ≡ [] → None ≡ entry_beneath_icase path entries
+    pub no-fold_case : slice_range numbers start end ≡ [] → None ≡ first_entry_beneath_directory_icase path entries
     no-fold_case empty =
         sym (find-none (λ x. starts_with nat_eq (fold_case x.path) (fold_case (path ++ 47 ∷ []))) entries (λ k d low.
         fails k d low (starts_with nat_eq (fold_case (get_or entries k d).path) (fold_case (path ++ 47 ∷ []))) refl))
@@ -222,13 +222,13 @@ module _ (path : List ℕ) (entries : List IndexEntry) (numbers : List ℕ) (is 
         fails k d low false h = h
 
     -- an entry stands beneath the path exactly where the run has a number
-    pub some-fold_case : start < end → is_some (entry_beneath_icase path entries) ≡ true
-    some-fold_case lt = by_entry (slice_get entries number) refl (entry_beneath_icase path entries) refl
+    pub some-fold_case : start < end → is_some (first_entry_beneath_directory_icase path entries) ≡ true
+    some-fold_case lt = by_entry (slice_get entries number) refl (first_entry_beneath_directory_icase path entries) refl
       where
         number : ℕ
         number = get_or numbers start 0
 
-        test : key_begins (folded_path_of entries) (fold_case (path ++ 47 ∷ [])) number ≡ true
+        test : key_begins_with_prefix (folded_path_of_numbered_entry entries) (fold_case (path ++ 47 ∷ [])) number ≡ true
         test = run.inside start 0 (omega arith) lt
 
         low : number < length entries
@@ -236,7 +236,7 @@ module _ (path : List ℕ) (entries : List IndexEntry) (numbers : List ℕ) (is 
             let fits = run.fits in
             within entries numbers is start 0 (omega (arith, lt))
 
-        by_entry : (o : Option IndexEntry) → slice_get entries number ≡ o → (found : Option IndexEntry) → entry_beneath_icase path entries ≡ found → is_some found ≡ true
+        by_entry : (o : Option IndexEntry) → slice_get entries number ≡ o → (found : Option IndexEntry) → first_entry_beneath_directory_icase path entries ≡ found → is_some found ≡ true
         by_entry None here found e = absurd (some_at entries number low here)
         by_entry (Some x) here (Some y) e = refl
         by_entry (Some x) here None e =
@@ -247,7 +247,7 @@ module _ (path : List ℕ) (entries : List IndexEntry) (numbers : List ℕ) (is 
             clash : starts_with nat_eq (fold_case x.path) (fold_case (path ++ 47 ∷ [])) ≡ true → starts_with nat_eq (fold_case x.path) (fold_case (path ++ 47 ∷ [])) ≡ false → ⊥
             clash a b = cc
 
-    pub none-beneath : (start < end → ⊥) → is_some (entry_beneath_icase path entries) ≡ false
+    pub none-beneath : (start < end → ⊥) → is_some (first_entry_beneath_directory_icase path entries) ≡ false
     none-beneath not =
         let order = run.order in
         let size : end - start ≡ 0 = omega (arith, order, not) in

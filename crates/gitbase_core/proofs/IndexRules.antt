@@ -17,13 +17,13 @@ use Rattle.std.proofs.lemmas.Map.Lookups.{exact_bytes}
 use Rattle.std.proofs.lemmas.Option.{slice_get_within, get_or_from_slice_get}
 use Rattle.std.proofs.lemmas.Slice.Eq.{bytes_eq-Decides}
 use Rattle.std.specs.Option.{option_or}
-use Rattle.gitbase_core.specs.Index.{path_cmp, entry_cmp, is_entry_path, fits_mode, ascends, stages_clash, fits_stage, entry_error, first_error, IsIndex, index_or_error, index_of}
+use Rattle.gitbase_core.specs.Index.{compare_path_bytes, compare_entries_by_path_and_stage, is_valid_index_path, trailing_slash_fits_mode, sorts_after_earlier_entries, has_stage_zero_conflict, stage_fits_earlier_entries, index_error_of_next_entry, first_index_error_in_entries, AreValidIndexEntries, entries_or_index_error, checked_index_entries}
 use Rattle.gitbase_core.specs.declared.entry.IndexEntry.{IndexEntry}
 use Rattle.gitbase_core.specs.declared.index.IndexError.{IndexError}
 
 -- ---- one entry behind another
 
-pub entry_cmp_total : IsTotalOrder entry_cmp
+pub entry_cmp_total : IsTotalOrder compare_entries_by_path_and_stage
 entry_cmp_total = then_total (on_total (λ (e : IndexEntry). e.path) nat_list_cmp_total) (on_total (λ (e : IndexEntry). e.stage) nat_cmp_total)
 
 option_or-none : (a b : Option IndexError) → option_or a b ≡ None → (a ≡ None) × (b ≡ None)
@@ -32,10 +32,10 @@ option_or-none None b h = (refl, h)
 
 -- an entry that fails no check
 pub record Passes (earlier : List IndexEntry) (e : IndexEntry) : Type 0 where
-  pub path : is_entry_path e.path ≡ true
-  pub mode : fits_mode e ≡ true
-  pub behind : ascends earlier e ≡ true
-  pub stage : fits_stage earlier e ≡ true
+  pub path : is_valid_index_path e.path ≡ true
+  pub mode : trailing_slash_fits_mode e ≡ true
+  pub behind : sorts_after_earlier_entries earlier e ≡ true
+  pub stage : stage_fits_earlier_entries earlier e ≡ true
 
 -- the four checks, of which the first that fails names the fault
 checks : {F : Type 0} (p m b s : Bool) (pf mf bf sf : F)
@@ -47,24 +47,24 @@ checks true true false s pf mf bf sf h = absurd (cc)
 checks true true true false pf mf bf sf h = absurd (cc)
 checks true true true true pf mf bf sf h = (refl, refl, refl, refl)
 
-passes : (earlier : List IndexEntry) (e : IndexEntry) → entry_error earlier e ≡ None → Passes earlier e
+passes : (earlier : List IndexEntry) (e : IndexEntry) → index_error_of_next_entry earlier e ≡ None → Passes earlier e
 passes earlier e h =
-    let all = checks (is_entry_path e.path) (fits_mode e) (ascends earlier e) (fits_stage earlier e) _ _ _ _ h in
+    let all = checks (is_valid_index_path e.path) (trailing_slash_fits_mode e) (sorts_after_earlier_entries earlier e) (stage_fits_earlier_entries earlier e) _ _ _ _ h in
     record { path = all.0; mode = all.1; behind = all.2; stage = all.3 }
 
 -- ---- one after another
 
-fault-at : (earlier left : List IndexEntry) (k : ℕ) (d : IndexEntry) → first_error earlier left ≡ None → k < length left
-    → entry_error (earlier ++ take k left) (get_or left k d) ≡ None
+fault-at : (earlier left : List IndexEntry) (k : ℕ) (d : IndexEntry) → first_index_error_in_entries earlier left ≡ None → k < length left
+    → index_error_of_next_entry (earlier ++ take k left) (get_or left k d) ≡ None
 fault-at earlier [] k d h low = absurd (omega arith)
 fault-at earlier (e ∷ left) zero d h low =
-    ap (λ (es : List IndexEntry). entry_error es e) (append-nil earlier) ∙ (option_or-none (entry_error earlier e) _ h).0
+    ap (λ (es : List IndexEntry). index_error_of_next_entry es e) (append-nil earlier) ∙ (option_or-none (index_error_of_next_entry earlier e) _ h).0
 fault-at earlier (e ∷ left) (suc k) d h low =
-    ap (λ (es : List IndexEntry). entry_error es (get_or left k d)) (sym (append_assoc earlier (e ∷ []) (take k left)))
-    ∙ fault-at (earlier ++ e ∷ []) left k d (option_or-none (entry_error earlier e) _ h).1 (omega arith)
+    ap (λ (es : List IndexEntry). index_error_of_next_entry es (get_or left k d)) (sym (append_assoc earlier (e ∷ []) (take k left)))
+    ∙ fault-at (earlier ++ e ∷ []) left k d (option_or-none (index_error_of_next_entry earlier e) _ h).1 (omega arith)
 
 -- each entry of an index passes behind those before it
-pub passes-at : (entries : List IndexEntry) (k : ℕ) (d : IndexEntry) → IsIndex entries → k < length entries
+pub passes-at : (entries : List IndexEntry) (k : ℕ) (d : IndexEntry) → AreValidIndexEntries entries → k < length entries
     → Passes (take k entries) (get_or entries k d)
 passes-at entries k d index low = passes (take k entries) (get_or entries k d) (fault-at [] entries k d index low)
 
@@ -74,10 +74,10 @@ less_is Equal h = absurd (cc)
 less_is Greater h = absurd (cc)
 
 -- each entry of an index stands behind each before it
-pub rises : (entries : List IndexEntry) (i j : ℕ) (d : IndexEntry) → IsIndex entries → i < j → j < length entries
-    → entry_cmp (get_or entries i d) (get_or entries j d) ≡ Less
+pub rises : (entries : List IndexEntry) (i j : ℕ) (d : IndexEntry) → AreValidIndexEntries entries → i < j → j < length entries
+    → compare_entries_by_path_and_stage (get_or entries i d) (get_or entries j d) ≡ Less
 rises entries i j d index low high =
-    let pass = AllPass-from_list_all (λ before. is_lt (entry_cmp before (get_or entries j d))) (take j entries) (passes-at entries j d index high).behind in
+    let pass = AllPass-from_list_all (λ before. is_lt (compare_entries_by_path_and_stage before (get_or entries j d))) (take j entries) (passes-at entries j d index high).behind in
     let at = pass i d (omega (arith, length-take-le j entries (omega arith))) in
     less_is _ (rw (get_or-take j entries i d low) at at)
 
@@ -88,46 +88,46 @@ option_or-assoc (Some fault) b c = refl
 option_or-assoc None b c = refl
 
 pub first_error-append : (earlier xs ys : List IndexEntry)
-    → first_error earlier (xs ++ ys) ≡ option_or (first_error earlier xs) (first_error (earlier ++ xs) ys)
-first_error-append earlier [] ys = ap (λ (es : List IndexEntry). first_error es ys) (sym (append-nil earlier))
+    → first_index_error_in_entries earlier (xs ++ ys) ≡ option_or (first_index_error_in_entries earlier xs) (first_index_error_in_entries (earlier ++ xs) ys)
+first_error-append earlier [] ys = ap (λ (es : List IndexEntry). first_index_error_in_entries es ys) (sym (append-nil earlier))
 first_error-append earlier (e ∷ xs) ys =
-    ap (option_or (entry_error earlier e)) (first_error-append (earlier ++ e ∷ []) xs ys)
-    ∙ option_or-assoc (entry_error earlier e) (first_error (earlier ++ e ∷ []) xs) (first_error ((earlier ++ e ∷ []) ++ xs) ys)
-    ∙ ap (λ (es : List IndexEntry). option_or (first_error earlier (e ∷ xs)) (first_error es ys)) (append_assoc earlier (e ∷ []) xs)
+    ap (option_or (index_error_of_next_entry earlier e)) (first_error-append (earlier ++ e ∷ []) xs ys)
+    ∙ option_or-assoc (index_error_of_next_entry earlier e) (first_index_error_in_entries (earlier ++ e ∷ []) xs) (first_index_error_in_entries ((earlier ++ e ∷ []) ++ xs) ys)
+    ∙ ap (λ (es : List IndexEntry). option_or (first_index_error_in_entries earlier (e ∷ xs)) (first_index_error_in_entries es ys)) (append_assoc earlier (e ∷ []) xs)
 
 option_or-nothing : (a : Option IndexError) → option_or a None ≡ a
 option_or-nothing (Some fault) = refl
 option_or-nothing None = refl
 
 -- one entry more
-pub first_error-more : (entries : List IndexEntry) (i : ℕ) (d : IndexEntry) → i < length entries → IsIndex (take i entries)
-    → first_error [] (take (i + 1) entries) ≡ entry_error (take i entries) (get_or entries i d)
+pub first_error-more : (entries : List IndexEntry) (i : ℕ) (d : IndexEntry) → i < length entries → AreValidIndexEntries (take i entries)
+    → first_index_error_in_entries [] (take (i + 1) entries) ≡ index_error_of_next_entry (take i entries) (get_or entries i d)
 first_error-more entries i d low index =
     rw (take_more entries i d low)
     (first_error-append [] (take i entries) (get_or entries i d ∷ [])
-    ∙ ap (λ (o : Option IndexError). option_or o (first_error (take i entries) (get_or entries i d ∷ []))) index
-    ∙ option_or-nothing (entry_error (take i entries) (get_or entries i d)))
+    ∙ ap (λ (o : Option IndexError). option_or o (first_index_error_in_entries (take i entries) (get_or entries i d ∷ []))) index
+    ∙ option_or-nothing (index_error_of_next_entry (take i entries) (get_or entries i d)))
 
 -- the first bad entry is that of the whole
 first_error-found : (entries : List IndexEntry) (i : ℕ) (fault : IndexError)
-    → first_error [] (take i entries) ≡ Some fault → first_error [] entries ≡ Some fault
+    → first_index_error_in_entries [] (take i entries) ≡ Some fault → first_index_error_in_entries [] entries ≡ Some fault
 first_error-found entries i fault found =
-    ap (first_error []) (sym (take-append-drop i entries))
+    ap (first_index_error_in_entries []) (sym (take-append-drop i entries))
     ∙ first_error-append [] (take i entries) (drop i entries)
-    ∙ ap (λ (o : Option IndexError). option_or o (first_error (take i entries) (drop i entries))) found
+    ∙ ap (λ (o : Option IndexError). option_or o (first_index_error_in_entries (take i entries) (drop i entries))) found
 
 -- an entry that fails a check behind entries that fail none is the first bad one
 pub refused-at : (entries : List IndexEntry) (i : ℕ) (e : IndexEntry) (fault : IndexError) → i < length entries
-    → IsIndex (take i entries) → e ≡ get_or entries i e → entry_error (take i entries) e ≡ Some fault → Err fault ≡ index_of entries
+    → AreValidIndexEntries (take i entries) → e ≡ get_or entries i e → index_error_of_next_entry (take i entries) e ≡ Some fault → Err fault ≡ checked_index_entries entries
 refused-at entries i e fault low index here fails =
-    let found : first_error [] (take (i + 1) entries) ≡ Some fault =
-    first_error-more entries i e low index ∙ ap (entry_error (take i entries)) (sym here) ∙ fails in
-    ap (index_or_error entries) (sym (first_error-found entries (i + 1) fault found))
+    let found : first_index_error_in_entries [] (take (i + 1) entries) ≡ Some fault =
+    first_error-more entries i e low index ∙ ap (index_error_of_next_entry (take i entries)) (sym here) ∙ fails in
+    ap (entries_or_index_error entries) (sym (first_error-found entries (i + 1) fault found))
 
 pub passed-at : (entries : List IndexEntry) (i : ℕ) (e : IndexEntry) → i < length entries
-    → IsIndex (take i entries) → e ≡ get_or entries i e → entry_error (take i entries) e ≡ None → IsIndex (take (i + 1) entries)
+    → AreValidIndexEntries (take i entries) → e ≡ get_or entries i e → index_error_of_next_entry (take i entries) e ≡ None → AreValidIndexEntries (take (i + 1) entries)
 passed-at entries i e low index here fails =
-    first_error-more entries i e low index ∙ ap (entry_error (take i entries)) (sym here) ∙ fails
+    first_error-more entries i e low index ∙ ap (index_error_of_next_entry (take i entries)) (sym here) ∙ fails
 
 -- ---- the last entry
 
@@ -143,22 +143,22 @@ is_last entries e h = record {
 }
 
 -- what is behind the last entry is behind all of them
-pub ascends-last : (entries : List IndexEntry) (last e : IndexEntry) → IsIndex entries → IsLast entries last
-    → is_lt (entry_cmp last e) ≡ ascends entries e
-ascends-last entries last e index end = by_test (is_lt (entry_cmp last e)) refl
+pub ascends-last : (entries : List IndexEntry) (last e : IndexEntry) → AreValidIndexEntries entries → IsLast entries last
+    → is_lt (compare_entries_by_path_and_stage last e) ≡ sorts_after_earlier_entries entries e
+ascends-last entries last e index end = by_test (is_lt (compare_entries_by_path_and_stage last e)) refl
   where
     place : ℕ
     place = length entries - 1
 
-    by_test : (t : Bool) → is_lt (entry_cmp last e) ≡ t → t ≡ ascends entries e
+    by_test : (t : Bool) → is_lt (compare_entries_by_path_and_stage last e) ≡ t → t ≡ sorts_after_earlier_entries entries e
     by_test false h =
-        sym (list_all_at (λ before. is_lt (entry_cmp before e)) entries place last (omega (arith, end.some)) (rw (end.at last) h))
-    by_test true h = sym (list_all-from_AllPass (λ before. is_lt (entry_cmp before e)) entries (λ k d low.
+        sym (list_all_at (λ before. is_lt (compare_entries_by_path_and_stage before e)) entries place last (omega (arith, end.some)) (rw (end.at last) h))
+    by_test true h = sym (list_all-from_AllPass (λ before. is_lt (compare_entries_by_path_and_stage before e)) entries (λ k d low.
         elim (cases_lt k place) [
           | inl before ↦
-              let one : entry_cmp (get_or entries k d) last ≡ Less =
-              ap (entry_cmp (get_or entries k d)) (sym (end.at d)) ∙ rises entries k place d index before (omega (arith, end.some)) in
-              let two : entry_cmp last e ≡ Less = less_is (entry_cmp last e) h in
+              let one : compare_entries_by_path_and_stage (get_or entries k d) last ≡ Less =
+              ap (compare_entries_by_path_and_stage (get_or entries k d)) (sym (end.at d)) ∙ rises entries k place d index before (omega (arith, end.some)) in
+              let two : compare_entries_by_path_and_stage last e ≡ Less = less_is (compare_entries_by_path_and_stage last e) h in
               ap is_lt (entry_cmp_total.trans (get_or entries k d) last e one two)
           | inr not_before ↦
               let same : k ≡ place = omega arith in
@@ -185,32 +185,32 @@ not_before Equal p h = inr refl
 not_before Greater p h = absurd (cc)
 
 -- an entry between two of one path has that path
-between : (a b e : IndexEntry) → entry_cmp a b ≡ Less → entry_cmp b e ≡ Less → a.path ≡ e.path → b.path ≡ e.path
+between : (a b e : IndexEntry) → compare_entries_by_path_and_stage a b ≡ Less → compare_entries_by_path_and_stage b e ≡ Less → a.path ≡ e.path → b.path ≡ e.path
 between a b e one two same =
-    elim (not_before (path_cmp a.path b.path) (nat_cmp a.stage b.stage) one) [
+    elim (not_before (compare_path_bytes a.path b.path) (nat_cmp a.stage b.stage) one) [
       | inr equal ↦ sym (exact_bytes a.path b.path equal) ∙ same
       | inl less ↦
-          elim (not_before (path_cmp b.path e.path) (nat_cmp b.stage e.stage) two) [
+          elim (not_before (compare_path_bytes b.path e.path) (nat_cmp b.stage e.stage) two) [
             | inr equal ↦ exact_bytes b.path e.path equal
             | inl further ↦
-                let whole : path_cmp a.path e.path ≡ Less = nat_list_cmp_total.trans a.path b.path e.path less further in
-                let tied : path_cmp e.path e.path ≡ Less = rw same at whole in
+                let whole : compare_path_bytes a.path e.path ≡ Less = nat_list_cmp_total.trans a.path b.path e.path less further in
+                let tied : compare_path_bytes e.path e.path ≡ Less = rw same at whole in
                 absurd (cc (tied_itself nat_list_cmp_total e.path))
           ]
     ]
 
 -- where the last entry has another path, no entry has the path
-other_path : (entries : List IndexEntry) (last e : IndexEntry) → IsIndex entries → IsLast entries last
-    → is_lt (entry_cmp last e) ≡ true → bytes_eq last.path e.path ≡ false → list_any (stages_clash e) entries ≡ false
-other_path entries last e index end behind other = list_any_none (stages_clash e) entries (λ k d low.
+other_path : (entries : List IndexEntry) (last e : IndexEntry) → AreValidIndexEntries entries → IsLast entries last
+    → is_lt (compare_entries_by_path_and_stage last e) ≡ true → bytes_eq last.path e.path ≡ false → list_any (has_stage_zero_conflict e) entries ≡ false
+other_path entries last e index end behind other = list_any_none (has_stage_zero_conflict e) entries (λ k d low.
     no_clash (get_or entries k d) (bytes_eq (get_or entries k d).path e.path) refl (λ same.
     elim (cases_lt k (length entries - 1)) [
       | inl before ↦
-          let one : entry_cmp (get_or entries k d) last ≡ Less =
-          ap (entry_cmp (get_or entries k d)) (sym (end.at d))
+          let one : compare_entries_by_path_and_stage (get_or entries k d) last ≡ Less =
+          ap (compare_entries_by_path_and_stage (get_or entries k d)) (sym (end.at d))
           ∙ rises entries k (length entries - 1) d index before (omega (arith, end.some)) in
           let path : last.path ≡ e.path =
-          between (get_or entries k d) last e one (less_is (entry_cmp last e) behind) (same_path (get_or entries k d).path e.path same) in
+          between (get_or entries k d) last e one (less_is (compare_entries_by_path_and_stage last e) behind) (same_path (get_or entries k d).path e.path same) in
           cc (other, (bytes_eq-Decides last.path e.path).1 path)
       | inr not_there ↦
           let here : k ≡ length entries - 1 = omega arith in
@@ -219,7 +219,7 @@ other_path entries last e index end behind other = list_any_none (stages_clash e
     ]))
   where
     no_clash : (before : IndexEntry) (t : Bool) → bytes_eq before.path e.path ≡ t → (bytes_eq before.path e.path ≡ true → ⊥)
-        → stages_clash e before ≡ false
+        → has_stage_zero_conflict e before ≡ false
     no_clash before true h none = absurd (none h)
     no_clash before false h none = rw h refl
 
@@ -241,18 +241,18 @@ quiet_stage true false h = refl
 
 -- where no two entries of the last one's path clash, an entry of that path beside which the last one may stand goes
 -- with all of them
-goes_with : (entries : List IndexEntry) (last e : IndexEntry) → IsIndex entries → IsLast entries last
-    → last.path ≡ e.path → (last.stage == 0 || e.stage == 0) ≡ false → list_any (stages_clash e) entries ≡ false
-goes_with entries last e index end path no_zero_stage = list_any_none (stages_clash e) entries (λ k d low.
+goes_with : (entries : List IndexEntry) (last e : IndexEntry) → AreValidIndexEntries entries → IsLast entries last
+    → last.path ≡ e.path → (last.stage == 0 || e.stage == 0) ≡ false → list_any (has_stage_zero_conflict e) entries ≡ false
+goes_with entries last e index end path no_zero_stage = list_any_none (has_stage_zero_conflict e) entries (λ k d low.
     let place : ℕ = length entries - 1 in
     elim (cases_lt k place) [
       | inl before ↦
           let pass = (passes-at entries place d index (omega (arith, end.some))).stage in
-          let none : list_any (stages_clash last) (take place entries) ≡ false =
+          let none : list_any (has_stage_zero_conflict last) (take place entries) ≡ false =
           quiet_stage (not (nat_lt 3 last.stage)) _ (rw (end.at d) at pass) in
-          let one : stages_clash last (get_or entries k d) ≡ false =
+          let one : has_stage_zero_conflict last (get_or entries k d) ≡ false =
           rw (get_or-take place entries k d before)
-          at (fails_at (stages_clash last) (take place entries) k d none (omega (arith, length-take-le place entries (omega arith)))) in
+          at (fails_at (has_stage_zero_conflict last) (take place entries) k d none (omega (arith, length-take-le place entries (omega arith)))) in
           no_zero (bytes_eq (get_or entries k d).path e.path) (bytes_eq (get_or entries k d).path last.path) ((get_or entries k d).stage == 0)
           (e.stage == 0) (last.stage == 0) one
           (λ same. rw path same) (right_false (last.stage == 0) (e.stage == 0) no_zero_stage)
@@ -267,33 +267,33 @@ goes_with entries last e index end path no_zero_stage = list_any_none (stages_cl
     by_same false = refl
 
 -- an entry behind others goes with all of them exactly where it goes with the last
-pub stages_clash-last : (entries : List IndexEntry) (last e : IndexEntry) → IsIndex entries → IsLast entries last
-    → is_lt (entry_cmp last e) ≡ true → stages_clash e last ≡ list_any (stages_clash e) entries
+pub stages_clash-last : (entries : List IndexEntry) (last e : IndexEntry) → AreValidIndexEntries entries → IsLast entries last
+    → is_lt (compare_entries_by_path_and_stage last e) ≡ true → has_stage_zero_conflict e last ≡ list_any (has_stage_zero_conflict e) entries
 stages_clash-last entries last e index end behind = by_path (bytes_eq last.path e.path) refl
   where
     by_stage : (t : Bool) → (last.stage == 0 || e.stage == 0) ≡ t → bytes_eq last.path e.path ≡ true
-        → stages_clash e last ≡ list_any (stages_clash e) entries
+        → has_stage_zero_conflict e last ≡ list_any (has_stage_zero_conflict e) entries
     by_stage true found same =
-        let here : stages_clash e last ≡ true = rw (same, found) refl in
-        here ∙ sym (list_any_at (stages_clash e) entries (length entries - 1) last (omega (arith, end.some)) (rw (end.at last) here))
+        let here : has_stage_zero_conflict e last ≡ true = rw (same, found) refl in
+        here ∙ sym (list_any_at (has_stage_zero_conflict e) entries (length entries - 1) last (omega (arith, end.some)) (rw (end.at last) here))
     by_stage false found same =
-        let here : stages_clash e last ≡ false = rw (same, found) refl in
+        let here : has_stage_zero_conflict e last ≡ false = rw (same, found) refl in
         here ∙ sym (goes_with entries last e index end (same_path last.path e.path same) found)
 
-    by_path : (t : Bool) → bytes_eq last.path e.path ≡ t → stages_clash e last ≡ list_any (stages_clash e) entries
+    by_path : (t : Bool) → bytes_eq last.path e.path ≡ t → has_stage_zero_conflict e last ≡ list_any (has_stage_zero_conflict e) entries
     by_path true same = by_stage (last.stage == 0 || e.stage == 0) refl same
     by_path false other =
-        let here : stages_clash e last ≡ false = rw other refl in
+        let here : has_stage_zero_conflict e last ≡ false = rw other refl in
         here ∙ sym (other_path entries last e index end behind other)
 
 -- the same of the whole rule of stages
-pub fits_stage-last : (entries : List IndexEntry) (last e : IndexEntry) → IsIndex entries → IsLast entries last
-    → ascends entries e ≡ true → e.stage ≤ 3 → not (stages_clash e last) ≡ fits_stage entries e
+pub fits_stage-last : (entries : List IndexEntry) (last e : IndexEntry) → AreValidIndexEntries entries → IsLast entries last
+    → sorts_after_earlier_entries entries e ≡ true → e.stage ≤ 3 → not (has_stage_zero_conflict e last) ≡ stage_fits_earlier_entries entries e
 fits_stage-last entries last e index end behind low =
     let small : nat_lt 3 e.stage ≡ false = grind (arith, nat_tests) in
     rw small (ap not (stages_clash-last entries last e index end (ascends-last entries last e index end ∙ behind)))
 
-pub fits_stage-first : (e : IndexEntry) → e.stage ≤ 3 → true ≡ fits_stage [] e
+pub fits_stage-first : (e : IndexEntry) → e.stage ≤ 3 → true ≡ stage_fits_earlier_entries [] e
 fits_stage-first e low =
     let small : nat_lt 3 e.stage ≡ false = grind (arith, nat_tests) in
     rw small refl

@@ -5,7 +5,7 @@ use Rattle.std.specs.Ordering.{is_lt, is_eq, ordering_index}
 use Rattle.std.specs.declared.cmp.Ordering.{Ordering}
 use Rattle.std.specs.declared.cmp.Ordering.TheVariants.{Less, Equal, Greater}
 use Rattle.std.proofs.lemmas.List.{get_or-drop, length-drop}
-use Rattle.gitbase_core.specs.Index.{prefix_cmp, key_begins, AscendsBy, IsRun}
+use Rattle.gitbase_core.specs.Index.{compare_path_start_with_prefix, key_begins_with_prefix, IsSortedByPathKey, IsExactRangeOfMatches}
 use Rattle.gitbase_core.proofs.PrefixOrder.{rank, ranks-rise, starts_with-prefix_cmp}
 
 lt-index : (o : Ordering) → ordering_index o ≤ 0 → is_lt o ≡ true
@@ -33,19 +33,19 @@ lt-not_eq Less h = refl
 lt-not_eq Equal h = absurd (cc)
 lt-not_eq Greater h = absurd (cc)
 
-module _ {X : Type 0} (key : X → List ℕ) (prefix : List ℕ) (xs : List X) (never : AscendsBy key xs) where
+module _ {X : Type 0} (key : X → List ℕ) (prefix : List ℕ) (xs : List X) (never : IsSortedByPathKey key xs) where
   abbrev pub stands_before : X → Bool
-  stands_before x = is_lt (prefix_cmp prefix (key x))
+  stands_before x = is_lt (compare_path_start_with_prefix prefix (key x))
 
   abbrev pub stands_among : X → Bool
-  stands_among x = is_eq (prefix_cmp prefix (key x))
+  stands_among x = is_eq (compare_path_start_with_prefix prefix (key x))
 
   -- what stands before the paths of a prefix comes first
   pub parted-before : IsPartitionedBy stands_before xs
   parted-before i j d low high h =
       let rises = ranks-rise key prefix xs i j d never low high in
-      let last = index-lt (prefix_cmp prefix (key (get_or xs j d))) h in
-      lt-index (prefix_cmp prefix (key (get_or xs i d))) (omega arith)
+      let last = index-lt (compare_path_start_with_prefix prefix (key (get_or xs j d))) h in
+      lt-index (compare_path_start_with_prefix prefix (key (get_or xs i d))) (omega arith)
 
   -- of those behind them, the ones among these paths come first
   pub parted-among : (start : ℕ) → IsPartitionPoint (λ e. stands_before e ≡ true) (λ e. stands_before e ≡ false) xs start
@@ -56,21 +56,21 @@ module _ {X : Type 0} (key : X → List ℕ) (prefix : List ℕ) (xs : List X) (
       let at_j = get_or-drop start xs j d in
       let rises = ranks-rise key prefix xs (start + i) (start + j) d never (omega arith) (omega arith) in
       let last : rank prefix (key (get_or xs (start + j) d)) ≡ 1 =
-      index-eq (prefix_cmp prefix (key (get_or xs (start + j) d))) (rw at_j at h) in
+      index-eq (compare_path_start_with_prefix prefix (key (get_or xs (start + j) d))) (rw at_j at h) in
       let not_before = point.1 (start + i) d (omega arith) (omega arith) in
-      rw at_i (eq-index (prefix_cmp prefix (key (get_or xs (start + i) d))) not_before (omega arith))
+      rw at_i (eq-index (compare_path_start_with_prefix prefix (key (get_or xs (start + i) d))) not_before (omega arith))
 
   pub run_from_points : (start more : ℕ) → start ≤ length xs → more ≤ length (drop start xs)
       → IsPartitionPoint (λ e. stands_before e ≡ true) (λ e. stands_before e ≡ false) xs start
       → IsPartitionPoint (λ e. stands_among e ≡ true) (λ e. stands_among e ≡ false) (drop start xs) more
-      → IsRun (key_begins key prefix) xs start (start + more)
+      → IsExactRangeOfMatches (key_begins_with_prefix key prefix) xs start (start + more)
   run_from_points start more low fits first second =
       let size = length-drop start xs in
       record {
         order = omega arith;
         fits = omega arith;
         before = λ k d below. sym (starts_with-prefix_cmp prefix (key (get_or xs k d)))
-            ∙ lt-not_eq (prefix_cmp prefix (key (get_or xs k d))) (first.0 k d (omega arith) below);
+            ∙ lt-not_eq (compare_path_start_with_prefix prefix (key (get_or xs k d))) (first.0 k d (omega arith) below);
         inside = λ k d from below. sym (starts_with-prefix_cmp prefix (key (get_or xs k d))) ∙ at k d from (second.0 (k - start) d (omega arith) (omega arith));
         behind = λ k d from below. sym (starts_with-prefix_cmp prefix (key (get_or xs k d))) ∙ at k d (omega arith) (second.1 (k - start) d (omega arith) (omega arith));
       }

@@ -5,44 +5,44 @@ use Rattle.std.specs.List.{list_any, slice_range}
 use Rattle.std.specs.Str.{bytes_eq}
 use Rattle.std.proofs.lemmas.List.{take-append-drop}
 use Rattle.std.proofs.lemmas.List.Folds.{list_any-append, drop_split}
-use Rattle.gitbase_core.specs.Index.{key_begins, path_after}
-use Rattle.gitbase_core.specs.Kinds.{kinds_from, entry_kinds, directory_kinds, no_kinds}
+use Rattle.gitbase_core.specs.Index.{key_begins_with_prefix, entry_path_after_skipped_bytes}
+use Rattle.gitbase_core.specs.Kinds.{kinds_from_entry_or_entries_beneath, index_kinds_of_entry, index_kinds_from_entries_beneath, index_kinds_of_unknown_path}
 use Rattle.gitbase_core.specs.Path.{is_empty}
-use Rattle.gitbase_core.specs.View.{EntryView, kinds_in_view}
+use Rattle.gitbase_core.specs.View.{DirectoryEntriesView, index_kinds_of_name_in_view}
 use Rattle.gitbase_core.specs.declared.entry.IndexEntry.{IndexEntry}
 
 module _ (entries : List IndexEntry) (skip : ℕ) (name : List ℕ) where
-  abbrev under : EntryView
+  abbrev under : DirectoryEntriesView
   under = record { entries = entries; skip = skip }
 
   abbrev pub at_name : Option IndexEntry
-  at_name = find (λ e. bytes_eq (path_after skip e) name) entries
+  at_name = find (λ e. bytes_eq (entry_path_after_skipped_bytes skip e) name) entries
 
   abbrev pub beneath_name : List IndexEntry
-  beneath_name = filter (key_begins (path_after skip) (name ++ 47 ∷ [])) entries
+  beneath_name = filter (key_begins_with_prefix (entry_path_after_skipped_bytes skip) (name ++ 47 ∷ [])) entries
 
-  pub under-none : None ≡ at_name → beneath_name ≡ [] → no_kinds ≡ kinds_in_view under name
+  pub under-none : None ≡ at_name → beneath_name ≡ [] → index_kinds_of_unknown_path ≡ index_kinds_of_name_in_view under name
   under-none none nothing =
       by_test ((skip == 0) && is_empty name)
-      ∙ ap (λ (run : List IndexEntry). kinds_from None (cond ((skip == 0) && is_empty name) [] run)) (sym nothing)
-      ∙ ap (λ at. kinds_from at (cond ((skip == 0) && is_empty name) [] beneath_name)) none
+      ∙ ap (λ (run : List IndexEntry). kinds_from_entry_or_entries_beneath None (cond ((skip == 0) && is_empty name) [] run)) (sym nothing)
+      ∙ ap (λ at. kinds_from_entry_or_entries_beneath at (cond ((skip == 0) && is_empty name) [] beneath_name)) none
     where
-      by_test : (t : Bool) → no_kinds ≡ kinds_from None (cond t [] [])
+      by_test : (t : Bool) → index_kinds_of_unknown_path ≡ kinds_from_entry_or_entries_beneath None (cond t [] [])
       by_test true = refl
       by_test false = refl
 
-  pub under-at : (e : IndexEntry) → Some e ≡ at_name → entry_kinds e ≡ kinds_in_view under name
-  under-at e at = ap (λ at. kinds_from at (cond ((skip == 0) && is_empty name) [] beneath_name)) at
+  pub under-at : (e : IndexEntry) → Some e ≡ at_name → index_kinds_of_entry e ≡ index_kinds_of_name_in_view under name
+  under-at e at = ap (λ at. kinds_from_entry_or_entries_beneath at (cond ((skip == 0) && is_empty name) [] beneath_name)) at
 
-  pub under-empty : ((skip == 0) && is_empty name) ≡ true → None ≡ at_name → no_kinds ≡ kinds_in_view under name
+  pub under-empty : ((skip == 0) && is_empty name) ≡ true → None ≡ at_name → index_kinds_of_unknown_path ≡ index_kinds_of_name_in_view under name
   under-empty empty none =
-      ap (λ at. kinds_from at []) none
-      ∙ ap (λ (t : Bool). kinds_from at_name (cond t [] beneath_name)) (sym empty)
+      ap (λ at. kinds_from_entry_or_entries_beneath at []) none
+      ∙ ap (λ (t : Bool). kinds_from_entry_or_entries_beneath at_name (cond t [] beneath_name)) (sym empty)
 
-  pub under-beneath : ((skip == 0) && is_empty name) ≡ false → None ≡ at_name → directory_kinds beneath_name ≡ kinds_in_view under name
+  pub under-beneath : ((skip == 0) && is_empty name) ≡ false → None ≡ at_name → index_kinds_from_entries_beneath beneath_name ≡ index_kinds_of_name_in_view under name
   under-beneath some none =
-      ap (λ at. kinds_from at beneath_name) none
-      ∙ ap (λ (t : Bool). kinds_from at_name (cond t [] beneath_name)) (sym some)
+      ap (λ at. kinds_from_entry_or_entries_beneath at beneath_name) none
+      ∙ ap (λ (t : Bool). kinds_from_entry_or_entries_beneath at_name (cond t [] beneath_name)) (sym some)
 
 -- where none of a list passes, none of a part does
 or-false : (a b : Bool) → (a || b) ≡ false → (a ≡ false) × (b ≡ false)

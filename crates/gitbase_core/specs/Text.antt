@@ -13,9 +13,9 @@ abbrev pub eq_ignore_case : List ℕ → List ℕ → Bool
 eq_ignore_case left right = bytes_eq (fold_case left) (fold_case right)
 
 -- a name is `.git`, whatever the case of its ASCII letters
-abbrev pub is_dot_git : List ℕ → Bool
-is_dot_git name = eq_ignore_case name (codes ".git")
+abbrev pub is_dot_git_ignoring_case : List ℕ → Bool
+is_dot_git_ignoring_case name = eq_ignore_case name (codes ".git")
 
 -- a text without the byte order mark of UTF-8 at its start, the bytes EF BB BF
-abbrev pub without_mark : List ℕ → List ℕ
-without_mark text = if starts_with nat_eq text (239 ∷ 187 ∷ 191 ∷ []) then drop 3 text else text
+abbrev pub without_byte_order_mark : List ℕ → List ℕ
+without_byte_order_mark text = if starts_with nat_eq text (239 ∷ 187 ∷ 191 ∷ []) then drop 3 text else text

@@ -1,7 +1,7 @@
 //! A store that fails, and a caller that works in a fork.
 ghost use Rattle.std.specs.Prelude.{◌≡◌, ◌≤◌, IfOk, IsErrOf, None, Some};
-ghost use Rattle.gitbase_core.specs.Causes.{Increased, with_more};
-ghost use Rattle.gitbase_core.specs.Objects.{Objects, object_at, found_of};
+ghost use Rattle.gitbase_core.specs.Causes.{CountIncreasedOrSaturated, saturating_sum};
+ghost use Rattle.gitbase_core.specs.Objects.{ObjectsById, object_by_id, found_kind_of_object};
 
 use gitbase_core::{Bytes, Find, FindError, Found, ObjectId, OutOfMemory};
 use std::alloc::Global;
@@ -68,14 +68,14 @@ pub fn find_in_fork<F: Find>(
     id: &ObjectId,
     into: &mut Bytes,
 ) -> Result<Found, FindError>
-    ensures answer { (held : Objects) → F.holds store.old ≡ Some held
-        → IfOk result (λ found. found ≡ found_of (object_at held id.now)) }
+    ensures answer { (held : ObjectsById) → F.holds store.old ≡ Some held
+        → IfOk result (λ found. found ≡ found_kind_of_object (object_by_id held id.now)) }
     ensures held { F.holds store.new ≡ F.holds store.old }
     ensures cause { IsErrOf result FindError.Fault
-        → Increased (F.faults store.old) (F.faults store.new) }
+        → CountIncreasedOrSaturated (F.faults store.old) (F.faults store.new) }
     ensures faults { F.faults store.old ≤ F.faults store.new }
     ensures unfaulted { IfOk result (λ _. F.faults store.new
-        ≡ with_more (F.faults store.old) 0) }
+        ≡ saturating_sum (F.faults store.old) 0) }
 {
     let mut fork = store.fork(alloc)?;
     let found = fork.find_blob(alloc, id, into);

@@ -6,8 +6,8 @@ use Rattle.std.proofs.lemmas.List.{length-reverse, reverse-append}
 use Rattle.glob_rules.specs.declared.Case.{Case}
 use Rattle.glob_rules.specs.declared.attributes.word.Assigned.{Assigned}
 use Rattle.glob_rules.specs.Attributes.{AttributeList}
-use Rattle.glob_rules.specs.AttributeValues.{path_assignments_reversed, list_says, body_of, follows, has_assigned_name, macro_count}
-use Rattle.glob_rules.specs.Standing.{with_said, standing_after}
+use Rattle.glob_rules.specs.AttributeValues.{path_assignments_reversed, list_assignments_for_path, macro_body_in_first_list, macro_assignments_if_set, has_assigned_name, count_of_macros}
+use Rattle.glob_rules.specs.Standing.{standing_with_assignment_if_first, standing_after_assignments}
 use Rattle.glob_rules.proofs.Bodies.{from_end, flat_map-append}
 use Rattle.glob_rules.proofs.Sayings.{unsaid, unsaid-count, unsaid-more, unsaid-less, saying-nothing, saying-stands, saying-new, saying-append, follows-cases, stands-last}
 
@@ -20,34 +20,34 @@ not_false true first e f = refl
 not_false false first e f = absurd (cc)
 
 module _ (lists : List AttributeList) (standing now left rest : List Assigned) (a : Assigned) (is_first : Bool)
-    (next : left ≡ a ∷ rest) (first : is_first ≡ not (has_assigned_name a.name standing)) (said : now ≡ with_said standing a) where
+    (next : left ≡ a ∷ rest) (first : is_first ≡ not (has_assigned_name a.name standing)) (said : now ≡ standing_with_assignment_if_first standing a) where
   -- what is not the first is not heard
-  pub heard_again : is_first ≡ false → standing_after lists now rest ≡ standing_after lists standing left
+  pub heard_again : is_first ≡ false → standing_after_assignments lists now rest ≡ standing_after_assignments lists standing left
   heard_again old =
       let there = not_false (has_assigned_name a.name standing) is_first first old in
       let same : now ≡ standing = said ∙ ap (λ (b : Bool). cond b standing (standing ++ a ∷ [])) there in
-      ap (λ (s : List Assigned). standing_after lists s rest) same
-      ∙ sym (saying-stands (macro_count (reverse lists)) (reverse lists) standing rest a there)
-      ∙ sym (ap (standing_after lists standing) next)
+      ap (λ (s : List Assigned). standing_after_assignments lists s rest) same
+      ∙ sym (saying-stands (count_of_macros (reverse lists)) (reverse lists) standing rest a there)
+      ∙ sym (ap (standing_after_assignments lists standing) next)
 
-  module _ (body after : List Assigned) (yes : is_first ≡ true) (follow : body ≡ follows (reverse lists) a) (put : after ≡ body ++ rest) where
+  module _ (body after : List Assigned) (yes : is_first ≡ true) (follow : body ≡ macro_assignments_if_set (reverse lists) a) (put : after ≡ body ++ rest) where
     grown : now ≡ standing ++ a ∷ []
     grown = said ∙ ap (λ (b : Bool). cond b standing (standing ++ a ∷ [])) (not_true (has_assigned_name a.name standing) is_first first yes)
 
     -- what is the first stands, and what follows is heard next
-    pub heard_first : standing_after lists now after ≡ standing_after lists standing left
+    pub heard_first : standing_after_assignments lists now after ≡ standing_after_assignments lists standing left
     heard_first =
-        ap (λ (s : List Assigned). standing_after lists s after) grown
-        ∙ ap (standing_after lists (standing ++ a ∷ [])) (put ∙ ap (λ (b : List Assigned). b ++ rest) follow)
-        ∙ sym (saying-new (macro_count (reverse lists)) (reverse lists) standing rest a (unsaid-count standing (reverse lists)) (not_true (has_assigned_name a.name standing) is_first first yes))
-        ∙ sym (ap (standing_after lists standing) next)
+        ap (λ (s : List Assigned). standing_after_assignments lists s after) grown
+        ∙ ap (standing_after_assignments lists (standing ++ a ∷ [])) (put ∙ ap (λ (b : List Assigned). b ++ rest) follow)
+        ∙ sym (saying-new (count_of_macros (reverse lists)) (reverse lists) standing rest a (unsaid-count standing (reverse lists)) (not_true (has_assigned_name a.name standing) is_first first yes))
+        ∙ sym (ap (standing_after_assignments lists standing) next)
 
     -- and less is left
     pub heard_less : unsaid (λ b. length b) now (reverse lists) + length after < unsaid (λ b. length b) standing (reverse lists) + length left
     heard_less =
         subst (λ (s : List Assigned). unsaid (λ b. length b) s (reverse lists) + length after < unsaid (λ b. length b) standing (reverse lists) + length left) (sym grown) (go (follows-cases (reverse lists) a))
       where
-        go : (follows (reverse lists) a ≡ []) ⊎ ((macro : List Assigned) × (body_of a.name (reverse lists) ≡ Some macro) × (follows (reverse lists) a ≡ reverse macro))
+        go : (macro_assignments_if_set (reverse lists) a ≡ []) ⊎ ((macro : List Assigned) × (macro_body_in_first_list a.name (reverse lists) ≡ Some macro) × (macro_assignments_if_set (reverse lists) a ≡ reverse macro))
             → unsaid (λ b. length b) (standing ++ a ∷ []) (reverse lists) + length after < unsaid (λ b. length b) standing (reverse lists) + length left
         go (inl none) =
             let one : length left ≡ length (a ∷ rest) = ap (λ (l : List Assigned). length l) next in
@@ -63,32 +63,32 @@ module _ (lists : List AttributeList) (standing now left rest : List Assigned) (
             omega (arith, one, all, sum, back, less)
 
 -- nothing is left
-pub heard_all : (lists : List AttributeList) (standing left : List Assigned) → left ≡ [] → standing ≡ standing_after lists standing left
-heard_all lists standing left e = sym (ap (standing_after lists standing) e ∙ saying-nothing (macro_count (reverse lists)) (reverse lists) standing)
+pub heard_all : (lists : List AttributeList) (standing left : List Assigned) → left ≡ [] → standing ≡ standing_after_assignments lists standing left
+heard_all lists standing left e = sym (ap (standing_after_assignments lists standing) e ∙ saying-nothing (count_of_macros (reverse lists)) (reverse lists) standing)
 
 -- what is said in two parts
-pub heard_parts : (lists : List AttributeList) (standing front back : List Assigned) → standing_after lists standing (front ++ back) ≡ standing_after lists (standing_after lists standing front) back
-heard_parts lists standing front back = saying-append (macro_count (reverse lists)) (reverse lists) standing front back
+pub heard_parts : (lists : List AttributeList) (standing front back : List Assigned) → standing_after_assignments lists standing (front ++ back) ≡ standing_after_assignments lists (standing_after_assignments lists standing front) back
+heard_parts lists standing front back = saying-append (count_of_macros (reverse lists)) (reverse lists) standing front back
 
 -- what the last of some things says, and then the others
 pub heard_from_end : {X : Type 0} (f : X → List Assigned) (lists : List AttributeList) (standing now : List Assigned) (all before : List X) (last : X)
-    → all ≡ before ++ last ∷ [] → now ≡ standing_after lists standing (reverse (f last))
-    → standing_after lists now (reverse (flat_map f before)) ≡ standing_after lists standing (reverse (flat_map f all))
+    → all ≡ before ++ last ∷ [] → now ≡ standing_after_assignments lists standing (reverse (f last))
+    → standing_after_assignments lists now (reverse (flat_map f before)) ≡ standing_after_assignments lists standing (reverse (flat_map f all))
 heard_from_end f lists standing now all before last split said =
-    ap (λ (s : List Assigned). standing_after lists s (reverse (flat_map f before))) said
+    ap (λ (s : List Assigned). standing_after_assignments lists s (reverse (flat_map f before))) said
     ∙ sym (heard_parts lists standing (reverse (f last)) (reverse (flat_map f before)))
-    ∙ sym (ap (standing_after lists standing) (ap (λ xs. reverse (flat_map f xs)) split ∙ from_end f before last))
+    ∙ sym (ap (standing_after_assignments lists standing) (ap (λ xs. reverse (flat_map f xs)) split ∙ from_end f before last))
 
 -- nothing is said by nothing
-pub heard_none : {X : Type 0} (f : X → List Assigned) (lists : List AttributeList) (standing : List Assigned) (all : List X) → length all ≡ 0 → standing ≡ standing_after lists standing (reverse (flat_map f all))
+pub heard_none : {X : Type 0} (f : X → List Assigned) (lists : List AttributeList) (standing : List Assigned) (all : List X) → length all ≡ 0 → standing ≡ standing_after_assignments lists standing (reverse (flat_map f all))
 heard_none f lists standing [] e = heard_all lists standing [] refl
 heard_none f lists standing (x ∷ all) e = absurd (omega (arith, e))
 
 -- what two searches say, where the second is above the first
 pub heard_both : (low high : List AttributeList) (path : List ℕ) (is_dir : Option Bool) (case : Case) (standing : List Assigned)
-    → standing_after (low ++ high) (standing_after (low ++ high) standing (path_assignments_reversed high path is_dir case)) (path_assignments_reversed low path is_dir case)
-    ≡ standing_after (low ++ high) standing (path_assignments_reversed (low ++ high) path is_dir case)
+    → standing_after_assignments (low ++ high) (standing_after_assignments (low ++ high) standing (path_assignments_reversed high path is_dir case)) (path_assignments_reversed low path is_dir case)
+    ≡ standing_after_assignments (low ++ high) standing (path_assignments_reversed (low ++ high) path is_dir case)
 heard_both low high path is_dir case standing =
     sym (heard_parts (low ++ high) standing (path_assignments_reversed high path is_dir case) (path_assignments_reversed low path is_dir case))
-    ∙ ap (standing_after (low ++ high) standing) (sym (ap (λ said. reverse said) (flat_map-append (list_says path is_dir case) low high)
-    ∙ reverse-append (flat_map (list_says path is_dir case) low) (flat_map (list_says path is_dir case) high)))
+    ∙ ap (standing_after_assignments (low ++ high) standing) (sym (ap (λ said. reverse said) (flat_map-append (list_assignments_for_path path is_dir case) low high)
+    ∙ reverse-append (flat_map (list_assignments_for_path path is_dir case) low) (flat_map (list_assignments_for_path path is_dir case) high)))

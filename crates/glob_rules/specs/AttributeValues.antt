@@ -18,81 +18,81 @@ use Rattle.glob_rules.specs.declared.attributes.Assignment.{Assignment}
 use Rattle.glob_rules.specs.declared.attributes.Assignment.TheVariants.{Set, Unset, Unspecified, Value}
 use Rattle.glob_rules.specs.declared.attributes.list.PathLine.{PathLine}
 use Rattle.glob_rules.specs.declared.attributes.word.Assigned.{Assigned}
-use Rattle.glob_rules.specs.Rule.{last_component, relative_to, rule_matches_parts}
-use Rattle.glob_rules.specs.Attributes.{AttributeList, Definition}
+use Rattle.glob_rules.specs.Rule.{last_component, strip_directory_prefix, rule_matches_name_or_relative_path}
+use Rattle.glob_rules.specs.Attributes.{AttributeList, MacroDefinition}
 
 -- what a line says of a path with this last component, which reads `relative` from the directory of the line's list
-abbrev pub line_says : List ℕ → Option (List ℕ) → Option Bool → Case → PathLine → List Assigned
-line_says name relative is_dir case line = if rule_matches_parts line.pattern name relative is_dir case then line.assignments else []
+abbrev pub line_assignments_for_path : List ℕ → Option (List ℕ) → Option Bool → Case → PathLine → List Assigned
+line_assignments_for_path name relative is_dir case line = if rule_matches_name_or_relative_path line.pattern name relative is_dir case then line.assignments else []
 
 -- what lines of a list say of a path
-abbrev pub lines_say : List ℕ → Option (List ℕ) → Option Bool → Case → List PathLine → List Assigned
-lines_say name relative is_dir case lines = flat_map (line_says name relative is_dir case) lines
+abbrev pub lines_assignments_for_path : List ℕ → Option (List ℕ) → Option Bool → Case → List PathLine → List Assigned
+lines_assignments_for_path name relative is_dir case lines = flat_map (line_assignments_for_path name relative is_dir case) lines
 
 -- what a list says of a path
-abbrev pub list_says : List ℕ → Option Bool → Case → AttributeList → List Assigned
-list_says path is_dir case list = lines_say (last_component path) (relative_to list.base path) is_dir case list.lines
+abbrev pub list_assignments_for_path : List ℕ → Option Bool → Case → AttributeList → List Assigned
+list_assignments_for_path path is_dir case list = lines_assignments_for_path (last_component path) (strip_directory_prefix list.base path) is_dir case list.lines
 
 -- what lists, the lowest first, say of a path, in the order in which it is heard
 abbrev pub path_assignments_reversed : List AttributeList → List ℕ → Option Bool → Case → List Assigned
-path_assignments_reversed lists path is_dir case = reverse (flat_map (list_says path is_dir case) lists)
+path_assignments_reversed lists path is_dir case = reverse (flat_map (list_assignments_for_path path is_dir case) lists)
 
 -- the first if there is one, else the other
-abbrev pub body_or : Option (List Assigned) → Option (List Assigned) → Option (List Assigned)
-body_or None other = other
-body_or (Some body) other = Some body
+abbrev pub first_body_or_other : Option (List Assigned) → Option (List Assigned) → Option (List Assigned)
+first_body_or_other None other = other
+first_body_or_other (Some body) other = Some body
 
 -- what the macro of a name stands for by a list
-abbrev pub body_in : List ℕ → List Definition → Option (List Assigned)
-body_in name macros = lookup (is_at (slice_cmp nat_cmp name)) macros
+abbrev pub macro_body_in_list : List ℕ → List MacroDefinition → Option (List Assigned)
+macro_body_in_list name macros = lookup (is_at (slice_cmp nat_cmp name)) macros
 
 -- what the macro of a name stands for, by the first of lists that defines it
-abbrev pub body_of : List ℕ → List AttributeList → Option (List Assigned)
-body_of name [] = None
-body_of name (list ∷ lists) = body_or (body_in name list.macros) (body_of name lists)
+abbrev pub macro_body_in_first_list : List ℕ → List AttributeList → Option (List Assigned)
+macro_body_in_first_list name [] = None
+macro_body_in_first_list name (list ∷ lists) = first_body_or_other (macro_body_in_list name list.macros) (macro_body_in_first_list name lists)
 
 -- it is set
-abbrev pub is_set : Assignment → Bool
-is_set Set = true
-is_set Unset = false
-is_set Unspecified = false
-is_set (Value text) = false
+abbrev pub is_set_state : Assignment → Bool
+is_set_state Set = true
+is_set_state Unset = false
+is_set_state Unspecified = false
+is_set_state (Value text) = false
 
 -- what is said where an attribute comes to have this state, by lists of which the first is the highest
-abbrev pub follows : List AttributeList → Assigned → List Assigned
-follows lists a = if is_set a.state then reverse (unwrap_or (body_of a.name lists) []) else []
+abbrev pub macro_assignments_if_set : List AttributeList → Assigned → List Assigned
+macro_assignments_if_set lists a = if is_set_state a.state then reverse (unwrap_or (macro_body_in_first_list a.name lists) []) else []
 
 -- the state of a name among those that stand
-abbrev pub state_in : List ℕ → List Assigned → Option Assignment
-state_in name [] = None
-state_in name (a ∷ standing) = if bytes_eq name a.name then Some a.state else state_in name standing
+abbrev pub state_of_name : List ℕ → List Assigned → Option Assignment
+state_of_name name [] = None
+state_of_name name (a ∷ standing) = if bytes_eq name a.name then Some a.state else state_of_name name standing
 
 -- something stands of the name
 abbrev pub has_assigned_name : List ℕ → List Assigned → Bool
 has_assigned_name name standing = list_any (λ (a : Assigned). bytes_eq name a.name) standing
 
 -- What stands once `said` is said after what stands, where `into` says the same of what follows.
-abbrev pub each_said : (List Assigned → List Assigned → List Assigned) → List AttributeList → List Assigned → List Assigned → List Assigned
-each_said into lists standing [] = standing
-each_said into lists standing (a ∷ said) =
-    each_said into lists (if has_assigned_name a.name standing then standing else into (standing ++ a ∷ []) (follows lists a)) said
+abbrev pub apply_assignments_with_expansion : (List Assigned → List Assigned → List Assigned) → List AttributeList → List Assigned → List Assigned → List Assigned
+apply_assignments_with_expansion into lists standing [] = standing
+apply_assignments_with_expansion into lists standing (a ∷ said) =
+    apply_assignments_with_expansion into lists (if has_assigned_name a.name standing then standing else into (standing ++ a ∷ []) (macro_assignments_if_set lists a)) said
 
 -- the same, where macros stand in one another no deeper than `depth`
-unfoldable pub after_saying : ℕ → List AttributeList → List Assigned → List Assigned → List Assigned
-after_saying zero lists standing said = each_said (λ standing body. standing) lists standing said
-after_saying (suc depth) lists standing said = each_said (after_saying depth lists) lists standing said
+unfoldable pub apply_assignments_to_depth : ℕ → List AttributeList → List Assigned → List Assigned → List Assigned
+apply_assignments_to_depth zero lists standing said = apply_assignments_with_expansion (λ standing body. standing) lists standing said
+apply_assignments_to_depth (suc depth) lists standing said = apply_assignments_with_expansion (apply_assignments_to_depth depth lists) lists standing said
 
 -- how many macros lists define
-abbrev pub macro_count : List AttributeList → ℕ
-macro_count [] = 0
-macro_count (list ∷ lists) = length list.macros + macro_count lists
+abbrev pub count_of_macros : List AttributeList → ℕ
+count_of_macros [] = 0
+count_of_macros (list ∷ lists) = length list.macros + count_of_macros lists
 
 -- what stands of a path, by lists of which the lowest is the first
-abbrev pub standing_at : List AttributeList → List ℕ → Option Bool → Case → List Assigned
-standing_at lists path is_dir case =
+abbrev pub standing_assignments_of_path : List AttributeList → List ℕ → Option Bool → Case → List Assigned
+standing_assignments_of_path lists path is_dir case =
     let highest_first = reverse lists in
-    after_saying (macro_count highest_first) highest_first [] (path_assignments_reversed lists path is_dir case)
+    apply_assignments_to_depth (count_of_macros highest_first) highest_first [] (path_assignments_reversed lists path is_dir case)
 
 -- The state of an attribute of a path, by lists of which the lowest is the first; none where nothing is said of it.
-abbrev pub attribute_at : List AttributeList → List ℕ → Option Bool → Case → List ℕ → Option Assignment
-attribute_at lists path is_dir case name = state_in name (standing_at lists path is_dir case)
+abbrev pub attribute_state_at_path : List AttributeList → List ℕ → Option Bool → Case → List ℕ → Option Assignment
+attribute_state_at_path lists path is_dir case name = state_of_name name (standing_assignments_of_path lists path is_dir case)

@@ -15,43 +15,43 @@ use Rattle.glob_rules.specs.declared.attributes.word.Assigned.{Assigned}
 use Rattle.glob_rules.specs.AttributeLines.{lines}
 
 -- A macro: its name, and what it stands for.
-abbrev pub Definition : Type 0
-Definition = List ℕ × List Assigned
+abbrev pub MacroDefinition : Type 0
+MacroDefinition = List ℕ × List Assigned
 
 -- A list: its lines that speak of paths, its macros in the order of their names, where it was read, and the directory that it is for.
 pub record AttributeList : Type 0 where
   pub lines : List PathLine
-  pub macros : List Definition
+  pub macros : List MacroDefinition
   pub source : List ℕ
   pub base : List ℕ
 
 -- a line as one that speaks of paths
-abbrev pub path_line : ℕ → List Assigned → Head → Option PathLine
-path_line number said (Paths rule) = Some (record { number = number; pattern = rule; assignments = said })
-path_line number said (Macro name) = None
+abbrev pub path_line_unless_macro : ℕ → List Assigned → Head → Option PathLine
+path_line_unless_macro number said (Paths rule) = Some (record { number = number; pattern = rule; assignments = said })
+path_line_unless_macro number said (Macro name) = None
 
 -- the lines that speak of paths
-abbrev pub path_lines : List Line → List PathLine
-path_lines lines = filter_map (λ (line : Line). path_line line.number line.assignments line.head) lines
+abbrev pub lines_about_paths : List Line → List PathLine
+lines_about_paths lines = filter_map (λ (line : Line). path_line_unless_macro line.number line.assignments line.head) lines
 
 -- the macros with that of a line, which takes the place of one of its name
-abbrev pub with_macro : List Definition → List Assigned → Head → List Definition
-with_macro macros said (Paths rule) = macros
-with_macro macros said (Macro name) = insert_entry (slice_cmp nat_cmp) macros name said
+abbrev pub macros_with_definition_of_head : List MacroDefinition → List Assigned → Head → List MacroDefinition
+macros_with_definition_of_head macros said (Paths rule) = macros
+macros_with_definition_of_head macros said (Macro name) = insert_entry (slice_cmp nat_cmp) macros name said
 
 -- the macros with those of lines, in their order
-abbrev pub with_macros : List Definition → List Line → List Definition
-with_macros macros [] = macros
-with_macros macros (line ∷ lines) = with_macros (with_macro macros line.assignments line.head) lines
+abbrev pub macros_with_definitions_of_lines : List MacroDefinition → List Line → List MacroDefinition
+macros_with_definitions_of_lines macros [] = macros
+macros_with_definitions_of_lines macros (line ∷ lines) = macros_with_definitions_of_lines (macros_with_definition_of_head macros line.assignments line.head) lines
 
 -- the list of lines that were read there, for a directory
-abbrev pub list_from : List Line → List ℕ → List ℕ → AttributeList
-list_from lines source base = record { lines = path_lines lines; macros = with_macros [] lines; source = source; base = base }
+abbrev pub attribute_list_from_lines : List Line → List ℕ → List ℕ → AttributeList
+attribute_list_from_lines lines source base = record { lines = lines_about_paths lines; macros = macros_with_definitions_of_lines [] lines; source = source; base = base }
 
 -- what git knows without any file
-abbrev pub builtin_text : List ℕ
-builtin_text = codes "[attr]binary -diff -merge -text"
+abbrev pub builtin_attributes_text : List ℕ
+builtin_attributes_text = codes "[attr]binary -diff -merge -text"
 
 -- the list of that
-abbrev pub builtin_list : AttributeList
-builtin_list = list_from (lines true builtin_text) (codes "[builtin]") []
+abbrev pub builtin_attribute_list : AttributeList
+builtin_attribute_list = attribute_list_from_lines (lines true builtin_attributes_text) (codes "[builtin]") []

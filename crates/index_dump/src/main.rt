@@ -15,25 +15,25 @@ use std::io::{Read, Write};
 use std::process::ExitCode;
 
 /// Whether the entry is left out of a sparse worktree.
-fn is_skipped(entry: &IndexEntry) -> bool {
+fn has_skip_worktree_flag(entry: &IndexEntry) -> bool {
     entry.flags.contains(Flags::SKIP_WORKTREE)
 }
 
 /// The letter that `git ls-files -v` puts before an entry.
-fn letter(entry: &IndexEntry) -> char {
+fn ls_files_status_letter(entry: &IndexEntry) -> char {
     let is_assumed = entry.flags.contains(Flags::ASSUME_VALID);
     if entry.stage > 0 {
         return if is_assumed { 'm' } else { 'M' };
     }
-    if is_skipped(entry) {
+    if has_skip_worktree_flag(entry) {
         return if is_assumed { 's' } else { 'S' };
     }
     if is_assumed { 'h' } else { 'H' }
 }
 
 /// Adds the record of an entry.
-fn add_entry(text: &mut Vec<u8>, alloc: Global, entry: &IndexEntry) -> io::Result<()> {
-    let letter = letter(entry);
+fn append_entry_record(text: &mut Vec<u8>, alloc: Global, entry: &IndexEntry) -> io::Result<()> {
+    let letter = ls_files_status_letter(entry);
     let mode = entry.mode.bits();
     let stage = entry.stage;
     let head = format!(in alloc; "{letter} {mode:06o} ")?;
@@ -47,7 +47,7 @@ fn add_entry(text: &mut Vec<u8>, alloc: Global, entry: &IndexEntry) -> io::Resul
 }
 
 /// Adds what the file says of an entry besides.
-fn add_detail(
+fn append_stat_record(
     text: &mut Vec<u8>,
     alloc: Global,
     detail: &Detail,
@@ -70,51 +70,51 @@ fn add_detail(
 }
 
 /// All records.
-fn records(alloc: Global, state: &State, details: &[Detail]) -> io::Result<Vec<u8>> {
+fn records_of_all_entries(alloc: Global, state: &State, details: &[Detail]) -> io::Result<Vec<u8>> {
     let mut text = Vec::new(alloc);
     for (entry, detail) in state.entries().iter().zip(details) {
-        add_entry(&mut text, alloc, entry)?;
-        add_detail(&mut text, alloc, detail, is_skipped(entry))?;
+        append_entry_record(&mut text, alloc, entry)?;
+        append_stat_record(&mut text, alloc, detail, has_skip_worktree_flag(entry))?;
     }
     Ok(text)
 }
 
 /// Says why some bytes are no index file.
-fn refuse_file(rt: &HostRuntime, error: IndexFileError) -> io::Result<ExitCode> {
+fn print_file_refusal(rt: &HostRuntime, error: IndexFileError) -> io::Result<ExitCode> {
     println!(rt; "refused: {error:?}")?;
     Ok(ExitCode::from(1))
 }
 
 /// Says why the entries of a file are no index.
-fn refuse_entries(rt: &HostRuntime, error: IndexError) -> io::Result<ExitCode> {
+fn print_entries_refusal(rt: &HostRuntime, error: IndexError) -> io::Result<ExitCode> {
     println!(rt; "no index: {error:?}")?;
     Ok(ExitCode::from(1))
 }
 
 /// Prints how many entries there are.
-fn count(rt: &HostRuntime, length: usize, is_sparse: bool) -> io::Result<ExitCode> {
+fn print_entry_count(rt: &HostRuntime, length: usize, is_sparse: bool) -> io::Result<ExitCode> {
     let sparse = if is_sparse { " sparse" } else { "" };
     println!(rt; "{length} entries{sparse}")?;
     Ok(ExitCode::from(0))
 }
 
 /// Prints how many entries there are, and a record for each.
-fn dump(rt: &HostRuntime, file: IndexFile) -> io::Result<ExitCode> {
+fn print_count_and_records(rt: &HostRuntime, file: IndexFile) -> io::Result<ExitCode> {
     let is_sparse = file.is_sparse();
     let (entries, details) = file.into_parts();
     match State::from_entries(entries) {
         Ok(state) => {
-            let text = records(rt.alloc(), &state, &details)?;
-            let status = count(rt, details.len(), is_sparse)?;
+            let text = records_of_all_entries(rt.alloc(), &state, &details)?;
+            let status = print_entry_count(rt, details.len(), is_sparse)?;
             io::writer(rt).write_all(&text)?;
             Ok(status)
         }
-        Err(error) => refuse_entries(rt, error),
+        Err(error) => print_entries_refusal(rt, error),
     }
 }
 
 /// Whether there is a word of at most eight bytes after the program's name.
-fn has_word(rt: &HostRuntime) -> bool {
+fn has_short_argument(rt: &HostRuntime) -> bool {
     let mut buffer = [0u8; 8];
     rt.arg(1, &mut buffer).is_ok()
 }
@@ -123,8 +123,12 @@ fn main(rt: HostRuntime) -> io::Result<ExitCode> {
     let mut bytes = Vec::new(rt.alloc());
     rt.reader().read_to_end(&mut bytes)?;
     match read_index(rt.alloc(), &bytes) {
-        Ok(file) if has_word(&rt) => count(&rt, file.entries().len(), file.is_sparse()),
-        Ok(file) => dump(&rt, file),
-        Err(error) => refuse_file(&rt, error),
+        Ok(file) if has_short_argument(&rt) => print_entry_count(
+            &rt,
+            file.entries().len(),
+            file.is_sparse(),
+        ),
+        Ok(file) => print_count_and_records(&rt, file),
+        Err(error) => print_file_refusal(&rt, error),
     }
 }

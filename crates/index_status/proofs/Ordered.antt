@@ -13,12 +13,12 @@ use Rattle.std.proofs.lemmas.Cmp.{nat_list_cmp_total}
 use Rattle.std.proofs.lemmas.Bool.{true≢false}
 use Rattle.std.proofs.lemmas.Map.Lookups.{exact_bytes}
 use Rattle.std.proofs.lemmas.Map.Text.{is_eq-slice_cmp}
-use Rattle.gitbase_core.specs.Index.{IsIndex, ascends, entry_cmp, entry_error, first_error, fits_mode, fits_stage, is_entry_path}
+use Rattle.gitbase_core.specs.Index.{AreValidIndexEntries, sorts_after_earlier_entries, compare_entries_by_path_and_stage, index_error_of_next_entry, first_index_error_in_entries, trailing_slash_fits_mode, stage_fits_earlier_entries, is_valid_index_path}
 use Rattle.gitbase_core.specs.declared.entry.IndexEntry.{IndexEntry}
 use Rattle.gitbase_core.specs.declared.index.IndexError.{IndexError}
 use Rattle.gitbase_core.specs.declared.index.IndexError.TheVariants.{Path, ModePath, NotAscending, Stage}
 use Rattle.index_status.specs.declared.path_state.PathState.{PathState}
-use Rattle.index_status.specs.Rows.{ArePaired, Ascends, Row, firsts, firsts_after, path_of}
+use Rattle.index_status.specs.Rows.{AreEntriesPairedWithRows, PathsAscendStrictly, PathAndState, first_entries_of_paths, first_entries_of_paths_after, path_of_row}
 
 abbrev entry_path : IndexEntry → List ℕ
 entry_path e = e.path
@@ -28,8 +28,8 @@ both-none None b e = (refl, e)
 both-none (Some x) b e = absurd (cc e)
 
 -- an entry of an index stands behind all earlier ones
-stands-behind : (earlier : List IndexEntry) (e : IndexEntry) → entry_error earlier e ≡ None → ascends earlier e ≡ true
-stands-behind earlier e none = by (not (is_entry_path e.path)) (not (fits_mode e)) (ascends earlier e) (not (fits_stage earlier e)) none
+stands-behind : (earlier : List IndexEntry) (e : IndexEntry) → index_error_of_next_entry earlier e ≡ None → sorts_after_earlier_entries earlier e ≡ true
+stands-behind earlier e none = by (not (is_valid_index_path e.path)) (not (trailing_slash_fits_mode e)) (sorts_after_earlier_entries earlier e) (not (stage_fits_earlier_entries earlier e)) none
   where
     by : (a b c d : Bool)
         → (if a then Some (Path (length earlier)) else if b then Some (ModePath (length earlier)) else if not c then Some (NotAscending (length earlier)) else if d then Some (Stage (length earlier)) else None) ≡ None
@@ -52,7 +52,7 @@ last-of-all p (y ∷ front) x all = last-of-all p front x (by (p y) all)
     by false e = absurd (cc e)
 
 -- entries of two paths stand in the order of these
-path-before : (p e : IndexEntry) → is_lt (entry_cmp p e) ≡ true → bytes_eq p.path e.path ≡ false → slice_cmp nat_cmp p.path e.path ≡ Less
+path-before : (p e : IndexEntry) → is_lt (compare_entries_by_path_and_stage p e) ≡ true → bytes_eq p.path e.path ≡ false → slice_cmp nat_cmp p.path e.path ≡ Less
 path-before p e before differ = by (slice_cmp nat_cmp p.path e.path) refl before
   where
     by : (o : Ordering) → slice_cmp nat_cmp p.path e.path ≡ o → is_lt (ordering_then o (nat_cmp p.stage e.stage)) ≡ true → slice_cmp nat_cmp p.path e.path ≡ Less
@@ -73,17 +73,17 @@ abbrev Chain : List ℕ → List (List ℕ) → Type 0
 Chain path [] = Unit {0}
 Chain path (next ∷ paths) = (slice_cmp nat_cmp path next ≡ Less) × Chain next paths
 
-chain : (front : List IndexEntry) (p : IndexEntry) (entries : List IndexEntry) → first_error (front ++ p ∷ []) entries ≡ None → Chain p.path (map entry_path (firsts_after (Some p.path) entries))
+chain : (front : List IndexEntry) (p : IndexEntry) (entries : List IndexEntry) → first_index_error_in_entries (front ++ p ∷ []) entries ≡ None → Chain p.path (map entry_path (first_entries_of_paths_after (Some p.path) entries))
 chain front p [] none = tt
 chain front p (e ∷ entries) none =
-    let parts = both-none (entry_error (front ++ p ∷ []) e) (first_error ((front ++ p ∷ []) ++ e ∷ []) entries) none in
-    let behind = last-of-all (λ before. is_lt (entry_cmp before e)) front p (stands-behind (front ++ p ∷ []) e parts.0) in
+    let parts = both-none (index_error_of_next_entry (front ++ p ∷ []) e) (first_index_error_in_entries ((front ++ p ∷ []) ++ e ∷ []) entries) none in
+    let behind = last-of-all (λ before. is_lt (compare_entries_by_path_and_stage before e)) front p (stands-behind (front ++ p ∷ []) e parts.0) in
     by (bytes_eq p.path e.path) refl behind (chain (front ++ p ∷ []) e entries parts.1)
   where
-    by : (same : Bool) → bytes_eq p.path e.path ≡ same → is_lt (entry_cmp p e) ≡ true → Chain e.path (map entry_path (firsts_after (Some e.path) entries))
-        → Chain p.path (map entry_path (if same then firsts_after (Some p.path) entries else e ∷ firsts_after (Some e.path) entries))
+    by : (same : Bool) → bytes_eq p.path e.path ≡ same → is_lt (compare_entries_by_path_and_stage p e) ≡ true → Chain e.path (map entry_path (first_entries_of_paths_after (Some e.path) entries))
+        → Chain p.path (map entry_path (if same then first_entries_of_paths_after (Some p.path) entries else e ∷ first_entries_of_paths_after (Some e.path) entries))
     by true same before more =
-        subst (λ (q : List ℕ). Chain q (map entry_path (firsts_after (Some q) entries))) (sym (same-path p.path e.path same)) more
+        subst (λ (q : List ℕ). Chain q (map entry_path (first_entries_of_paths_after (Some q) entries))) (sym (same-path p.path e.path same)) more
     by false differ before more = (path-before p e before differ, more)
 
 all-above : (p q : List ℕ) (paths : List (List ℕ)) → slice_cmp nat_cmp p q ≡ Less → AllByRecursion (λ y. slice_cmp nat_cmp q y ≡ Less) paths → AllByRecursion (λ y. slice_cmp nat_cmp p y ≡ Less) paths
@@ -99,18 +99,18 @@ unfolding IsStrictlySortedBy
 sorted path [] linked = (tt, tt)
 sorted path (next ∷ paths) linked = (above path (next ∷ paths) linked, sorted next paths linked.1)
 
-sorted-firsts : (entries : List IndexEntry) → IsIndex entries → IsStrictlySortedBy (slice_cmp nat_cmp) (map entry_path (firsts entries))
+sorted-firsts : (entries : List IndexEntry) → AreValidIndexEntries entries → IsStrictlySortedBy (slice_cmp nat_cmp) (map entry_path (first_entries_of_paths entries))
 unfolding IsStrictlySortedBy
 sorted-firsts [] is = tt
 sorted-firsts (e ∷ entries) is =
-    sorted e.path (map entry_path (firsts_after (Some e.path) entries)) (chain [] e entries (both-none (entry_error [] e) (first_error (e ∷ []) entries) is).1)
+    sorted e.path (map entry_path (first_entries_of_paths_after (Some e.path) entries)) (chain [] e entries (both-none (index_error_of_next_entry [] e) (first_index_error_in_entries (e ∷ []) entries) is).1)
 
-paired-paths : (Has : IndexEntry → PathState → Type 0) (entries : List IndexEntry) (made : List Row) → ArePaired Has entries made → map path_of made ≡ map entry_path entries
-paired-paths Has [] made are = ap (map path_of) are
+paired-paths : (Has : IndexEntry → PathState → Type 0) (entries : List IndexEntry) (made : List PathAndState) → AreEntriesPairedWithRows Has entries made → map path_of_row made ≡ map entry_path entries
+paired-paths Has [] made are = ap (map path_of_row) are
 paired-paths Has (e ∷ entries) [] are = absurd are
 paired-paths Has (e ∷ entries) (row ∷ made) are =
-    ap (λ (p : List ℕ). p ∷ map path_of made) are.0 ∙ ap (λ (l : List (List ℕ)). e.path ∷ l) (paired-paths Has entries made are.2)
+    ap (λ (p : List ℕ). p ∷ map path_of_row made) are.0 ∙ ap (λ (l : List (List ℕ)). e.path ∷ l) (paired-paths Has entries made are.2)
 
-pub ascending-rows : (Has : IndexEntry → PathState → Type 0) (entries : List IndexEntry) (made : List Row) → IsIndex entries → ArePaired Has (firsts entries) made → Ascends made
+pub ascending-rows : (Has : IndexEntry → PathState → Type 0) (entries : List IndexEntry) (made : List PathAndState) → AreValidIndexEntries entries → AreEntriesPairedWithRows Has (first_entries_of_paths entries) made → PathsAscendStrictly made
 ascending-rows Has entries made is are =
-    subst (IsStrictlySortedBy (slice_cmp nat_cmp)) (sym (paired-paths Has (firsts entries) made are)) (sorted-firsts entries is)
+    subst (IsStrictlySortedBy (slice_cmp nat_cmp)) (sym (paired-paths Has (first_entries_of_paths entries) made are)) (sorted-firsts entries is)

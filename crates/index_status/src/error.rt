@@ -42,9 +42,9 @@ pub enum StatusError {
 
 impl From<ReportError> for StatusError {
     ghost use Rattle.std.specs.Prelude.{◌≡◌};
-    ghost use Rattle.index_status.specs.Status.{of_report};
+    ghost use Rattle.index_status.specs.Status.{status_error_of_report_error};
 
-    ghost from_gives = { λ refused error. error ≡ of_report refused };
+    ghost from_gives = { λ refused error. error ≡ status_error_of_report_error refused };
 
     fn from(refused: ReportError) -> StatusError {
         match refused {
@@ -56,9 +56,9 @@ impl From<ReportError> for StatusError {
 
 impl From<StatesError> for StatusError {
     ghost use Rattle.std.specs.Prelude.{◌≡◌};
-    ghost use Rattle.index_status.specs.Status.{of_states};
+    ghost use Rattle.index_status.specs.Status.{status_error_of_states_error};
 
-    ghost from_gives = { λ refused error. error ≡ of_states refused };
+    ghost from_gives = { λ refused error. error ≡ status_error_of_states_error refused };
 
     fn from(refused: StatesError) -> StatusError {
         match refused {

@@ -10,9 +10,9 @@ mod program;
 mod report_beside;
 mod way;
 
-pub use compare::states;
+pub use compare::compare_index_paths_with_worktree;
 pub use error::{StatesError, StatusError};
 pub use git_index::blob_id;
 pub use path_state::PathState;
-pub use program::{run_status, text_of_status};
+pub use program::{make_status_as_text, run_status};
 pub use report_beside::{IndexStatus, status};

@@ -1,7 +1,7 @@
 //! What stands at an index path, against what the index has.
 ghost use Rattle.std.specs.Prelude.{◌≡◌, ◌≤◌, ◌+◌, false, Some, IfOk, IfErr};
-ghost use Rattle.worktree_fs.specs.Causes.{Increased, with_more};
-ghost use Rattle.worktree_fs.specs.Kept.{Asks};
+ghost use Rattle.worktree_fs.specs.Causes.{CountIncreasedOrSaturated, saturating_sum};
+ghost use Rattle.worktree_fs.specs.Kept.{KeepsTreeAndListCounts};
 ghost use Rattle.worktree_fs.specs.Tree.{Names, look};
 ghost use Rattle.git_index.specs.Blobs.{blob_id};
 ghost use Rattle.index_status.specs.States as states;
@@ -22,55 +22,58 @@ use worktree_fs::{NodeKind, ReadAnswer, ReadError, Worktree};
 /// See docs/DIFFERENCES.md#status-bytes.
 /// See docs/DIFFERENCES.md#status-replaced-file.
 /// See docs/DIFFERENCES.md#status-other-node.
-pub(crate) fn state_at<W: Worktree>(
+pub(crate) fn state_of_entry_at_full_path<W: Worktree>(
     alloc: Global,
     worktree: &mut W,
     full: PathText,
     entry: &IndexEntry,
 ) -> Result<PathState, StatesError>
-    ensures state { (t : Names) → W.told worktree.old ≡ Some t
-        → IfOk result (λ state. state ≡ states.by_mode entry.now (look t full false)) }
-    ensures possible { IfOk result (states.IsSeen entry.now) }
-    ensures refused { IfErr result (ways.StopsLookAt full
-        (Increased (W.faults worktree.old) (W.faults worktree.new))) }
-    ensures keeps { Asks W.Worktree worktree.old worktree.new }
-    ensures unfaulted { ways.UnlessFault result (W.faults worktree.new ≡ W.faults worktree.old) }
-    ensures reads { W.reads worktree.new ≤ W.reads worktree.old + states.files_at_end entry.now }
-    ensures read { IfOk result (λ state. with_more (W.reads worktree.old) (states.files_for state)
-        ≤ W.reads worktree.new) }
+    ensures state { (t : Names) → W.told worktree.old ≡ Some t → IfOk result (λ state. state
+        ≡ states.state_by_mode_and_look entry.now (look t full false)) }
+    ensures possible { IfOk result (states.MayBeStateOfPresentEntry entry.now) }
+    ensures refused { IfErr result (ways.StopsAtPathByFaultOrMemory full
+        (CountIncreasedOrSaturated (W.faults worktree.old) (W.faults worktree.new))) }
+    ensures keeps { KeepsTreeAndListCounts W.Worktree worktree.old worktree.new }
+    ensures unfaulted { ways.HoldsUnlessStatesFault result (W.faults worktree.new
+        ≡ W.faults worktree.old) }
+    ensures reads { W.reads worktree.new ≤ W.reads worktree.old + states.most_reads_at_full_path
+        entry.now }
+    ensures read { IfOk result (λ state. saturating_sum (W.reads worktree.old)
+        (states.least_reads_for_state state) ≤ W.reads worktree.new) }
 {
     if entry.mode.is_submodule() {
-        return submodule_state(alloc, worktree, full);
+        return submodule_state_by_node(alloc, worktree, full);
     }
-    if is_link_mode(entry.mode) {
-        return link_state(alloc, worktree, full);
+    if is_symlink_mode(entry.mode) {
+        return symlink_state_by_node_kind(alloc, worktree, full);
     }
-    file_state(alloc, worktree, full, &entry.id)
+    file_state_by_blob_id(alloc, worktree, full, &entry.id)
 }
 
 /// Whether this is the mode of a link.
-fn is_link_mode(mode: Mode) -> bool
-    ensures { result ≡ states.is_link_mode mode }
+fn is_symlink_mode(mode: Mode) -> bool
+    ensures { result ≡ states.is_symlink_mode mode }
 {
     mode.bits() == 0o120000
 }
 
 /// The state of a submodule.
-fn submodule_state<W: Worktree>(
+fn submodule_state_by_node<W: Worktree>(
     alloc: Global,
     worktree: &mut W,
     full: PathText,
 ) -> Result<PathState, StatesError>
     ensures state { (t : Names) → W.told worktree.old ≡ Some t
-        → IfOk result (λ state. state ≡ states.by_submodule (look t full false)) }
-    ensures possible { IfOk result states.IsUnread }
-    ensures refused { IfErr result (ways.StopsLookAt full
-        (Increased (W.faults worktree.old) (W.faults worktree.new))) }
-    ensures keeps { Asks W.Worktree worktree.old worktree.new }
-    ensures unfaulted { ways.UnlessFault result (W.faults worktree.new ≡ W.faults worktree.old) }
+        → IfOk result (λ state. state ≡ states.state_of_submodule_by_look (look t full false)) }
+    ensures possible { IfOk result states.MayBeStateWithoutReading }
+    ensures refused { IfErr result (ways.StopsAtPathByFaultOrMemory full
+        (CountIncreasedOrSaturated (W.faults worktree.old) (W.faults worktree.new))) }
+    ensures keeps { KeepsTreeAndListCounts W.Worktree worktree.old worktree.new }
+    ensures unfaulted { ways.HoldsUnlessStatesFault result (W.faults worktree.new
+        ≡ W.faults worktree.old) }
     ensures reads { W.reads worktree.new ≡ W.reads worktree.old }
-    ensures read { IfOk result (λ state. with_more (W.reads worktree.old) (states.files_for state)
-        ≤ W.reads worktree.new) }
+    ensures read { IfOk result (λ state. saturating_sum (W.reads worktree.old)
+        (states.least_reads_for_state state) ≤ W.reads worktree.new) }
 {
     match worktree.kind(alloc, full.as_bytes()) {
         Ok(None) => Ok(PathState::Deleted),
@@ -84,21 +87,22 @@ fn submodule_state<W: Worktree>(
 }
 
 /// The state of a link.
-fn link_state<W: Worktree>(
+fn symlink_state_by_node_kind<W: Worktree>(
     alloc: Global,
     worktree: &mut W,
     full: PathText,
 ) -> Result<PathState, StatesError>
     ensures state { (t : Names) → W.told worktree.old ≡ Some t
-        → IfOk result (λ state. state ≡ states.by_link (look t full false)) }
-    ensures possible { IfOk result states.IsUnread }
-    ensures refused { IfErr result (ways.StopsLookAt full
-        (Increased (W.faults worktree.old) (W.faults worktree.new))) }
-    ensures keeps { Asks W.Worktree worktree.old worktree.new }
-    ensures unfaulted { ways.UnlessFault result (W.faults worktree.new ≡ W.faults worktree.old) }
+        → IfOk result (λ state. state ≡ states.state_of_symlink_by_look (look t full false)) }
+    ensures possible { IfOk result states.MayBeStateWithoutReading }
+    ensures refused { IfErr result (ways.StopsAtPathByFaultOrMemory full
+        (CountIncreasedOrSaturated (W.faults worktree.old) (W.faults worktree.new))) }
+    ensures keeps { KeepsTreeAndListCounts W.Worktree worktree.old worktree.new }
+    ensures unfaulted { ways.HoldsUnlessStatesFault result (W.faults worktree.new
+        ≡ W.faults worktree.old) }
     ensures reads { W.reads worktree.new ≡ W.reads worktree.old }
-    ensures read { IfOk result (λ state. with_more (W.reads worktree.old) (states.files_for state)
-        ≤ W.reads worktree.new) }
+    ensures read { IfOk result (λ state. saturating_sum (W.reads worktree.old)
+        (states.least_reads_for_state state) ≤ W.reads worktree.new) }
 {
     match worktree.kind(alloc, full.as_bytes()) {
         Ok(None) => Ok(PathState::Deleted),
@@ -114,26 +118,27 @@ fn link_state<W: Worktree>(
 /// The state of a file, which is read once.
 ///
 /// See docs/DIFFERENCES.md#status-intended.
-fn file_state<W: Worktree>(
+fn file_state_by_blob_id<W: Worktree>(
     alloc: Global,
     worktree: &mut W,
     full: PathText,
     id: &ObjectId,
 ) -> Result<PathState, StatesError>
     ensures state { (t : Names) → W.told worktree.old ≡ Some t
-        → IfOk result (λ state. state ≡ states.by_file id.now (look t full false)) }
-    ensures possible { IfOk result states.IsRead }
-    ensures refused { IfErr result (ways.StopsLookAt full
-        (Increased (W.faults worktree.old) (W.faults worktree.new))) }
-    ensures keeps { Asks W.Worktree worktree.old worktree.new }
-    ensures unfaulted { ways.UnlessFault result (W.faults worktree.new ≡ W.faults worktree.old) }
+        → IfOk result (λ state. state ≡ states.state_of_file_by_look id.now (look t full false)) }
+    ensures possible { IfOk result states.MayBeStateOfReadFile }
+    ensures refused { IfErr result (ways.StopsAtPathByFaultOrMemory full
+        (CountIncreasedOrSaturated (W.faults worktree.old) (W.faults worktree.new))) }
+    ensures keeps { KeepsTreeAndListCounts W.Worktree worktree.old worktree.new }
+    ensures unfaulted { ways.HoldsUnlessStatesFault result (W.faults worktree.new
+        ≡ W.faults worktree.old) }
     ensures reads { W.reads worktree.new ≤ W.reads worktree.old + 1 }
-    ensures read { IfOk result (λ state. with_more (W.reads worktree.old) (states.files_for state)
-        ≤ W.reads worktree.new) }
+    ensures read { IfOk result (λ state. saturating_sum (W.reads worktree.old)
+        (states.least_reads_for_state state) ≤ W.reads worktree.new) }
 {
     let mut bytes = Bytes::new(alloc);
     match worktree.read(alloc, full.as_bytes(), false, &mut bytes) {
-        Ok(ReadAnswer::Read) => Ok(compare_with_blob_id(alloc, bytes.as_bytes(), id)?),
+        Ok(ReadAnswer::Read) => Ok(same_or_modified_by_blob_id(alloc, bytes.as_bytes(), id)?),
         Ok(ReadAnswer::Absent) => Ok(PathState::Deleted),
         Ok(ReadAnswer::IsDirectory) => Ok(PathState::TypeChanged),
         Ok(ReadAnswer::IsLink) => Ok(PathState::TypeChanged),
@@ -145,13 +150,13 @@ fn file_state<W: Worktree>(
 }
 
 /// The state of a file by its bytes.
-fn compare_with_blob_id(
+fn same_or_modified_by_blob_id(
     alloc: Global,
     bytes: &[u8],
     id: &ObjectId,
 ) -> Result<PathState, OutOfMemory>
-    ensures state { IfOk result (λ state. state ≡ states.by_bytes id.now bytes.now) }
-    ensures read { IfOk result (λ state. states.files_for state ≡ 1) }
+    ensures state { IfOk result (λ state. state ≡ states.state_of_file_by_bytes id.now bytes.now) }
+    ensures read { IfOk result (λ state. states.least_reads_for_state state ≡ 1) }
 {
     let own = blob_id(alloc, bytes)?;
     if own.as_bytes().as_slice() == id.as_bytes().as_slice() {

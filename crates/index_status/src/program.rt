@@ -1,20 +1,20 @@
 //! The top call.
 ghost use Rattle.std.specs.Prelude.{◌≡◌, ◌⊎◌, ◌↔◌, ℕ, List, Some, None, IfOk};
-ghost use Rattle.worktree_fs.specs.Causes.{NotIncreased};
+ghost use Rattle.worktree_fs.specs.Causes.{CountNotIncreased};
 ghost use Rattle.worktree_fs.specs.Tree.{Names};
-ghost use Rattle.worktree_report.specs.Ends.{Runs};
-ghost use Rattle.worktree_report.specs.Named.{named_by};
-ghost use Rattle.worktree_report.specs.Written.{Appends};
+ghost use Rattle.worktree_report.specs.Ends.{TopCallAnswersAndEnds};
+ghost use Rattle.worktree_report.specs.Named.{places_of_borrowed};
+ghost use Rattle.worktree_report.specs.Written.{AppendsWholeBytes};
 ghost use Rattle.index_status.specs.Run as top;
 
 use crate::error::StatusError;
-use crate::lines::status_bytes;
+use crate::lines::encode_states_and_report_text;
 use crate::report_beside::status;
 use gitbase_core::{Bytes, Find, OutOfMemory};
 use std::alloc::Global;
 use worktree_fs::{Interrupt, Sink};
 use worktree_report::{
-    CountsFaults, Places, Refusal, Setup, has_failed_since, places_behind, read_setup,
+    CountsFaults, Places, Refusal, Setup, has_failed_since, parse_places_of_command, read_setup,
     refusal_of_report_error, write_answer,
 };
 
@@ -43,15 +43,15 @@ fn refusal_of_status_error(alloc: Global, error: StatusError) -> Result<Refusal,
 ///   or its count stands at its last value.
 /// - `Interrupted`: the interrupt was raised, and counted it.
 /// - `OutOfMemory`: memory was refused.
-pub fn text_of_status<W: CountsFaults, I: Interrupt>(
+pub fn make_status_as_text<W: CountsFaults, I: Interrupt>(
     alloc: Global,
     worktree: &mut W,
     interrupt: &mut I,
     root: &[u8],
     setup: &Setup,
 ) -> Result<Bytes, Refusal>
-    ensures { top.StatusTexts W.Worktree I.Interrupt (W.precomposes worktree.old) worktree.old
-        worktree.new interrupt.old interrupt.new root.now setup.now result }
+    ensures { top.AnswersStatusTextOrRefusal W.Worktree I.Interrupt (W.precomposes worktree.old)
+        worktree.old worktree.new interrupt.old interrupt.new root.now setup.now result }
 {
     let before = worktree.fault_count();
     let mut objects = setup.blobs.fork(alloc)?;
@@ -60,38 +60,39 @@ pub fn text_of_status<W: CountsFaults, I: Interrupt>(
             if has_failed_since(worktree, before) {
                 return Err(Refusal::Fault);
             }
-            Ok(status_bytes(alloc, &status, &setup.options)?)
+            Ok(encode_states_and_report_text(alloc, &status, &setup.options)?)
         }
         Err(error) => Err(refusal_of_status_error(alloc, error)?),
     }
 }
 
 /// The text at some places, or why there is none.
-fn text_at<W: CountsFaults, I: Interrupt>(
+fn read_setup_and_make_status_text<W: CountsFaults, I: Interrupt>(
     alloc: Global,
     places: Places<'_>,
     worktree: &mut W,
     interrupt: &mut I,
 ) -> Result<Bytes, Refusal>
-    ensures { top.AnswersStatus W.Worktree I.Interrupt worktree.old worktree.new interrupt.old
-        interrupt.new (named_by places.entry) result }
+    ensures { top.AnswersStatusAtPlaces W.Worktree I.Interrupt worktree.old worktree.new
+        interrupt.old interrupt.new (places_of_borrowed places.entry) result }
 {
     let setup = read_setup(alloc, worktree, places.setup)?;
-    text_of_status(alloc, worktree, interrupt, places.root, &setup)
+    make_status_as_text(alloc, worktree, interrupt, places.root, &setup)
 }
 
 /// The text that the words ask for, or why there is none.
-fn text_asked<W: CountsFaults, I: Interrupt>(
+fn status_text_for_words<W: CountsFaults, I: Interrupt>(
     alloc: Global,
     words: &[Bytes],
     worktree: &mut W,
     interrupt: &mut I,
 ) -> Result<Bytes, Refusal>
-    ensures { top.Answers W.Worktree I.Interrupt worktree.old worktree.new interrupt.old
-        interrupt.new (top.asked (W.precomposes worktree.old) words.now) result }
+    ensures { top.AnswersOptionalStatusRequest W.Worktree I.Interrupt worktree.old worktree.new
+        interrupt.old interrupt.new (top.root_and_setup_of_status_words (W.precomposes worktree.old)
+        words.now) result }
 {
-    match places_behind(b"status", worktree.precomposes(), words) {
-        Some(places) => text_at(alloc, places, worktree, interrupt),
+    match parse_places_of_command(b"status", worktree.precomposes(), words) {
+        Some(places) => read_setup_and_make_status_text(alloc, places, worktree, interrupt),
         None => Err(Refusal::Usage),
     }
 }
@@ -128,29 +129,31 @@ pub fn run_status<W: CountsFaults, I: Interrupt, S: Sink, E: Sink>(
 ) -> u8
     // What the words ask for came to an answer: a text, or a refusal with its cause. The status, `out` and `err` are as that answer
     // has it, and what stays is said of each.
-    ensures runs { Runs S.Sink E.Sink out.old out.new err.old err.new top.usage
-        (top.Answers W.Worktree I.Interrupt worktree.old worktree.new interrupt.old interrupt.new
-        (top.asked (W.precomposes worktree.old) words.now)) result }
+    ensures runs { TopCallAnswersAndEnds S.Sink E.Sink out.old out.new err.old err.new top.usage
+        (top.AnswersOptionalStatusRequest W.Worktree I.Interrupt worktree.old worktree.new
+        interrupt.old interrupt.new (top.root_and_setup_of_status_words (W.precomposes worktree.old)
+        words.now)) result }
 
     // Status 0: no fault was counted, and the count does not stand at its last value.
     ensures unfaulted { result ≡ 0 → (W.faults worktree.new ≡ W.faults worktree.old)
-        × NotIncreased (W.faults worktree.old) (W.faults worktree.new) }
+        × CountNotIncreased (W.faults worktree.old) (W.faults worktree.new) }
 
     // Status 0, over a told tree: what `out` has is what it had, and the lines of the states and the report.
-    ensures status { (t : Names) → W.told worktree.old ≡ Some t → result ≡ 0
-        → (text : List ℕ) × (top.output_of (W.precomposes worktree.old) t words.now ≡ Some text)
-        × Appends (S.written out.old) (S.written out.new) text }
+    ensures status { (t : Names) → W.told worktree.old ≡ Some t → result ≡ 0 → (text : List ℕ)
+        × (top.status_text_of_words (W.precomposes worktree.old) t words.now ≡ Some text)
+        × AppendsWholeBytes (S.written out.old) (S.written out.new) text }
 
     // Status 2 exactly where the words ask for nothing.
-    ensures usage { (result ≡ 2) ↔ (top.asked (W.precomposes worktree.old) words.now ≡ None) }
+    ensures usage { (result ≡ 2) ↔ (top.root_and_setup_of_status_words (W.precomposes worktree.old)
+        words.now ≡ None) }
 
     // Valid input, over a told tree and with nothing counted.
-    ensures complete { (t : Names) → W.told worktree.old ≡ Some t
-        → top.IsValid (W.precomposes worktree.old) t words.now
-        → NotIncreased (W.faults worktree.old) (W.faults worktree.new)
-        → NotIncreased (I.raised interrupt.old) (I.raised interrupt.new)
-        → NotIncreased (S.refusals out.old) (S.refusals out.new) → (result ≡ 0) ⊎ (result ≡ 8) }
+    ensures complete { (t : Names) → W.told worktree.old ≡ Some t → top.AreValidStatusWords
+        (W.precomposes worktree.old) t words.now → CountNotIncreased (W.faults worktree.old)
+        (W.faults worktree.new) → CountNotIncreased (I.raised interrupt.old)
+        (I.raised interrupt.new) → CountNotIncreased (S.refusals out.old) (S.refusals out.new)
+        → (result ≡ 0) ⊎ (result ≡ 8) }
 {
-    let answer = text_asked(alloc, words, worktree, interrupt);
+    let answer = status_text_for_words(alloc, words, worktree, interrupt);
     write_answer(alloc, USAGE, answer, out, err)
 }

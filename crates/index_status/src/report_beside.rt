@@ -1,7 +1,7 @@
 //! The states of the index paths, and the report beside them.
-ghost use Rattle.index_status.specs.Status.{Compares, MakesStatus};
+ghost use Rattle.index_status.specs.Status.{ComparesBesideReport, MakesReportAndComparesIndex};
 
-use crate::compare::states;
+use crate::compare::compare_index_paths_with_worktree;
 use crate::error::StatusError;
 use crate::path_state::PathState;
 use gitbase_core::{Find, PathText, State};
@@ -19,23 +19,24 @@ pub struct IndexStatus {
 }
 
 /// The states of index paths beside a report.
-fn status_with_report<W: Worktree>(
+fn compare_index_and_pair_with_report<W: Worktree>(
     alloc: Global,
     worktree: &mut W,
     root: &[u8],
     index: &State,
     report: Report,
 ) -> Result<IndexStatus, StatusError>
-    ensures { Compares W.Worktree worktree.old worktree.new root.now index.now report result }
+    ensures { ComparesBesideReport W.Worktree worktree.old worktree.new root.now index.now report
+        result }
 {
-    let paths = states(alloc, worktree, root, index)?;
+    let paths = compare_index_paths_with_worktree(alloc, worktree, root, index)?;
     Ok(IndexStatus { paths, report })
 }
 
 /// The report of the work tree at `worktree_root`, which is absolute and has no component `.` or
 /// `..`, as a setup asks for it, and the state of each path of its index. The report is made first,
 /// as [`worktree_report`](worktree_report::worktree_report) does; then each path is looked at as
-/// [`states`](crate::states) does.
+/// [`compare_index_paths_with_worktree`](crate::compare_index_paths_with_worktree) does.
 ///
 /// # Errors
 ///
@@ -51,11 +52,17 @@ pub fn status<W: Worktree, F: Find, I: Interrupt>(
     worktree_root: &[u8],
     setup: &Setup,
 ) -> Result<IndexStatus, StatusError>
-    ensures { MakesStatus W.Worktree F.Find I.Interrupt worktree.old worktree.new objects.old
-        objects.new interrupt.old interrupt.new worktree_root.now setup.now result }
+    ensures { MakesReportAndComparesIndex W.Worktree F.Find I.Interrupt worktree.old worktree.new
+        objects.old objects.new interrupt.old interrupt.new worktree_root.now setup.now result }
 {
     match worktree_report(alloc, worktree, objects, interrupt, worktree_root, setup) {
-        Ok(report) => status_with_report(alloc, worktree, worktree_root, &setup.index, report),
+        Ok(report) => compare_index_and_pair_with_report(
+            alloc,
+            worktree,
+            worktree_root,
+            &setup.index,
+            report,
+        ),
         Err(error) => Err(StatusError::from(error)),
     }
 }

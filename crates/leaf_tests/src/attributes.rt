@@ -75,10 +75,10 @@ fn are_found(out: &Outcome, words: &[u8]) -> bool {
             continue;
         }
         let (name, state) = word.split_once_str(b"=").unwrap_or((word, b""));
-        if !is_state(out.value_of(name), state) {
+        if !is_state(out.found_state_of_name(name), state) {
             return false;
         }
-        if is_printed(out.value_of(name)) {
+        if is_printed(out.found_state_of_name(name)) {
             count = count.saturating_add(1);
         }
     }
@@ -125,7 +125,7 @@ fn searches_of(
     row: Row<'_>,
     collection: &mut MetadataCollection,
 ) -> Option<(Search, Search)> {
-    let mut globals = Search::with_builtin(alloc, collection).ok()?;
+    let mut globals = Search::new_with_builtin_binary_macro(alloc, collection).ok()?;
     let mut stack = Search::new(alloc);
     let is_made = is_added(alloc, &mut globals, collection, row.user, b"", true)
         && is_added(alloc, &mut stack, collection, row.root, b"", true)

@@ -1,37 +1,37 @@
 -- What is shown of an index.
 use Rattle.std.specs.Prelude.{ℕ, List, [], Bool, false, not, ◌||◌, ◌==◌, Option, Some, None, if◌then◌else◌}
 use Rattle.std.specs.List.{flat_map}
-use Rattle.gitbase_core.specs.Entry.{mode_bits, commit_mode, dir_mode}
+use Rattle.gitbase_core.specs.Entry.{mode_bits, gitlink_mode, sparse_directory_mode}
 use Rattle.gitbase_core.specs.declared.entry.IndexEntry.{IndexEntry}
 use Rattle.glob_rules.specs.PathSpec.{PathSpec}
-use Rattle.glob_rules.specs.PathSpecs.{list_match}
+use Rattle.glob_rules.specs.PathSpecs.{match_of_path_by_specs}
 use Rattle.glob_rules.specs.declared.pathspec.Match.{Match}
 use Rattle.ls_files.specs.declared.options.Listing.{Listing}
-use Rattle.ls_files.specs.Choices.{entries_to_list}
-use Rattle.ls_files.specs.Lines.{entry_line}
+use Rattle.ls_files.specs.Choices.{listed_index_entries}
+use Rattle.ls_files.specs.Lines.{line_of_index_entry}
 
 abbrev pub is_including_match : Option Match → Bool
 is_including_match None = false
 is_including_match (Some m) = not m.excluded
 
 -- the path specs match a path, as that of a directory or not
-abbrev pub is_matched : List PathSpec → List ℕ → Bool → Bool
-is_matched specs path is_dir = is_including_match (list_match specs path (Some is_dir))
+abbrev pub do_specs_match_path : List PathSpec → List ℕ → Bool → Bool
+do_specs_match_path specs path is_dir = is_including_match (match_of_path_by_specs specs path (Some is_dir))
 
 -- a directory stands at the path of a submodule, and of what a sparse index has in the place of a directory
-abbrev pub is_directory : IndexEntry → Bool
-is_directory e = mode_bits e.mode == commit_mode || mode_bits e.mode == dir_mode
+abbrev pub is_submodule_or_sparse_directory : IndexEntry → Bool
+is_submodule_or_sparse_directory e = mode_bits e.mode == gitlink_mode || mode_bits e.mode == sparse_directory_mode
 
-abbrev pub is_entry_matched : List PathSpec → IndexEntry → Bool
-is_entry_matched specs e = is_matched specs e.path (is_directory e)
+abbrev pub do_specs_match_index_entry : List PathSpec → IndexEntry → Bool
+do_specs_match_index_entry specs e = do_specs_match_path specs e.path (is_submodule_or_sparse_directory e)
 
 -- the line of an entry, if it is matched
-abbrev pub line_if : Listing → List ℕ → List PathSpec → IndexEntry → List ℕ
-line_if l prefix specs e = if is_entry_matched specs e then entry_line l prefix e else []
+abbrev pub index_line_if_specs_match : Listing → List ℕ → List PathSpec → IndexEntry → List ℕ
+index_line_if_specs_match l prefix specs e = if do_specs_match_index_entry specs e then line_of_index_entry l prefix e else []
 
-abbrev pub lines_of : Listing → List ℕ → List PathSpec → List IndexEntry → List ℕ
-lines_of l prefix specs entries = flat_map (line_if l prefix specs) entries
+abbrev pub lines_of_matched_entries : Listing → List ℕ → List PathSpec → List IndexEntry → List ℕ
+lines_of_matched_entries l prefix specs entries = flat_map (index_line_if_specs_match l prefix specs) entries
 
 -- the lines of the entries that are chosen and matched, in the order of the index
-abbrev pub index_text : Listing → List ℕ → List PathSpec → List IndexEntry → List ℕ
-index_text l prefix specs entries = lines_of l prefix specs (entries_to_list l entries)
+abbrev pub text_of_listed_index : Listing → List ℕ → List PathSpec → List IndexEntry → List ℕ
+text_of_listed_index l prefix specs entries = lines_of_matched_entries l prefix specs (listed_index_entries l entries)

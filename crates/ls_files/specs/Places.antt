@@ -3,16 +3,16 @@ use Rattle.std.specs.Prelude.{ℕ, List, Bool}
 use Rattle.gitbase_core.specs.declared.entry.IndexEntry.{IndexEntry}
 use Rattle.ls_files.specs.declared.shown.Sign.{Sign}
 
-pub record Place : Type 0 where
+pub record PathWithDirectoryFlag : Type 0 where
   pub path : List ℕ
   pub holds_names : Bool
 
 -- a place, and whether what stands there is ignored
-pub record Judged : Type 0 where
-  pub place : Place
+pub record PlaceWithIgnoredFlag : Type 0 where
+  pub place : PathWithDirectoryFlag
   pub ignored : Bool
 
 -- an entry, and as what it is shown
-pub record Shown : Type 0 where
+pub record EntryAsKeptGoneOrModified : Type 0 where
   pub entry : IndexEntry
   pub sign : Sign

@@ -2,93 +2,93 @@
 -- (return 1)."
 use Rattle.std.specs.Prelude.{ℕ, List, [], ◌++◌, Bool, true, false, not, ◌&&◌, ◌||◌, ◌==◌, nat_lt, codes, map, Option, Some, None, if◌then◌else◌}
 use Rattle.std.specs.List.{flat_map, list_any}
-use Rattle.gitbase_core.specs.Path.{ends_in_slash, is_empty, without_slash}
+use Rattle.gitbase_core.specs.Path.{ends_in_slash, is_empty, without_trailing_slash}
 use Rattle.gitbase_core.specs.declared.entry.IndexEntry.{IndexEntry}
-use Rattle.glob_rules.specs.PathSpecs.{list_match}
+use Rattle.glob_rules.specs.PathSpecs.{match_of_path_by_specs}
 use Rattle.glob_rules.specs.declared.pathspec.Match.{Match}
 use Rattle.ls_files.specs.declared.options.NamedSpec.{NamedSpec}
-use Rattle.ls_files.specs.Cached.{is_directory}
-use Rattle.ls_files.specs.Places.{Place}
+use Rattle.ls_files.specs.Cached.{is_submodule_or_sparse_directory}
+use Rattle.ls_files.specs.Places.{PathWithDirectoryFlag}
 
 -- a spec that excludes matches nothing by itself: it takes out, or another has to match
-abbrev pub is_excluding : Match → Bool
-is_excluding m = m.excluded || m.sequence_number == 0
+abbrev pub is_match_by_exclusion : Match → Bool
+is_match_by_exclusion m = m.excluded || m.sequence_number == 0
 
-abbrev pub takes_alone : Option Match → Bool
-takes_alone None = false
-takes_alone (Some m) = not (is_excluding m)
+abbrev pub is_some_match_not_excluding : Option Match → Bool
+is_some_match_not_excluding None = false
+is_some_match_not_excluding (Some m) = not (is_match_by_exclusion m)
 
 -- how a spec alone matches a path
-abbrev pub match_alone : Place → NamedSpec → Option Match
-match_alone place named = list_match named.spec place.path (Some place.holds_names)
+abbrev pub match_of_single_spec : PathWithDirectoryFlag → NamedSpec → Option Match
+match_of_single_spec place named = match_of_path_by_specs named.spec place.path (Some place.holds_names)
 
 -- a spec that does not exclude matches a path
-abbrev pub matches_alone : Place → NamedSpec → Bool
-matches_alone place named = takes_alone (match_alone place named)
+abbrev pub does_single_spec_include_place : PathWithDirectoryFlag → NamedSpec → Bool
+does_single_spec_include_place place named = is_some_match_not_excluding (match_of_single_spec place named)
 
 -- one of some specs does
-abbrev pub is_named : List NamedSpec → Place → Bool
-is_named all place = list_any (matches_alone place) all
+abbrev pub does_any_spec_include_place : List NamedSpec → PathWithDirectoryFlag → Bool
+does_any_spec_include_place all place = list_any (does_single_spec_include_place place) all
 
-abbrev pub sees_by : List NamedSpec → Place → Option Match → Bool
-sees_by all place None = false
-sees_by all place (Some m) = if is_excluding m then is_named all place else true
+abbrev pub does_match_count_for_spec : List NamedSpec → PathWithDirectoryFlag → Option Match → Bool
+does_match_count_for_spec all place None = false
+does_match_count_for_spec all place (Some m) = if is_match_by_exclusion m then does_any_spec_include_place all place else true
 
 -- A path is what a spec is about: the spec matches it; or it excludes, and another matches the path, which it may then take out.
-abbrev pub counts_as_match : List NamedSpec → NamedSpec → Place → Bool
-counts_as_match all named place = sees_by all place (match_alone place named)
+abbrev pub counts_as_match_of_spec : List NamedSpec → NamedSpec → PathWithDirectoryFlag → Bool
+counts_as_match_of_spec all named place = does_match_count_for_spec all place (match_of_single_spec place named)
 
 -- some path is what the spec is about
-abbrev pub is_seen : List NamedSpec → List Place → NamedSpec → Bool
-is_seen all places named = list_any (counts_as_match all named) places
+abbrev pub has_matching_place : List NamedSpec → List PathWithDirectoryFlag → NamedSpec → Bool
+has_matching_place all places named = list_any (counts_as_match_of_spec all named) places
 
-abbrev pub is_unmatched : List NamedSpec → List Place → NamedSpec → Bool
-is_unmatched all places named = not (is_seen all places named)
+abbrev pub is_spec_without_match : List NamedSpec → List PathWithDirectoryFlag → NamedSpec → Bool
+is_spec_without_match all places named = not (has_matching_place all places named)
 
 -- ---- the paths that are looked at
 
-abbrev pub place_of_entry : IndexEntry → Place
-place_of_entry e = record { path = e.path; holds_names = is_directory e }
+abbrev pub place_of_index_entry : IndexEntry → PathWithDirectoryFlag
+place_of_index_entry e = record { path = e.path; holds_names = is_submodule_or_sparse_directory e }
 
 -- a name that ends in a slash is that of a directory
-abbrev pub place_of_name : List ℕ → Place
-place_of_name name = record { path = without_slash name; holds_names = ends_in_slash name }
+abbrev pub place_from_name : List ℕ → PathWithDirectoryFlag
+place_from_name name = record { path = without_trailing_slash name; holds_names = ends_in_slash name }
 
-abbrev pub places_of : List IndexEntry → List (List ℕ) → List Place
-places_of entries names = map place_of_name names ++ map place_of_entry entries
+abbrev pub places_of_names_and_entries : List IndexEntry → List (List ℕ) → List PathWithDirectoryFlag
+places_of_names_and_entries entries names = map place_from_name names ++ map place_of_index_entry entries
 
 -- ---- the lines
 
 -- a control byte but a tab and a line feed is shown as a question mark
-abbrev pub is_control : ℕ → Bool
-is_control b = (nat_lt b 32 || b == 127) && (not (b == 9) && not (b == 10))
+abbrev pub is_shown_as_question_mark : ℕ → Bool
+is_shown_as_question_mark b = (nat_lt b 32 || b == 127) && (not (b == 9) && not (b == 10))
 
-abbrev pub told_byte : ℕ → ℕ
-told_byte b = if is_control b then 63 else b
+abbrev pub control_byte_as_question_mark : ℕ → ℕ
+control_byte_as_question_mark b = if is_shown_as_question_mark b then 63 else b
 
-unfoldable pub line_begin : List ℕ
-line_begin = codes "error: pathspec '"
+unfoldable pub unmatched_line_prefix : List ℕ
+unmatched_line_prefix = codes "error: pathspec '"
 
-unfoldable pub line_end : List ℕ
-line_end = codes "' did not match any file(s) known to git\n"
+unfoldable pub unmatched_line_suffix : List ℕ
+unmatched_line_suffix = codes "' did not match any file(s) known to git\n"
 
-unfoldable pub hint : List ℕ
-hint = codes "Did you forget to 'git add'?\n"
+unfoldable pub git_add_hint_line : List ℕ
+git_add_hint_line = codes "Did you forget to 'git add'?\n"
 
 -- the line that tells of a spec, as it was written
-abbrev pub spec_line : NamedSpec → List ℕ
-spec_line named = line_begin ++ map told_byte named.text ++ line_end
+abbrev pub unmatched_spec_line : NamedSpec → List ℕ
+unmatched_spec_line named = unmatched_line_prefix ++ map control_byte_as_question_mark named.text ++ unmatched_line_suffix
 
-abbrev pub line_unless : List NamedSpec → List Place → NamedSpec → List ℕ
-line_unless all places named = if is_unmatched all places named then spec_line named else []
+abbrev pub spec_line_if_unmatched : List NamedSpec → List PathWithDirectoryFlag → NamedSpec → List ℕ
+spec_line_if_unmatched all places named = if is_spec_without_match all places named then unmatched_spec_line named else []
 
 -- a line for each spec that is about no path
-abbrev pub spec_lines : List NamedSpec → List Place → List ℕ
-spec_lines all places = flat_map (line_unless all places) all
+abbrev pub lines_of_unmatched_specs : List NamedSpec → List PathWithDirectoryFlag → List ℕ
+lines_of_unmatched_specs all places = flat_map (spec_line_if_unmatched all places) all
 
 -- and a last one, where there are any
-abbrev pub with_hint : List ℕ → List ℕ
-with_hint lines = if is_empty lines then [] else lines ++ hint
+abbrev pub append_hint_if_nonempty : List ℕ → List ℕ
+append_hint_if_nonempty lines = if is_empty lines then [] else lines ++ git_add_hint_line
 
-abbrev pub complaint : List NamedSpec → List Place → List ℕ
-complaint all places = with_hint (spec_lines all places)
+abbrev pub unmatched_specs_message : List NamedSpec → List PathWithDirectoryFlag → List ℕ
+unmatched_specs_message all places = append_hint_if_nonempty (lines_of_unmatched_specs all places)

@@ -1,12 +1,12 @@
 //! The patterns of `-x` and those of files of `-X`, where no other rules stand beside them.
 ghost use Rattle.std.specs.Prelude.{◌≡◌, ◌∷◌, ◌<◌, [], false, filter, length, IfOk};
-ghost use Rattle.worktree_report.specs.Excluding.{rules_in};
-ghost use Rattle.worktree_stack.specs.Mappings.{case_of};
+ghost use Rattle.worktree_report.specs.Excluding.{ignore_rules_of_text};
+ghost use Rattle.worktree_stack.specs.Mappings.{case_by_ignore_case};
 ghost use Rattle.ls_files.specs.Alone as words;
 
-use crate::cached::asks_rules;
+use crate::cached::uses_per_directory_ignore_rules;
 use crate::options::Listing;
-use crate::place::{Place, place_of_name};
+use crate::place::{Place, place_from_name};
 use gitbase_core::{Bytes, OutOfMemory, PathText};
 use glob_rules::Case;
 use glob_rules::ignore::{List, ParseIgnore, Search};
@@ -17,12 +17,12 @@ use worktree_report::Setup;
 pub fn has_only_given_patterns(listing: &Listing) -> bool
     ensures { result ≡ words.has_only_given_patterns listing.now }
 {
-    listing.patterns && !asks_rules(listing)
+    listing.patterns && !uses_per_directory_ignore_rules(listing)
 }
 
 /// The listing of all that is looked at then.
-pub fn listing_before_pattern_filter(listing: &Listing) -> Listing
-    ensures { result ≡ words.listing_before_pattern_filter listing.now }
+pub fn options_without_ignored_if_only_patterns(listing: &Listing) -> Listing
+    ensures { result ≡ words.options_without_ignored_if_only_patterns listing.now }
 {
     let mut listing = *listing;
     if has_only_given_patterns(&listing) {
@@ -32,10 +32,10 @@ pub fn listing_before_pattern_filter(listing: &Listing) -> Listing
 }
 
 /// Whether the last pattern that matches a path excludes it.
-fn is_excluded_itself(rules: &Search, case: Case, place: &Place<'_>) -> bool
-    ensures { result ≡ words.is_excluded_itself rules.now case place.now }
+fn last_match_excludes_place(rules: &Search, case: Case, place: &Place<'_>) -> bool
+    ensures { result ≡ words.last_match_excludes_place rules.now case place.now }
 {
-    let is_dir = Some(place.holds_names());
+    let is_dir = Some(place.is_directory_path());
     match rules.pattern_matching_relative_path(place.path(), is_dir, case) {
         Some(found) => !found.pattern.is_negative(),
         None => false,
@@ -43,23 +43,23 @@ fn is_excluded_itself(rules: &Search, case: Case, place: &Place<'_>) -> bool
 }
 
 /// Whether the directory that ends before a byte of a path is excluded.
-fn is_excluded_to(rules: &Search, case: Case, path: &[u8], at: usize) -> bool
+fn is_excluded_directory_ending_at(rules: &Search, case: Case, path: &[u8], at: usize) -> bool
     requires { at < length path.now }
-    ensures { result ≡ words.is_excluded_to rules.now case path.now at }
+    ensures { result ≡ words.is_excluded_directory_ending_at rules.now case path.now at }
 {
     if path[at] != b'/' {
         return false;
     }
-    is_excluded_itself(rules, case, &Place::new(&path[..at], true))
+    last_match_excludes_place(rules, case, &Place::new(&path[..at], true))
 }
 
 /// Whether patterns exclude a directory on the way to a path.
-pub fn is_in_excluded(rules: &Search, case: Case, path: &[u8]) -> bool
-    ensures { result ≡ words.is_in_excluded rules.now case path.now }
+pub fn is_below_excluded_directory(rules: &Search, case: Case, path: &[u8]) -> bool
+    ensures { result ≡ words.is_below_excluded_directory rules.now case path.now }
 {
     let mut at = 0;
     while at < path.len() {
-        if is_excluded_to(rules, case, path, at) {
+        if is_excluded_directory_ending_at(rules, case, path, at) {
             return true;
         }
         at += 1;
@@ -71,15 +71,15 @@ pub fn is_in_excluded(rules: &Search, case: Case, path: &[u8]) -> bool
 fn is_excluded(rules: &Search, case: Case, place: &Place<'_>) -> bool
     ensures { result ≡ words.is_excluded rules.now case place.now }
 {
-    if is_in_excluded(rules, case, place.path()) {
+    if is_below_excluded_directory(rules, case, place.path()) {
         return true;
     }
-    is_excluded_itself(rules, case, place)
+    last_match_excludes_place(rules, case, place)
 }
 
 /// Whether patterns exclude a path, or a directory above it; `is_dir` says whether a directory
 /// stands at the path.
-pub fn is_path_excluded(rules: &Search, case: Case, path: &[u8], is_dir: bool) -> bool
+pub fn is_path_or_parent_excluded(rules: &Search, case: Case, path: &[u8], is_dir: bool) -> bool
     ensures { result ≡ words.is_excluded rules.now case
         (record { path = path.now; holds_names = is_dir }) }
 {
@@ -87,10 +87,10 @@ pub fn is_path_excluded(rules: &Search, case: Case, path: &[u8], is_dir: bool) -
 }
 
 /// Whether a name is shown.
-fn is_left(listing: &Listing, rules: &Search, case: Case, name: &[u8]) -> bool
-    ensures { result ≡ words.is_left listing.now rules.now case name.now }
+fn is_name_kept_by_patterns(listing: &Listing, rules: &Search, case: Case, name: &[u8]) -> bool
+    ensures { result ≡ words.is_name_kept_by_patterns listing.now rules.now case name.now }
 {
-    let is_excluded = is_excluded(rules, case, &place_of_name(name));
+    let is_excluded = is_excluded(rules, case, &place_from_name(name));
     if listing.ignored {
         return is_excluded;
     }
@@ -99,7 +99,7 @@ fn is_left(listing: &Listing, rules: &Search, case: Case, name: &[u8]) -> bool
 
 /// The patterns of a text.
 fn list_of(alloc: Global, text: &[u8]) -> Result<List, OutOfMemory>
-    ensures { IfOk result (λ list. list ≡ rules_in false text.now) }
+    ensures { IfOk result (λ list. list ≡ ignore_rules_of_text false text.now) }
 {
     let parse = ParseIgnore {
         support_precious: false,
@@ -108,9 +108,13 @@ fn list_of(alloc: Global, text: &[u8]) -> Result<List, OutOfMemory>
 }
 
 /// The patterns of two texts, the second ones above the first.
-pub fn patterns_of(alloc: Global, below: &[u8], above: &[u8]) -> Result<Search, OutOfMemory>
-    ensures { IfOk result
-        (λ rules. rules ≡ rules_in false below.now ∷ rules_in false above.now ∷ []) }
+pub fn ignore_search_from_two_texts(
+    alloc: Global,
+    below: &[u8],
+    above: &[u8],
+) -> Result<Search, OutOfMemory>
+    ensures { IfOk result (λ rules. rules ≡ ignore_rules_of_text false below.now ∷
+        ignore_rules_of_text false above.now ∷ []) }
 {
     let mut rules = Search::new(alloc);
     rules.push_list(alloc, list_of(alloc, below)?)?;
@@ -119,8 +123,8 @@ pub fn patterns_of(alloc: Global, below: &[u8], above: &[u8]) -> Result<Search, 
 }
 
 /// How the letters of names compare.
-pub fn case_of(ignore_case: bool) -> Case
-    ensures { result ≡ case_of ignore_case }
+pub fn case_from_ignore_case(ignore_case: bool) -> Case
+    ensures { result ≡ case_by_ignore_case ignore_case }
 {
     if ignore_case {
         Case::Fold
@@ -130,7 +134,7 @@ pub fn case_of(ignore_case: bool) -> Case
 }
 
 /// Of some names those that are shown.
-fn left_by(
+fn names_kept_by_ignore_search(
     alloc: Global,
     listing: &Listing,
     rules: &Search,
@@ -138,11 +142,11 @@ fn left_by(
     names: Vec<Bytes>,
 ) -> Result<Vec<Bytes>, OutOfMemory>
     ensures { IfOk result (λ left. left.items
-        ≡ filter (words.is_left listing.now rules.now case) names.items) }
+        ≡ filter (words.is_name_kept_by_patterns listing.now rules.now case) names.items) }
 {
     let mut left = Vec::new(alloc);
     for name in names {
-        if is_left(listing, rules, case, name.as_bytes()) {
+        if is_name_kept_by_patterns(listing, rules, case, name.as_bytes()) {
             left.push(name)?;
         }
     }
@@ -152,24 +156,28 @@ fn left_by(
 /// Of the names of what the index does not have those that are shown.
 ///
 /// See docs/DECISIONS.md#patterns-alone.
-pub fn filter_names_by_patterns(
+pub fn filter_names_if_only_patterns(
     alloc: Global,
     listing: &Listing,
     setup: &Setup,
     names: Vec<Bytes>,
 ) -> Result<Vec<Bytes>, OutOfMemory>
-    ensures { IfOk result
-        (λ left. left.items ≡ words.filter_names_by_patterns listing.now setup.now names.items) }
+    ensures { IfOk result (λ left. left.items ≡ words.filter_names_if_only_patterns listing.now
+        setup.now names.items) }
 {
     if !has_only_given_patterns(listing) {
         return Ok(names);
     }
-    let rules = patterns_of(alloc, setup.globals.as_bytes(), setup.overrides.as_bytes())?;
-    left_by(
+    let rules = ignore_search_from_two_texts(
+        alloc,
+        setup.globals.as_bytes(),
+        setup.overrides.as_bytes(),
+    )?;
+    names_kept_by_ignore_search(
         alloc,
         listing,
         &rules,
-        case_of(setup.options.ignore_case),
+        case_from_ignore_case(setup.options.ignore_case),
         names,
     )
 }

@@ -1,10 +1,10 @@
 //! What is listed of a work tree.
 ghost use Rattle.std.specs.Prelude.{◌≡◌, None};
 ghost use Rattle.ls_files.specs.Listed as words;
-ghost use Rattle.ls_files.specs.Wrong.{wrong_in};
+ghost use Rattle.ls_files.specs.Wrong.{first_refusal_of_options_and_index};
 
-use crate::cached::walks;
-use crate::listed::{Listed, list_found};
+use crate::cached::needs_worktree_walk;
+use crate::listed::{Listed, output_and_errors_of_report_entries};
 use crate::options::{Listing, NamedSpec};
 use gitbase_core::Find;
 use std::alloc::Global;
@@ -14,7 +14,7 @@ use worktree_report::{
 };
 
 /// What is listed of the work tree at `root`, by a report that is made for it.
-fn list_walked<W: CountsFaults, I: Interrupt>(
+fn list_files_by_walk_report<W: CountsFaults, I: Interrupt>(
     alloc: Global,
     worktree: &mut W,
     interrupt: &mut I,
@@ -24,9 +24,9 @@ fn list_walked<W: CountsFaults, I: Interrupt>(
     prefix: &[u8],
     named: &[NamedSpec],
 ) -> Result<Listed, Refusal>
-    ensures { words.ListsWalked W.Worktree I.Interrupt (W.precomposes worktree.old) worktree.old
-        worktree.new interrupt.old interrupt.new root.now setup.now listing.now prefix.now
-        named.now result }
+    ensures { words.ListsByWalkReport W.Worktree I.Interrupt (W.precomposes worktree.old)
+        worktree.old worktree.new interrupt.old interrupt.new root.now setup.now listing.now
+        prefix.now named.now result }
 {
     let before = worktree.fault_count();
     let mut objects = setup.blobs.fork(alloc)?;
@@ -36,7 +36,7 @@ fn list_walked<W: CountsFaults, I: Interrupt>(
                 return Err(Refusal::Fault);
             }
             let found = report.entries.as_slice();
-            Ok(list_found(alloc, listing, prefix, named, setup, found)?)
+            Ok(output_and_errors_of_report_entries(alloc, listing, prefix, named, setup, found)?)
         }
         Err(error) => Err(refusal_of_report_error(alloc, error)?),
     }
@@ -46,11 +46,13 @@ fn list_walked<W: CountsFaults, I: Interrupt>(
 /// index does not have and what lies in its way, where these are asked for, and behind them what
 /// the index has. A report is made for the first two, and nothing is asked of the worktree without.
 ///
-/// The listing has to be one that there is, which [`wrong_in`](crate::wrong_in) tests. With `-o -i
-/// --directory` the whole work tree is listed, whatever the path specs and the directory are:
-/// [`wrong_within`](crate::wrong_within) tests that these ask for it. The setup is
-/// found with the options that [`walk_options`](crate::walk_options) gives for the listing, and
-/// with the path specs; `named` has each of these alone, as it was written. Where no path spec is
+/// The listing has to be one that there is, which
+/// [`first_refusal_of_options_and_index`](crate::first_refusal_of_options_and_index) tests. With
+/// `-o -i --directory` the whole work tree is listed, whatever the path specs and the directory
+/// are: [`refusal_of_partial_ignored_directories`](crate::refusal_of_partial_ignored_directories)
+/// tests that these ask for it. The setup is found with the options that
+/// [`walk_options_for_listing`](crate::walk_options_for_listing) gives for the listing, and with
+/// the path specs; `named` has each of these alone, as it was written. Where no path spec is
 /// written, or each excludes, git means the current directory: then a path spec of it is among
 /// them.
 ///
@@ -63,7 +65,7 @@ fn list_walked<W: CountsFaults, I: Interrupt>(
 /// - `OutOfMemory`: memory was refused.
 ///
 /// See docs/DECISIONS.md#listing-by-leaves.
-pub fn list_files<W: CountsFaults, I: Interrupt>(
+pub fn list_files_of_worktree<W: CountsFaults, I: Interrupt>(
     alloc: Global,
     worktree: &mut W,
     interrupt: &mut I,
@@ -73,15 +75,15 @@ pub fn list_files<W: CountsFaults, I: Interrupt>(
     prefix: &[u8],
     named: &[NamedSpec],
 ) -> Result<Listed, Refusal>
-    requires listable { wrong_in listing.now setup.now.index ≡ None }
-    ensures { words.ListsFiles W.Worktree I.Interrupt (W.precomposes worktree.old) worktree.old
-        worktree.new interrupt.old interrupt.new root.now setup.now listing.now prefix.now
-        named.now result }
+    requires listable { first_refusal_of_options_and_index listing.now setup.now.index ≡ None }
+    ensures { words.ListsFilesOfWorktree W.Worktree I.Interrupt (W.precomposes worktree.old)
+        worktree.old worktree.new interrupt.old interrupt.new root.now setup.now listing.now
+        prefix.now named.now result }
 {
-    if walks(listing) {
-        return list_walked(
+    if needs_worktree_walk(listing) {
+        return list_files_by_walk_report(
             alloc, worktree, interrupt, root, setup, listing, prefix, named,
         );
     }
-    Ok(list_found(alloc, listing, prefix, named, setup, &[])?)
+    Ok(output_and_errors_of_report_entries(alloc, listing, prefix, named, setup, &[])?)
 }

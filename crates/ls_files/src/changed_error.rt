@@ -30,9 +30,9 @@ impl From<OutOfMemory> for ChangedError {
 }
 
 impl From<ReadError> for ChangedError {
-    ghost use Rattle.ls_files.specs.ChangedErrors.{of_read};
+    ghost use Rattle.ls_files.specs.ChangedErrors.{changed_error_of_read_error};
 
-    ghost from_gives = { λ refused e. e ≡ of_read refused };
+    ghost from_gives = { λ refused e. e ≡ changed_error_of_read_error refused };
 
     fn from(refused: ReadError) -> ChangedError {
         match refused {

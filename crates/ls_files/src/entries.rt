@@ -22,7 +22,7 @@ impl Model for Entries {
 }
 
 /// An entry like another.
-fn copied(alloc: Global, entry: &IndexEntry) -> Result<IndexEntry, OutOfMemory>
+fn copy_index_entry(alloc: Global, entry: &IndexEntry) -> Result<IndexEntry, OutOfMemory>
     ensures { IfOk result (λ copy. copy ≡ entry.now) }
 {
     Ok(IndexEntry {
@@ -55,18 +55,19 @@ impl Entries {
     fn push(&mut self, alloc: Global, entry: &IndexEntry) -> Result<(), OutOfMemory>
         ensures { OnOk result (self.new ≡ self.old ++ entry.now ∷ []) }
     {
-        self.items.push(copied(alloc, entry)?)?;
+        self.items.push(copy_index_entry(alloc, entry)?)?;
         Ok(())
     }
 
     /// Adds an entry at the end, if it is excluded.
-    pub fn push_if(
+    pub fn push_copy_if_excluded(
         &mut self,
         alloc: Global,
         entry: &IndexEntry,
         excluded: bool,
     ) -> Result<(), OutOfMemory>
-        ensures { OnOk result (self.new ≡ words.with_one self.old entry.now excluded) }
+        ensures { OnOk result (self.new ≡ words.append_entry_if_excluded self.old entry.now
+            excluded) }
     {
         if excluded {
             return self.push(alloc, entry);

@@ -1,19 +1,22 @@
 //! What is listed of an index where that alone is asked for which rules exclude.
 ghost use Rattle.std.specs.Prelude.{◌≡◌, IfOk, Ok};
-ghost use Rattle.worktree_stack.specs.Mappings.{case_of};
-ghost use Rattle.ls_files.specs.Alone.{patterns_of};
+ghost use Rattle.worktree_stack.specs.Mappings.{case_by_ignore_case};
+ghost use Rattle.ls_files.specs.Alone.{rules_from_setup_patterns};
 ghost use Rattle.ls_files.specs.Excluded as words;
-ghost use Rattle.ls_files.specs.Finds.{Finds};
+ghost use Rattle.ls_files.specs.Finds.{FindsInWorktree};
 
-use crate::alone::{case_of, has_only_given_patterns, is_path_excluded, patterns_of};
-use crate::cached::walks;
+use crate::alone::{
+    case_from_ignore_case, has_only_given_patterns, ignore_search_from_two_texts,
+    is_path_or_parent_excluded,
+};
+use crate::cached::needs_worktree_walk;
 use crate::entries::Entries;
 use crate::excluded_error::ExcludedError;
-use crate::is_directory_at::is_directory_at;
-use crate::listed::{Listed, list_entries};
+use crate::is_directory_at::is_worktree_path_directory;
+use crate::listed::{Listed, output_and_errors_of_index_entries};
 use crate::options::{Listing, NamedSpec};
-use crate::ruled_out::excluded_index_entries;
-use crate::wrong::{WrongListing, has_rules, has_sparse};
+use crate::ruled_out::entries_excluded_by_setup_rules;
+use crate::wrong::{WrongListing, has_any_exclude_rules, has_sparse_directory_entry};
 use gitbase_core::{IndexEntry, OutOfMemory, State};
 use glob_rules::Case;
 use glob_rules::ignore::Search;
@@ -22,30 +25,30 @@ use worktree_fs::Worktree;
 use worktree_report::Setup;
 
 /// Whether that alone is listed of the index which rules exclude, and nothing else.
-pub fn lists_excluded(listing: &Listing) -> bool
-    ensures { result ≡ words.lists_excluded listing.now }
+pub fn lists_only_ignored_index_entries(listing: &Listing) -> bool
+    ensures { result ≡ words.lists_only_ignored_index_entries listing.now }
 {
-    listing.ignored && listing.cached && !walks(listing)
+    listing.ignored && listing.cached && !needs_worktree_walk(listing)
 }
 
 /// Why there is no such listing of an index, the first reason that git asks for; none where there
 /// is one.
 ///
 /// See docs/DIFFERENCES.md#list-sparse-index.
-pub fn wrong_excluded(listing: &Listing, index: &State) -> Option<WrongListing>
-    ensures { result ≡ words.wrong_excluded listing.now index.now }
+pub fn refusal_if_no_rules_or_sparse(listing: &Listing, index: &State) -> Option<WrongListing>
+    ensures { result ≡ words.refusal_if_no_rules_or_sparse listing.now index.now }
 {
-    if !has_rules(listing) {
+    if !has_any_exclude_rules(listing) {
         return Some(WrongListing::IgnoredWithoutRules);
     }
-    if has_sparse(index.entries()) {
+    if has_sparse_directory_entry(index.entries()) {
         return Some(WrongListing::SparseIndex);
     }
     None
 }
 
 /// Whether patterns exclude an entry, by what stands at its path.
-fn is_matched_out<W: Worktree>(
+fn do_patterns_exclude_entry<W: Worktree>(
     alloc: Global,
     worktree: &mut W,
     root: &[u8],
@@ -53,16 +56,16 @@ fn is_matched_out<W: Worktree>(
     case: Case,
     entry: &IndexEntry,
 ) -> Result<bool, ExcludedError>
-    ensures { Finds W.Worktree worktree.old worktree.new
-        (λ t. Ok (words.is_matched_out t root.now patterns.now case entry.now)) result }
+    ensures { FindsInWorktree W.Worktree worktree.old worktree.new
+        (λ t. Ok (words.do_patterns_exclude_entry t root.now patterns.now case entry.now)) result }
 {
     let path = entry.path.as_bytes();
-    let is_dir = is_directory_at(alloc, worktree, root, path)?;
-    Ok(is_path_excluded(patterns, case, path, is_dir))
+    let is_dir = is_worktree_path_directory(alloc, worktree, root, path)?;
+    Ok(is_path_or_parent_excluded(patterns, case, path, is_dir))
 }
 
 /// The entries that patterns exclude.
-fn matched_out<W: Worktree>(
+fn entries_excluded_by_patterns<W: Worktree>(
     alloc: Global,
     worktree: &mut W,
     root: &[u8],
@@ -70,52 +73,58 @@ fn matched_out<W: Worktree>(
     case: Case,
     entries: &[IndexEntry],
 ) -> Result<Entries, ExcludedError>
-    ensures { Finds W.Worktree worktree.old worktree.new
-        (λ t. Ok (words.matched_out t root.now patterns.now case entries.now)) result }
+    ensures { FindsInWorktree W.Worktree worktree.old worktree.new
+        (λ t. Ok (words.entries_excluded_by_patterns t root.now patterns.now case entries.now))
+        result }
 {
     let mut done = Entries::new(alloc);
     for entry in entries {
-        let excluded = is_matched_out(alloc, worktree, root, patterns, case, entry)?;
-        done.push_if(alloc, entry, excluded)?;
+        let excluded = do_patterns_exclude_entry(alloc, worktree, root, patterns, case, entry)?;
+        done.push_copy_if_excluded(alloc, entry, excluded)?;
     }
     Ok(done)
 }
 
 /// The entries of the index of a setup that its patterns exclude.
-fn matched_out_by<W: Worktree>(
+fn entries_excluded_by_setup_patterns<W: Worktree>(
     alloc: Global,
     worktree: &mut W,
     root: &[u8],
     setup: &Setup,
 ) -> Result<Entries, ExcludedError>
-    ensures { Finds W.Worktree worktree.old worktree.new (λ t. Ok (words.matched_out t root.now
-        (patterns_of setup.now) (case_of setup.now.options.ignore_case) setup.now.index)) result }
+    ensures { FindsInWorktree W.Worktree worktree.old worktree.new
+        (λ t. Ok (words.entries_excluded_by_patterns t root.now (rules_from_setup_patterns
+        setup.now) (case_by_ignore_case setup.now.options.ignore_case) setup.now.index)) result }
 {
-    let patterns = patterns_of(alloc, setup.globals.as_bytes(), setup.overrides.as_bytes())?;
-    let case = case_of(setup.options.ignore_case);
+    let patterns = ignore_search_from_two_texts(
+        alloc,
+        setup.globals.as_bytes(),
+        setup.overrides.as_bytes(),
+    )?;
+    let case = case_from_ignore_case(setup.options.ignore_case);
     let entries = setup.index.entries();
-    matched_out(alloc, worktree, root, &patterns, case, entries)
+    entries_excluded_by_patterns(alloc, worktree, root, &patterns, case, entries)
 }
 
 /// The entries of the index of a setup that are excluded.
-fn excluded_in<W: Worktree>(
+fn excluded_entries_of_setup<W: Worktree>(
     alloc: Global,
     worktree: &mut W,
     root: &[u8],
     setup: &Setup,
     listing: &Listing,
 ) -> Result<Entries, ExcludedError>
-    ensures { Finds W.Worktree worktree.old worktree.new
-        (λ t. words.excluded_in t root.now setup.now listing.now) result }
+    ensures { FindsInWorktree W.Worktree worktree.old worktree.new
+        (λ t. words.excluded_entries_of_setup t root.now setup.now listing.now) result }
 {
     if has_only_given_patterns(listing) {
-        return matched_out_by(alloc, worktree, root, setup);
+        return entries_excluded_by_setup_patterns(alloc, worktree, root, setup);
     }
-    excluded_index_entries(alloc, worktree, root, setup)
+    entries_excluded_by_setup_rules(alloc, worktree, root, setup)
 }
 
 /// What is listed of entries.
-fn listed_of(
+fn output_and_errors_of_excluded(
     alloc: Global,
     listing: &Listing,
     prefix: &[u8],
@@ -123,10 +132,10 @@ fn listed_of(
     setup: &Setup,
     entries: &Entries,
 ) -> Result<Listed, OutOfMemory>
-    ensures { IfOk result (λ made. made
-        ≡ words.listed_of listing.now prefix.now named.now setup.now entries.now) }
+    ensures { IfOk result (λ made. made ≡ words.output_and_errors_of_excluded listing.now prefix.now
+        named.now setup.now entries.now) }
 {
-    list_entries(
+    output_and_errors_of_index_entries(
         alloc,
         listing,
         prefix,
@@ -146,8 +155,8 @@ fn listed_of(
 ///
 /// See docs/DECISIONS.md#excluded-by-what-stands-there.
 ///
-/// The listing has to be one that [`wrong_excluded`] does not refuse, and the setup is found as for
-/// [`list_files`](crate::list_files).
+/// The listing has to be one that [`refusal_if_no_rules_or_sparse`] does not refuse, and the setup
+/// is found as for [`list_files_of_worktree`](crate::list_files_of_worktree).
 ///
 /// # Errors
 ///
@@ -155,8 +164,8 @@ fn listed_of(
 ///   [`AtPathError`](worktree_stack::AtPathError).
 /// - `Fault`: the worktree failed, and counted it.
 /// - `OutOfMemory`: memory was refused.
-#[tactic(auto, unfolding(crate::specs::Excluded::listed_excluded))]
-pub fn list_excluded<W: Worktree>(
+#[tactic(auto, unfolding(crate::specs::Excluded::output_of_ignored_index_or_error))]
+pub fn list_ignored_index_entries<W: Worktree>(
     alloc: Global,
     worktree: &mut W,
     root: &[u8],
@@ -165,9 +174,10 @@ pub fn list_excluded<W: Worktree>(
     prefix: &[u8],
     named: &[NamedSpec],
 ) -> Result<Listed, ExcludedError>
-    ensures { Finds W.Worktree worktree.old worktree.new (λ t. words.listed_excluded t root.now
-        setup.now listing.now prefix.now named.now) result }
+    ensures { FindsInWorktree W.Worktree worktree.old worktree.new
+        (λ t. words.output_of_ignored_index_or_error t root.now setup.now listing.now prefix.now
+        named.now) result }
 {
-    let entries = excluded_in(alloc, worktree, root, setup, listing)?;
-    Ok(listed_of(alloc, listing, prefix, named, setup, &entries)?)
+    let entries = excluded_entries_of_setup(alloc, worktree, root, setup, listing)?;
+    Ok(output_and_errors_of_excluded(alloc, listing, prefix, named, setup, &entries)?)
 }

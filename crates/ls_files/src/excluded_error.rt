@@ -29,9 +29,9 @@ impl From<OutOfMemory> for ExcludedError {
 }
 
 impl From<ReadError> for ExcludedError {
-    ghost use Rattle.ls_files.specs.Finds.{of_read};
+    ghost use Rattle.ls_files.specs.Finds.{excluded_error_of_read_error};
 
-    ghost from_gives = { λ refused e. e ≡ of_read refused };
+    ghost from_gives = { λ refused e. e ≡ excluded_error_of_read_error refused };
 
     fn from(refused: ReadError) -> ExcludedError {
         match refused {

@@ -1,8 +1,8 @@
 //! What stands at a path of a work tree.
 ghost use Rattle.std.specs.Prelude.{◌≡◌, IfOk, Ok};
-ghost use Rattle.gitbase_core.specs.Path.{joined};
+ghost use Rattle.gitbase_core.specs.Path.{path_joined_with_slash};
 ghost use Rattle.ls_files.specs.Excluded as words;
-ghost use Rattle.ls_files.specs.Finds.{Finds};
+ghost use Rattle.ls_files.specs.Finds.{FindsInWorktree};
 
 use crate::excluded_error::ExcludedError;
 use gitbase_core::{OutOfMemory, PathText};
@@ -10,16 +10,16 @@ use std::alloc::Global;
 use worktree_fs::{NodeKind, Worktree};
 
 /// A path of the work tree at `root`, whole.
-fn path_in(alloc: Global, root: &[u8], path: &[u8]) -> Result<PathText, OutOfMemory>
-    ensures { IfOk result (λ whole. whole ≡ joined root.now path.now) }
+fn join_root_and_path(alloc: Global, root: &[u8], path: &[u8]) -> Result<PathText, OutOfMemory>
+    ensures { IfOk result (λ whole. whole ≡ path_joined_with_slash root.now path.now) }
 {
     let mut whole = PathText::from_bytes(alloc, root)?;
     whole.push_component(alloc, path)?;
     Ok(whole)
 }
 
-fn is_a_directory(kind: Option<NodeKind>) -> bool
-    ensures { result ≡ words.is_a_directory kind }
+fn is_directory_node_kind(kind: Option<NodeKind>) -> bool
+    ensures { result ≡ words.is_directory_node_kind kind }
 {
     match kind {
         Some(NodeKind::Directory) => true,
@@ -31,16 +31,16 @@ fn is_a_directory(kind: Option<NodeKind>) -> bool
 }
 
 /// Whether a directory stands at a path; a link is not followed.
-pub fn is_directory_at<W: Worktree>(
+pub fn is_worktree_path_directory<W: Worktree>(
     alloc: Global,
     worktree: &mut W,
     root: &[u8],
     path: &[u8],
 ) -> Result<bool, ExcludedError>
-    ensures { Finds W.Worktree worktree.old worktree.new
-        (λ t. Ok (words.is_directory_at t root.now path.now)) result }
+    ensures { FindsInWorktree W.Worktree worktree.old worktree.new
+        (λ t. Ok (words.is_worktree_path_directory t root.now path.now)) result }
 {
-    let whole = path_in(alloc, root, path)?;
+    let whole = join_root_and_path(alloc, root, path)?;
     let kind = worktree.kind(alloc, whole.as_bytes())?;
-    Ok(is_a_directory(kind))
+    Ok(is_directory_node_kind(kind))
 }

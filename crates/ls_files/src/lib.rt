@@ -27,17 +27,22 @@ mod unseen;
 mod walk_request;
 mod wrong;
 
-pub use alone::{is_in_excluded, is_path_excluded};
-pub use answer::list_files;
-pub use cached::walks;
-pub use changed::list_changed;
+pub use alone::{is_below_excluded_directory, is_path_or_parent_excluded};
+pub use answer::list_files_of_worktree;
+pub use cached::needs_worktree_walk;
+pub use changed::list_deleted_and_modified;
 pub use changed_error::ChangedError;
-pub use excluded::{list_excluded, lists_excluded, wrong_excluded};
+pub use excluded::{
+    list_ignored_index_entries, lists_only_ignored_index_entries, refusal_if_no_rules_or_sparse,
+};
 pub use excluded_error::ExcludedError;
-pub use listed::{Listed, list_found};
+pub use listed::{Listed, output_and_errors_of_report_entries};
 pub use options::{Listing, NamedSpec};
 pub use place::Place;
 pub use standings::{ChangeQuery, Standings};
-pub use unseen::is_unseen;
-pub use walk_request::walk_options;
-pub use wrong::{WrongListing, wrong_beside, wrong_in, wrong_within};
+pub use unseen::lies_in_spec_skipped_directory;
+pub use walk_request::walk_options_for_listing;
+pub use wrong::{
+    WrongListing, first_refusal_of_options_and_index, refusal_of_options_for_changes,
+    refusal_of_partial_ignored_directories,
+};

@@ -4,22 +4,23 @@ ghost use Rattle.gitbase_core.specs.Entry.{mode_bits};
 ghost use Rattle.ls_files.specs.Choices as choices;
 ghost use Rattle.ls_files.specs.Lines as lines;
 
-use crate::names::add_name;
+use crate::names::append_relative_path_line;
 use crate::options::Listing;
 use crate::shown::{Shown, Sign};
 use gitbase_core::{Flags, IndexEntry, Mode, OutOfMemory};
 use std::alloc::Global;
 
 /// Whether stages are shown.
-pub fn shows_stages(listing: &Listing) -> bool
-    ensures { result ≡ choices.shows_stages listing.now }
+pub fn lists_stages(listing: &Listing) -> bool
+    ensures { result ≡ choices.lists_stages listing.now }
 {
     listing.stages || listing.unmerged
 }
 
 /// Adds the letter of a path, where letters are shown.
-fn add_tag(text: &mut Vec<u8>, listing: &Listing, letter: u8) -> Result<(), OutOfMemory>
-    ensures { OnOk result (text.new.items ≡ text.old.items ++ lines.tag listing.now letter) }
+fn append_tag_if_shown(text: &mut Vec<u8>, listing: &Listing, letter: u8) -> Result<(), OutOfMemory>
+    ensures { OnOk result (text.new.items ≡ text.old.items ++ lines.tag_if_shown listing.now
+        letter) }
 {
     if listing.tags | listing.valid {
         text.push(letter)?;
@@ -29,8 +30,8 @@ fn add_tag(text: &mut Vec<u8>, listing: &Listing, letter: u8) -> Result<(), OutO
 }
 
 /// The letter of an entry.
-fn letter(entry: &IndexEntry) -> u8
-    ensures { result ≡ lines.letter entry.now }
+fn tag_letter_of_entry(entry: &IndexEntry) -> u8
+    ensures { result ≡ lines.tag_letter_of_entry entry.now }
 {
     if entry.stage != 0 {
         return b'M';
@@ -42,55 +43,60 @@ fn letter(entry: &IndexEntry) -> u8
 }
 
 /// Whether the letter of an entry is a small one.
-fn is_small(listing: &Listing, entry: &IndexEntry) -> bool
-    ensures { result ≡ lines.is_small listing.now entry.now }
+fn is_tag_lowercase(listing: &Listing, entry: &IndexEntry) -> bool
+    ensures { result ≡ lines.is_tag_lowercase listing.now entry.now }
 {
     listing.valid & entry.flags.contains(Flags::ASSUME_VALID)
 }
 
 /// The letter of an entry, as it is shown.
-fn letter_shown(listing: &Listing, entry: &IndexEntry) -> u8
-    ensures { result ≡ lines.letter_shown listing.now entry.now }
+fn tag_letter_with_case(listing: &Listing, entry: &IndexEntry) -> u8
+    ensures { result ≡ lines.tag_letter_with_case listing.now entry.now }
 {
-    if is_small(listing, entry) {
-        return lowercase_tag(entry);
+    if is_tag_lowercase(listing, entry) {
+        return lowercase_tag_of_entry(entry);
     }
-    letter(entry)
+    tag_letter_of_entry(entry)
 }
 
 /// The letter of an entry, as a small one.
-fn lowercase_tag(entry: &IndexEntry) -> u8
-    ensures { result ≡ lines.letter entry.now + 32 }
+fn lowercase_tag_of_entry(entry: &IndexEntry) -> u8
+    ensures { result ≡ lines.tag_letter_of_entry entry.now + 32 }
 {
-    letter(entry) + 32
+    tag_letter_of_entry(entry) + 32
 }
 
 /// The last octal digit of a number.
-fn octal_digit(number: u32) -> u8
-    ensures { result ≡ lines.octal_digit number }
+fn last_octal_digit(number: u32) -> u8
+    ensures { result ≡ lines.last_octal_digit number }
 {
     b'0' + (number % 8) as u8
 }
 
 /// Adds a mode.
-fn add_mode(text: &mut Vec<u8>, mode: Mode) -> Result<(), OutOfMemory>
-    ensures { OnOk result (text.new.items ≡ text.old.items ++ lines.mode_word (mode_bits mode)) }
+fn append_mode_octal(text: &mut Vec<u8>, mode: Mode) -> Result<(), OutOfMemory>
+    ensures { OnOk result (text.new.items ≡ text.old.items ++ lines.mode_octal_digits
+        (mode_bits mode)) }
 {
     let bits = mode.bits();
-    text.push(octal_digit(bits / 32768))?;
-    text.push(octal_digit(bits / 4096))?;
-    text.push(octal_digit(bits / 512))?;
-    text.push(octal_digit(bits / 64))?;
-    text.push(octal_digit(bits / 8))?;
-    text.push(octal_digit(bits))?;
+    text.push(last_octal_digit(bits / 32768))?;
+    text.push(last_octal_digit(bits / 4096))?;
+    text.push(last_octal_digit(bits / 512))?;
+    text.push(last_octal_digit(bits / 64))?;
+    text.push(last_octal_digit(bits / 8))?;
+    text.push(last_octal_digit(bits))?;
     Ok(())
 }
 
 /// Adds the mode, the object and the stage of an entry.
-fn add_stage(alloc: Global, text: &mut Vec<u8>, entry: &IndexEntry) -> Result<(), OutOfMemory>
-    ensures { OnOk result (text.new.items ≡ text.old.items ++ lines.stage_words entry.now) }
+fn append_mode_id_and_stage(
+    alloc: Global,
+    text: &mut Vec<u8>,
+    entry: &IndexEntry,
+) -> Result<(), OutOfMemory>
+    ensures { OnOk result (text.new.items ≡ text.old.items ++ lines.mode_id_and_stage entry.now) }
 {
-    add_mode(text, entry.mode)?;
+    append_mode_octal(text, entry.mode)?;
     text.push(b' ')?;
     text.extend_from_slice(&entry.id.to_hex())?;
     let stage = entry.stage;
@@ -100,24 +106,24 @@ fn add_stage(alloc: Global, text: &mut Vec<u8>, entry: &IndexEntry) -> Result<()
 }
 
 /// Adds them, where stages are shown.
-fn add_stage_if(
+fn append_mode_id_stage_if_listed(
     alloc: Global,
     text: &mut Vec<u8>,
     listing: &Listing,
     entry: &IndexEntry,
 ) -> Result<(), OutOfMemory>
     ensures { OnOk result (text.new.items
-        ≡ text.old.items ++ lines.stages_if listing.now entry.now) }
+        ≡ text.old.items ++ lines.mode_id_stage_if_listed listing.now entry.now) }
 {
-    if !shows_stages(listing) {
+    if !lists_stages(listing) {
         return Ok(());
     }
-    add_stage(alloc, text, entry)
+    append_mode_id_and_stage(alloc, text, entry)
 }
 
 /// Adds the line of an entry.
-#[tactic(auto, unfolding(crate::specs::Lines::entry_line))]
-pub fn add_entry(
+#[tactic(auto, unfolding(crate::specs::Lines::line_of_index_entry))]
+pub fn append_index_entry_line(
     alloc: Global,
     text: &mut Vec<u8>,
     listing: &Listing,
@@ -125,15 +131,15 @@ pub fn add_entry(
     entry: &IndexEntry,
 ) -> Result<(), OutOfMemory>
     ensures { OnOk result (text.new.items
-        ≡ text.old.items ++ lines.entry_line listing.now prefix.now entry.now) }
+        ≡ text.old.items ++ lines.line_of_index_entry listing.now prefix.now entry.now) }
 {
-    add_tag(text, listing, letter_shown(listing, entry))?;
-    add_stage_if(alloc, text, listing, entry)?;
-    add_name(alloc, text, listing, prefix, entry.path.as_bytes())
+    append_tag_if_shown(text, listing, tag_letter_with_case(listing, entry))?;
+    append_mode_id_stage_if_listed(alloc, text, listing, entry)?;
+    append_relative_path_line(alloc, text, listing, prefix, entry.path.as_bytes())
 }
 
 /// Adds the line of a path that the index does not have.
-pub fn add_other(
+pub fn append_untracked_line(
     alloc: Global,
     text: &mut Vec<u8>,
     listing: &Listing,
@@ -141,14 +147,14 @@ pub fn add_other(
     path: &[u8],
 ) -> Result<(), OutOfMemory>
     ensures { OnOk result (text.new.items
-        ≡ text.old.items ++ lines.other_line listing.now prefix.now path.now) }
+        ≡ text.old.items ++ lines.line_of_untracked_path listing.now prefix.now path.now) }
 {
-    add_tag(text, listing, b'?')?;
-    add_name(alloc, text, listing, prefix, path)
+    append_tag_if_shown(text, listing, b'?')?;
+    append_relative_path_line(alloc, text, listing, prefix, path)
 }
 
 /// Adds the line of a path that lies in the way of the index.
-pub fn add_killed(
+pub fn append_killed_line(
     alloc: Global,
     text: &mut Vec<u8>,
     listing: &Listing,
@@ -156,47 +162,47 @@ pub fn add_killed(
     path: &[u8],
 ) -> Result<(), OutOfMemory>
     ensures { OnOk result (text.new.items
-        ≡ text.old.items ++ lines.killed_line listing.now prefix.now path.now) }
+        ≡ text.old.items ++ lines.line_of_killed_path listing.now prefix.now path.now) }
 {
-    add_tag(text, listing, b'K')?;
-    add_name(alloc, text, listing, prefix, path)
+    append_tag_if_shown(text, listing, b'K')?;
+    append_relative_path_line(alloc, text, listing, prefix, path)
 }
 
 /// The letter of an entry, by as what it is shown.
-fn letter_by(sign: Sign, entry: &IndexEntry) -> u8
-    ensures { result ≡ lines.letter_by sign entry.now }
+fn tag_letter_of_kept_gone_modified(sign: Sign, entry: &IndexEntry) -> u8
+    ensures { result ≡ lines.tag_letter_of_kept_gone_modified sign entry.now }
 {
     match sign {
-        Sign::Kept => letter(entry),
+        Sign::Kept => tag_letter_of_entry(entry),
         Sign::Gone => b'R',
         Sign::Modified => b'C',
     }
 }
 
 /// The same as a small one.
-fn small_by(sign: Sign, entry: &IndexEntry) -> u8
-    ensures { result ≡ lines.letter_by sign entry.now + 32 }
+fn lowercase_tag_of_kept_gone_modified(sign: Sign, entry: &IndexEntry) -> u8
+    ensures { result ≡ lines.tag_letter_of_kept_gone_modified sign entry.now + 32 }
 {
     match sign {
-        Sign::Kept => lowercase_tag(entry),
+        Sign::Kept => lowercase_tag_of_entry(entry),
         Sign::Gone => b'r',
         Sign::Modified => b'c',
     }
 }
 
 /// The letter of an entry, as it is shown.
-fn letter_of(listing: &Listing, shown: &Shown<'_>) -> u8
-    ensures { result ≡ lines.letter_of listing.now shown.now }
+fn tag_letter_of_shown(listing: &Listing, shown: &Shown<'_>) -> u8
+    ensures { result ≡ lines.tag_letter_of_shown listing.now shown.now }
 {
-    if is_small(listing, shown.entry()) {
-        return small_by(shown.sign(), shown.entry());
+    if is_tag_lowercase(listing, shown.entry()) {
+        return lowercase_tag_of_kept_gone_modified(shown.kept_gone_or_modified(), shown.entry());
     }
-    letter_by(shown.sign(), shown.entry())
+    tag_letter_of_kept_gone_modified(shown.kept_gone_or_modified(), shown.entry())
 }
 
 /// Adds the line of an entry, by as what it is shown.
-#[tactic(auto, unfolding(crate::specs::Lines::shown_line))]
-pub fn add_shown(
+#[tactic(auto, unfolding(crate::specs::Lines::line_of_shown_entry))]
+pub fn append_shown_entry_line(
     alloc: Global,
     text: &mut Vec<u8>,
     listing: &Listing,
@@ -204,10 +210,10 @@ pub fn add_shown(
     shown: &Shown<'_>,
 ) -> Result<(), OutOfMemory>
     ensures { OnOk result (text.new.items
-        ≡ text.old.items ++ lines.shown_line listing.now prefix.now shown.now) }
+        ≡ text.old.items ++ lines.line_of_shown_entry listing.now prefix.now shown.now) }
 {
     let entry = shown.entry();
-    add_tag(text, listing, letter_of(listing, shown))?;
-    add_stage_if(alloc, text, listing, entry)?;
-    add_name(alloc, text, listing, prefix, entry.path.as_bytes())
+    append_tag_if_shown(text, listing, tag_letter_of_shown(listing, shown))?;
+    append_mode_id_stage_if_listed(alloc, text, listing, entry)?;
+    append_relative_path_line(alloc, text, listing, prefix, entry.path.as_bytes())
 }

@@ -1,17 +1,21 @@
 //! What is listed, by the entries of a report.
 ghost use Rattle.std.specs.Prelude.{◌≡◌, ◌++◌, [], map, IfOk, OnOk};
-ghost use Rattle.ls_files.specs.Choices.{entries_to_list};
+ghost use Rattle.ls_files.specs.Choices.{listed_index_entries};
 ghost use Rattle.ls_files.specs.Listed as words;
-ghost use Rattle.ls_files.specs.Unmatched.{place_of_entry, place_of_name, places_of};
+ghost use Rattle.ls_files.specs.Unmatched.{place_of_index_entry, place_from_name, places_of_names_and_entries};
 
-use crate::alone::{filter_names_by_patterns, listing_before_pattern_filter};
-use crate::cached::{add_index, is_directory, is_next};
-use crate::ignored_directories::{ignored_names, shows_ignored_directories};
-use crate::killed::{add_all_killed, killed};
+use crate::alone::{filter_names_if_only_patterns, options_without_ignored_if_only_patterns};
+use crate::cached::{
+    append_index_lines, is_entry_listed_after_path, is_submodule_or_sparse_directory,
+};
+use crate::ignored_directories::{
+    has_ignored_and_directories_options, names_of_ignored_with_directories,
+};
+use crate::killed::{append_lines_of_killed_names, sorted_killed_names};
 use crate::options::{Listing, NamedSpec};
-use crate::others::{add_others, others};
-use crate::place::{Place, place_of_name};
-use crate::unmatched::complaint;
+use crate::others::{append_lines_of_untracked, sorted_untracked_names};
+use crate::place::{Place, place_from_name};
+use crate::unmatched::unmatched_specs_message;
 use gitbase_core::{Bytes, IndexEntry, OutOfMemory, State};
 use glob_rules::pathspec::Search;
 use std::alloc::Global;
@@ -36,35 +40,41 @@ impl Listed {
 }
 
 /// The path of an entry, and whether it is that of a directory.
-pub fn place_of_entry(entry: &IndexEntry) -> Place<'_>
-    ensures { result ≡ place_of_entry entry.now }
+pub fn place_of_index_entry(entry: &IndexEntry) -> Place<'_>
+    ensures { result ≡ place_of_index_entry entry.now }
 {
-    Place::new(entry.path.as_bytes(), is_directory(entry))
+    Place::new(
+        entry.path.as_bytes(),
+        is_submodule_or_sparse_directory(entry),
+    )
 }
 
 /// Adds the places of names.
-fn add_names<'a>(places: &mut Vec<Place<'a>>, names: &'a [Bytes]) -> Result<(), OutOfMemory>
-    ensures { OnOk result (places.new.items ≡ places.old.items ++ map place_of_name names.now) }
+fn push_places_of_names<'a>(
+    places: &mut Vec<Place<'a>>,
+    names: &'a [Bytes],
+) -> Result<(), OutOfMemory>
+    ensures { OnOk result (places.new.items ≡ places.old.items ++ map place_from_name names.now) }
 {
     for name in names {
-        places.push(place_of_name(name.as_bytes()))?;
+        places.push(place_from_name(name.as_bytes()))?;
     }
     Ok(())
 }
 
 /// Adds the places of the entries that are chosen.
-fn add_entries<'a>(
+fn push_places_of_listed_entries<'a>(
     places: &mut Vec<Place<'a>>,
     listing: &Listing,
     entries: &'a [IndexEntry],
 ) -> Result<(), OutOfMemory>
-    ensures { OnOk result (places.new.items
-        ≡ places.old.items ++ map place_of_entry (entries_to_list listing.now entries.now)) }
+    ensures { OnOk result (places.new.items ≡ places.old.items ++ map place_of_index_entry
+        (listed_index_entries listing.now entries.now)) }
 {
     let mut last = None;
     for entry in entries {
-        if is_next(listing, last, entry) {
-            places.push(place_of_entry(entry))?;
+        if is_entry_listed_after_path(listing, last, entry) {
+            places.push(place_of_index_entry(entry))?;
             last = Some(entry.path.as_bytes());
         }
     }
@@ -72,7 +82,7 @@ fn add_entries<'a>(
 }
 
 /// What is told of path specs, where that is asked for.
-fn unmatched_error_text(
+fn unmatched_specs_text_for_listed(
     alloc: Global,
     listing: &Listing,
     named: &[NamedSpec],
@@ -80,43 +90,43 @@ fn unmatched_error_text(
     names: &[Bytes],
     ways: &[Bytes],
 ) -> Result<Bytes, OutOfMemory>
-    ensures { IfOk result
-        (λ text. text ≡ words.err_text listing.now named.now entries.now names.now ways.now) }
+    ensures { IfOk result (λ text. text ≡ words.unmatched_specs_text_for_listed listing.now
+        named.now entries.now names.now ways.now) }
 {
     if !listing.error_unmatch {
         return Ok(Bytes::new(alloc));
     }
     let mut places = Vec::new(alloc);
-    add_names(&mut places, names)?;
-    add_names(&mut places, ways)?;
-    add_entries(&mut places, listing, entries)?;
-    complaint(alloc, named, &places)
+    push_places_of_names(&mut places, names)?;
+    push_places_of_names(&mut places, ways)?;
+    push_places_of_listed_entries(&mut places, listing, entries)?;
+    unmatched_specs_message(alloc, named, &places)
 }
 
 /// The names of what the index does not have, where that is asked for.
-fn names_for(
+fn untracked_or_ignored_names_if_others(
     alloc: Global,
     listing: &Listing,
     setup: &Setup,
     named: &[NamedSpec],
     found: &[ReportEntry],
 ) -> Result<Vec<Bytes>, OutOfMemory>
-    ensures { IfOk result
-        (λ names. names.items ≡ words.names_for listing.now setup.now named.now found.now) }
+    ensures { IfOk result (λ names. names.items ≡ words.untracked_or_ignored_names_if_others
+        listing.now setup.now named.now found.now) }
 {
     if !listing.others {
         return Ok(Vec::new(alloc));
     }
-    if shows_ignored_directories(listing) {
-        return ignored_names(alloc, listing, setup, found);
+    if has_ignored_and_directories_options(listing) {
+        return names_of_ignored_with_directories(alloc, listing, setup, found);
     }
-    let all = listing_before_pattern_filter(listing);
-    let names = others(alloc, &all, &setup.index, &setup.specs, named, found)?;
-    filter_names_by_patterns(alloc, listing, setup, names)
+    let all = options_without_ignored_if_only_patterns(listing);
+    let names = sorted_untracked_names(alloc, &all, &setup.index, &setup.specs, named, found)?;
+    filter_names_if_only_patterns(alloc, listing, setup, names)
 }
 
 /// The names of what lies in the way of the index, where that is asked for.
-fn killed_for(
+fn killed_names_if_listed(
     alloc: Global,
     listing: &Listing,
     index: &State,
@@ -125,16 +135,16 @@ fn killed_for(
     found: &[ReportEntry],
 ) -> Result<Vec<Bytes>, OutOfMemory>
     ensures { IfOk result (λ names. names.items
-        ≡ words.killed_for listing.now index.now specs.now named.now found.now) }
+        ≡ words.killed_names_if_listed listing.now index.now specs.now named.now found.now) }
 {
     if !listing.killed {
         return Ok(Vec::new(alloc));
     }
-    killed(alloc, listing, index, specs, named, found)
+    sorted_killed_names(alloc, listing, index, specs, named, found)
 }
 
 /// The lines of names, and behind them those of the index.
-fn format_listed_lines(
+fn lines_of_others_killed_and_index(
     alloc: Global,
     listing: &Listing,
     prefix: &[u8],
@@ -143,18 +153,18 @@ fn format_listed_lines(
     names: &[Bytes],
     ways: &[Bytes],
 ) -> Result<Bytes, OutOfMemory>
-    ensures { IfOk result (λ text. text
-        ≡ words.out_text listing.now prefix.now specs.now entries.now names.now ways.now) }
+    ensures { IfOk result (λ text. text ≡ words.lines_of_others_killed_and_index listing.now
+        prefix.now specs.now entries.now names.now ways.now) }
 {
     let mut text = Vec::new(alloc);
-    add_others(alloc, &mut text, listing, prefix, names)?;
-    add_all_killed(alloc, &mut text, listing, prefix, ways)?;
-    add_index(alloc, &mut text, listing, prefix, specs, entries)?;
+    append_lines_of_untracked(alloc, &mut text, listing, prefix, names)?;
+    append_lines_of_killed_names(alloc, &mut text, listing, prefix, ways)?;
+    append_index_lines(alloc, &mut text, listing, prefix, specs, entries)?;
     Ok(Bytes::from_vec(text))
 }
 
 /// What is listed of entries, of what the index does not have, and of what lies in its way.
-fn listed_with(
+fn output_and_errors_of_all_listed(
     alloc: Global,
     listing: &Listing,
     prefix: &[u8],
@@ -164,16 +174,18 @@ fn listed_with(
     names: &[Bytes],
     ways: &[Bytes],
 ) -> Result<Listed, OutOfMemory>
-    ensures { IfOk result (λ made. made ≡ words.listed_with listing.now prefix.now named.now
-        specs.now entries.now names.now ways.now) }
+    ensures { IfOk result (λ made. made ≡ words.output_and_errors_of_all_listed listing.now
+        prefix.now named.now specs.now entries.now names.now ways.now) }
 {
-    let out = format_listed_lines(alloc, listing, prefix, specs, entries, names, ways)?;
-    let err = unmatched_error_text(alloc, listing, named, entries, names, ways)?;
+    let out = lines_of_others_killed_and_index(
+        alloc, listing, prefix, specs, entries, names, ways,
+    )?;
+    let err = unmatched_specs_text_for_listed(alloc, listing, named, entries, names, ways)?;
     Ok(Listed { out, err })
 }
 
 /// What is listed of entries alone.
-pub fn list_entries(
+pub fn output_and_errors_of_index_entries(
     alloc: Global,
     listing: &Listing,
     prefix: &[u8],
@@ -181,10 +193,10 @@ pub fn list_entries(
     specs: &Search,
     entries: &[IndexEntry],
 ) -> Result<Listed, OutOfMemory>
-    ensures { IfOk result (λ made. made ≡ words.listed_with listing.now prefix.now named.now
-        specs.now entries.now [] []) }
+    ensures { IfOk result (λ made. made ≡ words.output_and_errors_of_all_listed listing.now
+        prefix.now named.now specs.now entries.now [] []) }
 {
-    listed_with(alloc, listing, prefix, named, specs, entries, &[], &[])
+    output_and_errors_of_all_listed(alloc, listing, prefix, named, specs, entries, &[], &[])
 }
 
 /// What is listed by the entries of a report, in the directory `prefix` of the work tree: the setup
@@ -193,8 +205,8 @@ pub fn list_entries(
 /// # Errors
 ///
 /// Memory was refused.
-#[tactic(auto, unfolding(crate::specs::Listed::listed))]
-pub fn list_found(
+#[tactic(auto, unfolding(crate::specs::Listed::output_and_errors_of_report_entries))]
+pub fn output_and_errors_of_report_entries(
     alloc: Global,
     listing: &Listing,
     prefix: &[u8],
@@ -202,13 +214,13 @@ pub fn list_found(
     setup: &Setup,
     found: &[ReportEntry],
 ) -> Result<Listed, OutOfMemory>
-    ensures { IfOk result
-        (λ made. made ≡ words.listed listing.now prefix.now named.now setup.now found.now) }
+    ensures { IfOk result (λ made. made ≡ words.output_and_errors_of_report_entries listing.now
+        prefix.now named.now setup.now found.now) }
 {
-    let names = names_for(alloc, listing, setup, named, found)?;
-    let ways = killed_for(alloc, listing, &setup.index, &setup.specs, named, found)?;
+    let names = untracked_or_ignored_names_if_others(alloc, listing, setup, named, found)?;
+    let ways = killed_names_if_listed(alloc, listing, &setup.index, &setup.specs, named, found)?;
     let entries = setup.index.entries();
-    listed_with(
+    output_and_errors_of_all_listed(
         alloc,
         listing,
         prefix,

@@ -2,12 +2,12 @@
 ghost use Rattle.std.specs.Prelude.{◌≡◌, ◌++◌, ◌<◌, IfOk, OnOk, length, option_copied};
 ghost use Rattle.ls_files.specs.Others as words;
 
-use crate::cached::{asks_rules, is_matched};
-use crate::line::add_other;
+use crate::cached::{do_specs_match_path, uses_per_directory_ignore_rules};
+use crate::line::append_untracked_line;
 use crate::options::{Listing, NamedSpec};
 use crate::place::Place;
-use crate::unseen::is_unseen;
-use dir_classify::entry::holds_names;
+use crate::unseen::lies_in_spec_skipped_directory;
+use dir_classify::entry::is_some_directory_kind;
 use dir_classify::{Entry, Kind, Status};
 use gitbase_core::{Bytes, OutOfMemory, State};
 use glob_rules::pathspec::{Match, MatchKind, Matcher, Search};
@@ -16,8 +16,8 @@ use std::collections::BTreeSet;
 use worktree_report::ReportEntry;
 
 /// Whether an entry of this status is shown.
-fn is_wanted(listing: &Listing, status: Status) -> bool
-    ensures { result ≡ words.is_wanted listing.now status }
+fn is_status_listed(listing: &Listing, status: Status) -> bool
+    ensures { result ≡ words.is_status_listed listing.now status }
 {
     match status {
         Status::Untracked => !listing.ignored,
@@ -28,8 +28,8 @@ fn is_wanted(listing: &Listing, status: Status) -> bool
 }
 
 /// Whether what stands at a path may be shown.
-pub fn is_plain(listing: &Listing, kind: Option<Kind>) -> bool
-    ensures { result ≡ words.is_plain listing.now kind }
+pub fn is_kind_listed(listing: &Listing, kind: Option<Kind>) -> bool
+    ensures { result ≡ words.is_kind_listed listing.now kind }
 {
     match kind {
         None => false,
@@ -42,17 +42,20 @@ pub fn is_plain(listing: &Listing, kind: Option<Kind>) -> bool
 }
 
 /// Whether an entry may be shown by itself, if the path specs match it.
-fn may_show(listing: &Listing, entry: &Entry) -> bool
-    ensures { result ≡ words.may_show listing.now entry.now }
+fn is_entry_listable(listing: &Listing, entry: &Entry) -> bool
+    ensures { result ≡ words.is_entry_listable listing.now entry.now }
 {
-    is_wanted(listing, entry.status) && is_plain(listing, entry.disk_kind)
+    is_status_listed(listing, entry.status) && is_kind_listed(listing, entry.disk_kind)
 }
 
 /// The path of an entry, and whether a directory stands there.
-pub fn place_at(entry: &Entry) -> Place<'_>
-    ensures { result ≡ words.place_at entry.now }
+pub fn place_of_report_entry(entry: &Entry) -> Place<'_>
+    ensures { result ≡ words.place_of_report_entry entry.now }
 {
-    Place::new(entry.rela_path.as_bytes(), holds_names(entry.disk_kind))
+    Place::new(
+        entry.rela_path.as_bytes(),
+        is_some_directory_kind(entry.disk_kind),
+    )
 }
 
 /// The name of what is shown.
@@ -60,41 +63,50 @@ pub fn name(alloc: Global, place: &Place<'_>) -> Result<Bytes, OutOfMemory>
     ensures { IfOk result (λ name. name ≡ words.name place.now) }
 {
     let mut name = Bytes::from_slice(alloc, place.path())?;
-    if place.holds_names() {
+    if place.is_directory_path() {
         name.extend(alloc, b"/")?;
     }
     Ok(name)
 }
 
 /// Whether the path specs match an entry.
-fn is_entry_matched(alloc: Global, specs: &Search, entry: &Entry) -> Result<bool, OutOfMemory>
-    ensures { IfOk result (λ matched. matched ≡ words.is_entry_matched specs.now entry.now) }
+fn do_specs_match_report_entry(
+    alloc: Global,
+    specs: &Search,
+    entry: &Entry,
+) -> Result<bool, OutOfMemory>
+    ensures { IfOk result (λ matched. matched ≡ words.do_specs_match_report_entry specs.now
+        entry.now) }
 {
-    let name = name(alloc, &place_at(entry))?;
-    let matched = is_matched(specs, name.as_bytes(), holds_names(entry.disk_kind));
+    let name = name(alloc, &place_of_report_entry(entry))?;
+    let matched = do_specs_match_path(
+        specs,
+        name.as_bytes(),
+        is_some_directory_kind(entry.disk_kind),
+    );
     Ok(matched)
 }
 
 /// Whether git comes to an entry that the path specs match.
-fn is_seen(
+fn is_matched_outside_skipped_directory(
     alloc: Global,
     index: &State,
     specs: &Search,
     all: &[NamedSpec],
     entry: &Entry,
 ) -> Result<bool, OutOfMemory>
-    ensures { IfOk result
-        (λ seen. seen ≡ words.is_seen index.now specs.now all.now entry.now) }
+    ensures { IfOk result (λ seen. seen ≡ words.is_matched_outside_skipped_directory index.now
+        specs.now all.now entry.now) }
 {
-    if !is_entry_matched(alloc, specs, entry)? {
+    if !do_specs_match_report_entry(alloc, specs, entry)? {
         return Ok(false);
     }
-    let name = name(alloc, &place_at(entry))?;
-    Ok(!is_unseen(index, all, name.as_bytes()))
+    let name = name(alloc, &place_of_report_entry(entry))?;
+    Ok(!lies_in_spec_skipped_directory(index, all, name.as_bytes()))
 }
 
 /// Whether an entry is shown by itself.
-fn is_shown(
+fn is_report_entry_listed(
     alloc: Global,
     listing: &Listing,
     index: &State,
@@ -102,17 +114,17 @@ fn is_shown(
     all: &[NamedSpec],
     entry: &Entry,
 ) -> Result<bool, OutOfMemory>
-    ensures { IfOk result
-        (λ shown. shown ≡ words.is_shown listing.now index.now specs.now all.now entry.now) }
+    ensures { IfOk result (λ shown. shown ≡ words.is_report_entry_listed listing.now index.now
+        specs.now all.now entry.now) }
 {
-    if !may_show(listing, entry) {
+    if !is_entry_listable(listing, entry) {
         return Ok(false);
     }
-    is_seen(alloc, index, specs, all, entry)
+    is_matched_outside_skipped_directory(alloc, index, specs, all, entry)
 }
 
 /// The place of an entry itself, if it is shown.
-fn itself<'a>(
+fn place_of_entry_if_listed<'a>(
     alloc: Global,
     listing: &Listing,
     index: &State,
@@ -120,25 +132,25 @@ fn itself<'a>(
     all: &[NamedSpec],
     entry: &'a Entry,
 ) -> Result<Option<Place<'a>>, OutOfMemory>
-    ensures { IfOk result
-        (λ place. place ≡ words.itself listing.now index.now specs.now all.now entry.now) }
+    ensures { IfOk result (λ place. place ≡ words.place_of_entry_if_listed listing.now index.now
+        specs.now all.now entry.now) }
 {
-    if is_shown(alloc, listing, index, specs, all, entry)? {
-        return Ok(Some(place_at(entry)));
+    if is_report_entry_listed(alloc, listing, index, specs, all, entry)? {
+        return Ok(Some(place_of_report_entry(entry)));
     }
     Ok(None)
 }
 
 /// Whether a spec matches whatever the path is.
-fn is_always(kind: MatchKind) -> bool
-    ensures { result ≡ words.is_always kind }
+fn is_always_match(kind: MatchKind) -> bool
+    ensures { result ≡ words.is_always_match kind }
 {
     matches!(kind, MatchKind::Always)
 }
 
 /// Whether a directory that is matched so may be shown for what it holds.
-fn allows_folded_directory(ignored: bool, found: Option<Match>) -> bool
-    ensures { result ≡ words.allows_folded_directory ignored found }
+fn does_match_allow_folded_directory(ignored: bool, found: Option<Match>) -> bool
+    ensures { result ≡ words.does_match_allow_folded_directory ignored found }
 {
     let Some(found) = found else {
         return false;
@@ -146,58 +158,58 @@ fn allows_folded_directory(ignored: bool, found: Option<Match>) -> bool
     if found.is_excluded() {
         return false;
     }
-    !ignored | is_always(found.kind)
+    !ignored | is_always_match(found.kind)
 }
 
 /// Whether an entry of the index lies beneath a directory, by its name.
-pub fn has_beneath(index: &State, name: &[u8]) -> bool
-    ensures { result ≡ words.has_beneath index.now name.now }
+pub fn has_index_entry_beneath(index: &State, name: &[u8]) -> bool
+    ensures { result ≡ words.has_index_entry_beneath index.now name.now }
 {
     index.prefixed_entries_range(name).is_some()
 }
 
 /// Whether a directory of this name is shown in the place of what it holds.
-fn is_other(index: &State, specs: &Search, ignored: bool, name: &[u8]) -> bool
-    ensures { result ≡ words.is_other index.now specs.now ignored name.now }
+fn may_name_stand_for_contents(index: &State, specs: &Search, ignored: bool, name: &[u8]) -> bool
+    ensures { result ≡ words.may_name_stand_for_contents index.now specs.now ignored name.now }
 {
-    if has_beneath(index, name) {
+    if has_index_entry_beneath(index, name) {
         return false;
     }
     let found = specs.pattern_matching_relative_path(name, Some(true));
-    allows_folded_directory(ignored, found)
+    does_match_allow_folded_directory(ignored, found)
 }
 
 /// The same of a directory by its path.
-fn folds(
+fn may_directory_stand_for_contents(
     alloc: Global,
     index: &State,
     specs: &Search,
     ignored: bool,
     directory: &[u8],
 ) -> Result<bool, OutOfMemory>
-    ensures { IfOk result
-        (λ shown. shown ≡ words.folds index.now specs.now ignored directory.now) }
+    ensures { IfOk result (λ shown. shown ≡ words.may_directory_stand_for_contents index.now
+        specs.now ignored directory.now) }
 {
     let name = name(alloc, &Place::new(directory, true))?;
-    Ok(is_other(index, specs, ignored, name.as_bytes()))
+    Ok(may_name_stand_for_contents(index, specs, ignored, name.as_bytes()))
 }
 
 /// Whether an entry of this status is untracked.
-pub fn is_untracked(status: Status) -> bool
-    ensures { result ≡ words.is_untracked status }
+pub fn is_untracked_status(status: Status) -> bool
+    ensures { result ≡ words.is_untracked_status status }
 {
     matches!(status, Status::Untracked)
 }
 
 /// Whether a directory that holds an entry of this status may be ignored itself.
-fn may_be_ignored(listing: &Listing, status: Status) -> bool
-    ensures { result ≡ words.may_be_ignored listing.now status }
+fn may_parent_be_ignored(listing: &Listing, status: Status) -> bool
+    ensures { result ≡ words.may_parent_be_ignored listing.now status }
 {
-    asks_rules(listing) && !is_untracked(status)
+    uses_per_directory_ignore_rules(listing) && !is_untracked_status(status)
 }
 
 /// Whether an entry shows that the directories above it are not empty.
-fn fills(
+fn fills_directories_above(
     alloc: Global,
     listing: &Listing,
     index: &State,
@@ -205,8 +217,8 @@ fn fills(
     all: &[NamedSpec],
     entry: &Entry,
 ) -> Result<bool, OutOfMemory>
-    ensures { IfOk result
-        (λ fills. fills ≡ words.fills listing.now index.now specs.now all.now entry.now) }
+    ensures { IfOk result (λ fills. fills ≡ words.fills_directories_above listing.now index.now
+        specs.now all.now entry.now) }
 {
     if !listing.directories {
         return Ok(false);
@@ -214,11 +226,11 @@ fn fills(
     if listing.empty_directories {
         return Ok(true);
     }
-    is_shown(alloc, listing, index, specs, all, entry)
+    is_report_entry_listed(alloc, listing, index, specs, all, entry)
 }
 
 /// Whether the directory that ends before a byte of a path is shown in the place of what it holds.
-fn folds_at(
+fn may_path_prefix_stand_for_contents(
     alloc: Global,
     index: &State,
     specs: &Search,
@@ -227,13 +239,13 @@ fn folds_at(
     at: usize,
 ) -> Result<bool, OutOfMemory>
     requires { at < length path.now }
-    ensures { IfOk result
-        (λ shown. shown ≡ words.folds_at index.now specs.now ignored path.now at) }
+    ensures { IfOk result (λ shown. shown ≡ words.may_path_prefix_stand_for_contents index.now
+        specs.now ignored path.now at) }
 {
     if path[at] != b'/' {
         return Ok(false);
     }
-    folds(alloc, index, specs, ignored, &path[..at])
+    may_directory_stand_for_contents(alloc, index, specs, ignored, &path[..at])
 }
 
 /// The highest directory above a path that is shown in the place of what it holds.
@@ -249,7 +261,7 @@ fn top<'a>(
 {
     let mut at = 0;
     while at < path.len() {
-        if folds_at(alloc, index, specs, ignored, path, at)? {
+        if may_path_prefix_stand_for_contents(alloc, index, specs, ignored, path, at)? {
             return Ok(Some(&path[..at]));
         }
         at += 1;
@@ -258,23 +270,24 @@ fn top<'a>(
 }
 
 /// A directory, unless git does not come to it.
-fn if_seen<'a>(
+fn directory_place_unless_skipped<'a>(
     alloc: Global,
     index: &State,
     all: &[NamedSpec],
     directory: &'a [u8],
 ) -> Result<Option<Place<'a>>, OutOfMemory>
-    ensures { IfOk result (λ place. place ≡ words.if_seen index.now all.now directory.now) }
+    ensures { IfOk result (λ place. place ≡ words.directory_place_unless_skipped index.now all.now
+        directory.now) }
 {
     let name = name(alloc, &Place::new(directory, true))?;
-    if is_unseen(index, all, name.as_bytes()) {
+    if lies_in_spec_skipped_directory(index, all, name.as_bytes()) {
         return Ok(None);
     }
     Ok(Some(Place::new(directory, true)))
 }
 
 /// The directory that is shown in the place of an entry, if one is.
-fn folded<'a>(
+fn directory_standing_for_entry<'a>(
     alloc: Global,
     listing: &Listing,
     index: &State,
@@ -282,21 +295,21 @@ fn folded<'a>(
     all: &[NamedSpec],
     entry: &'a Entry,
 ) -> Result<Option<Place<'a>>, OutOfMemory>
-    ensures { IfOk result
-        (λ place. place ≡ words.folded listing.now index.now specs.now all.now entry.now) }
+    ensures { IfOk result (λ place. place ≡ words.directory_standing_for_entry listing.now index.now
+        specs.now all.now entry.now) }
 {
-    if !fills(alloc, listing, index, specs, all, entry)? {
+    if !fills_directories_above(alloc, listing, index, specs, all, entry)? {
         return Ok(None);
     }
-    let ignored = may_be_ignored(listing, entry.status);
+    let ignored = may_parent_be_ignored(listing, entry.status);
     match top(alloc, index, specs, ignored, entry.rela_path.as_bytes())? {
-        Some(path) => if_seen(alloc, index, all, path),
+        Some(path) => directory_place_unless_skipped(alloc, index, all, path),
         None => Ok(None),
     }
 }
 
 /// What is shown for an entry.
-pub fn place_for<'a>(
+pub fn place_listed_for_entry<'a>(
     alloc: Global,
     listing: &Listing,
     index: &State,
@@ -304,38 +317,38 @@ pub fn place_for<'a>(
     all: &[NamedSpec],
     entry: &'a Entry,
 ) -> Result<Option<Place<'a>>, OutOfMemory>
-    ensures { IfOk result
-        (λ place. place ≡ words.place_of listing.now index.now specs.now all.now entry.now) }
+    ensures { IfOk result (λ place. place ≡ words.place_listed_for_entry listing.now index.now
+        specs.now all.now entry.now) }
 {
-    match folded(alloc, listing, index, specs, all, entry)? {
+    match directory_standing_for_entry(alloc, listing, index, specs, all, entry)? {
         Some(place) => Ok(Some(place)),
-        None => itself(alloc, listing, index, specs, all, entry),
+        None => place_of_entry_if_listed(alloc, listing, index, specs, all, entry),
     }
 }
 
 /// Whether an entry of the index stands at a path.
-pub fn has_entry(index: &State, path: &[u8]) -> bool
-    ensures { result ≡ words.has_entry index.now path.now }
+pub fn has_index_entry_at(index: &State, path: &[u8]) -> bool
+    ensures { result ≡ words.has_index_entry_at index.now path.now }
 {
     index.entry_by_path(path).is_some()
 }
 
 /// The name of what is shown, unless the index has the path.
-pub fn name_unless(
+pub fn name_of_place_unless_indexed(
     alloc: Global,
     index: &State,
     place: &Place<'_>,
 ) -> Result<Option<Bytes>, OutOfMemory>
-    ensures { IfOk result (λ name. name ≡ words.name_unless index.now place.now) }
+    ensures { IfOk result (λ name. name ≡ words.name_of_place_unless_indexed index.now place.now) }
 {
-    if has_entry(index, place.path()) {
+    if has_index_entry_at(index, place.path()) {
         return Ok(None);
     }
     Ok(Some(name(alloc, place)?))
 }
 
 /// The name that is shown for an entry, if one is.
-fn name_of(
+fn untracked_name_for_entry(
     alloc: Global,
     listing: &Listing,
     index: &State,
@@ -343,17 +356,17 @@ fn name_of(
     all: &[NamedSpec],
     entry: &Entry,
 ) -> Result<Option<Bytes>, OutOfMemory>
-    ensures { IfOk result
-        (λ name. name ≡ words.name_of listing.now index.now specs.now all.now entry.now) }
+    ensures { IfOk result (λ name. name ≡ words.untracked_name_for_entry listing.now index.now
+        specs.now all.now entry.now) }
 {
-    match place_for(alloc, listing, index, specs, all, entry)? {
-        Some(place) => name_unless(alloc, index, &place),
+    match place_listed_for_entry(alloc, listing, index, specs, all, entry)? {
+        Some(place) => name_of_place_unless_indexed(alloc, index, &place),
         None => Ok(None),
     }
 }
 
 /// The names of a set, in the order of their bytes.
-pub fn in_order(alloc: Global, names: BTreeSet<Bytes>) -> Result<Vec<Bytes>, OutOfMemory>
+pub fn sorted_names_of_set(alloc: Global, names: BTreeSet<Bytes>) -> Result<Vec<Bytes>, OutOfMemory>
     ensures { IfOk result (λ list. list.items ≡ names.keys) }
 {
     let mut list = Vec::with_capacity(alloc, names.len())?;
@@ -364,7 +377,7 @@ pub fn in_order(alloc: Global, names: BTreeSet<Bytes>) -> Result<Vec<Bytes>, Out
 }
 
 /// The names of what a report has and the index does not, in the order of their bytes.
-pub fn others(
+pub fn sorted_untracked_names(
     alloc: Global,
     listing: &Listing,
     index: &State,
@@ -373,19 +386,26 @@ pub fn others(
     found: &[ReportEntry],
 ) -> Result<Vec<Bytes>, OutOfMemory>
     ensures { IfOk result (λ names. names.items
-        ≡ words.others listing.now index.now specs.now all.now found.now) }
+        ≡ words.sorted_untracked_names listing.now index.now specs.now all.now found.now) }
 {
     let mut names = BTreeSet::new(alloc);
     for entry in found {
-        if let Some(name) = name_of(alloc, listing, index, specs, all, &entry.entry)? {
+        if let Some(name) = untracked_name_for_entry(
+            alloc,
+            listing,
+            index,
+            specs,
+            all,
+            &entry.entry,
+        )? {
             names.insert(name)?;
         }
     }
-    in_order(alloc, names)
+    sorted_names_of_set(alloc, names)
 }
 
 /// Adds a line for each name.
-pub fn add_others(
+pub fn append_lines_of_untracked(
     alloc: Global,
     text: &mut Vec<u8>,
     listing: &Listing,
@@ -393,10 +413,10 @@ pub fn add_others(
     names: &[Bytes],
 ) -> Result<(), OutOfMemory>
     ensures { OnOk result (text.new.items ≡ text.old.items
-        ++ words.others_text listing.now prefix.now names.now) }
+        ++ words.lines_of_untracked_names listing.now prefix.now names.now) }
 {
     for name in names {
-        add_other(alloc, text, listing, prefix, name.as_bytes())?;
+        append_untracked_line(alloc, text, listing, prefix, name.as_bytes())?;
     }
     Ok(())
 }

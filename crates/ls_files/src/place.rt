@@ -1,7 +1,7 @@
 //! Paths, and whether directories stand there.
 ghost use Rattle.std.specs.Prelude.{◌≡◌};
 ghost use Rattle.gitbase_core.specs.Path as paths;
-ghost use Rattle.ls_files.specs.Unmatched.{place_of_name};
+ghost use Rattle.ls_files.specs.Unmatched.{place_from_name};
 
 use std::marker::Model;
 
@@ -17,7 +17,7 @@ pub struct Place<'a> {
 impl<'a> Model for Place<'a> {
     ghost use Rattle.ls_files.specs.Places as specs;
 
-    ghost Value = { specs.Place };
+    ghost Value = { specs.PathWithDirectoryFlag };
 
     ghost view = { λ place. record { path = place.path.now; holds_names = place.holds_names } };
 }
@@ -39,7 +39,7 @@ impl<'a> Place<'a> {
     }
 
     /// Whether a directory stands there.
-    pub fn holds_names(&self) -> bool
+    pub fn is_directory_path(&self) -> bool
         ensures { result ≡ self.now.holds_names }
     {
         self.holds_names
@@ -47,25 +47,25 @@ impl<'a> Place<'a> {
 }
 
 /// Whether a name ends in a slash, as that of a directory.
-pub fn ends_in_slash(name: &[u8]) -> bool
+pub fn ends_with_slash(name: &[u8]) -> bool
     ensures { result ≡ paths.ends_in_slash name.now }
 {
     name.last() == Some(&b'/')
 }
 
 /// A name without the slash at its end, if there is one.
-fn without_slash(name: &[u8]) -> &[u8]
-    ensures { result.now ≡ paths.without_slash name.now }
+fn strip_trailing_slash(name: &[u8]) -> &[u8]
+    ensures { result.now ≡ paths.without_trailing_slash name.now }
 {
-    if ends_in_slash(name) {
+    if ends_with_slash(name) {
         return &name[..name.len() - 1];
     }
     name
 }
 
 /// The path of a name, and whether it is that of a directory.
-pub fn place_of_name(name: &[u8]) -> Place<'_>
-    ensures { result ≡ place_of_name name.now }
+pub fn place_from_name(name: &[u8]) -> Place<'_>
+    ensures { result ≡ place_from_name name.now }
 {
-    Place::new(without_slash(name), ends_in_slash(name))
+    Place::new(strip_trailing_slash(name), ends_with_slash(name))
 }

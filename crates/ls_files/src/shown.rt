@@ -27,7 +27,7 @@ pub struct Shown<'a> {
 impl<'a> Model for Shown<'a> {
     ghost use Rattle.ls_files.specs.Places as specs;
 
-    ghost Value = { specs.Shown };
+    ghost Value = { specs.EntryAsKeptGoneOrModified };
 
     ghost view = { λ shown. record { entry = shown.entry.now; sign = shown.sign } };
 }
@@ -49,7 +49,7 @@ impl<'a> Shown<'a> {
     }
 
     /// As what it is shown.
-    pub fn sign(&self) -> Sign
+    pub fn kept_gone_or_modified(&self) -> Sign
         ensures { result ≡ self.now.sign }
     {
         self.sign

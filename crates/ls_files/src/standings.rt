@@ -1,19 +1,20 @@
 //! Which entries of an index are looked at for `-d` and `-m`, and how they stand.
 ghost use Rattle.std.specs.Prelude.{◌≡◌, Some, IsErrOf, IfOk};
-ghost use Rattle.worktree_fs.specs.Answers.{UnlessFault};
-ghost use Rattle.worktree_fs.specs.Causes.{Increased};
-ghost use Rattle.worktree_fs.specs.Kept.{Asks};
-ghost use Rattle.diff_files.specs.KeptStats.{AsksStats, Fails, KeepsFaultCounts, TreeAndStats, Tells};
+ghost use Rattle.worktree_fs.specs.Answers.{HoldsUnlessFault};
+ghost use Rattle.worktree_fs.specs.Causes.{CountIncreasedOrSaturated};
+ghost use Rattle.worktree_fs.specs.Kept.{KeepsTreeAndListCounts};
+ghost use Rattle.diff_files.specs.KeptStats.{KeepsToldStats, CountsFaultInEither, KeepsFaultCounts, TreeAndStats, Tells};
 ghost use Rattle.diff_files.specs.Rows as rows;
 ghost use Rattle.ls_files.specs.Changed as words;
 
-use crate::cached::{is_entry_matched, is_of_kind, is_once};
-use crate::line::shows_stages;
-use crate::listed::place_of_entry;
+use crate::cached::{do_specs_match_index_entry, lists_each_path_once, passes_unmerged_option};
+use crate::line::lists_stages;
+use crate::listed::place_of_index_entry;
 use crate::options::{Listing, NamedSpec};
-use crate::unmatched::is_named;
+use crate::unmatched::does_any_spec_include_place;
 use diff_files::{
-    Comparison, PathChange, Stats, Unsupported, is_skipped_in, presence_of, standing_of,
+    Comparison, PathChange, Stats, Unsupported, change_for_ls_files_deleted,
+    change_for_ls_files_modified, is_effectively_skipped_below_root,
 };
 use git_index::Detail;
 use gitbase_core::IndexEntry;
@@ -49,8 +50,8 @@ pub struct ChangeQuery<'a> {
     pub specs: &'a Search,
 }
 
-fn shows_deleted(asked: Standings) -> bool
-    ensures { result ≡ words.shows_deleted asked }
+fn lists_deleted(asked: Standings) -> bool
+    ensures { result ≡ words.lists_deleted asked }
 {
     match asked {
         Standings::Deleted => true,
@@ -59,8 +60,8 @@ fn shows_deleted(asked: Standings) -> bool
     }
 }
 
-fn shows_modified(asked: Standings) -> bool
-    ensures { result ≡ words.shows_modified asked }
+fn lists_modified(asked: Standings) -> bool
+    ensures { result ≡ words.lists_modified asked }
 {
     match asked {
         Standings::Deleted => false,
@@ -70,65 +71,71 @@ fn shows_modified(asked: Standings) -> bool
 }
 
 /// Whether an entry is shown beside, as what the index has.
-pub fn is_kept(listing: &Listing, entry: &IndexEntry) -> bool
-    ensures { result ≡ words.is_kept listing.now entry.now }
+pub fn is_listed_as_indexed(listing: &Listing, entry: &IndexEntry) -> bool
+    ensures { result ≡ words.is_listed_as_indexed listing.now entry.now }
 {
-    if listing.cached | shows_stages(listing) {
-        return is_of_kind(listing, entry);
+    if listing.cached | lists_stages(listing) {
+        return passes_unmerged_option(listing, entry);
     }
     false
 }
 
 /// Whether a path that is shown once is shown already.
-fn is_settled(listing: &Listing, entry: &IndexEntry) -> bool
-    ensures { result ≡ words.is_settled listing.now entry.now }
+fn is_deduplicated_and_listed_as_indexed(listing: &Listing, entry: &IndexEntry) -> bool
+    ensures { result ≡ words.is_deduplicated_and_listed_as_indexed listing.now entry.now }
 {
-    is_once(listing) && is_kept(listing, entry)
+    lists_each_path_once(listing) && is_listed_as_indexed(listing, entry)
 }
 
 /// Whether the path specs match an entry, or one of them where it is told which do.
-fn is_asked(listing: &Listing, named: &[NamedSpec], specs: &Search, entry: &IndexEntry) -> bool
-    ensures { result ≡ words.is_asked listing.now named.now specs.now entry.now }
+fn do_specs_or_single_spec_match(
+    listing: &Listing,
+    named: &[NamedSpec],
+    specs: &Search,
+    entry: &IndexEntry,
+) -> bool
+    ensures { result ≡ words.do_specs_or_single_spec_match listing.now named.now specs.now
+        entry.now }
 {
-    if is_entry_matched(specs, entry) {
+    if do_specs_match_index_entry(specs, entry) {
         return true;
     }
-    listing.error_unmatch && is_named(named, &place_of_entry(entry))
+    listing.error_unmatch && does_any_spec_include_place(named, &place_of_index_entry(entry))
 }
 
 /// Whether an entry is looked at, if it is not skipped.
-fn is_candidate(query: &ChangeQuery<'_>, entry: &IndexEntry) -> bool
-    ensures { result ≡ words.is_candidate query.now.listing.now query.now.named.now
+fn needs_worktree_look(query: &ChangeQuery<'_>, entry: &IndexEntry) -> bool
+    ensures { result ≡ words.needs_worktree_look query.now.listing.now query.now.named.now
         query.now.specs.now entry.now }
 {
-    if is_settled(query.listing, entry) {
+    if is_deduplicated_and_listed_as_indexed(query.listing, entry) {
         return false;
     }
-    is_asked(query.listing, query.named, query.specs, entry)
+    do_specs_or_single_spec_match(query.listing, query.named, query.specs, entry)
 }
 
 /// Whether an entry is looked at.
-fn is_looked_at<S: Stats>(
+fn needs_look_unless_skipped<S: Stats>(
     alloc: Global,
     stats: &mut S,
     query: &ChangeQuery<'_>,
     entry: &IndexEntry,
 ) -> Result<bool, ReadError>
     ensures is { (o : TreeAndStats) → S.told stats.old ≡ Some o.stats
-        → IfOk result (λ is. is ≡ words.is_looked_at_by o query.now entry.now) }
-    ensures kept { AsksStats S.Stats stats.old stats.new }
+        → IfOk result (λ is. is ≡ words.query_needs_look_unless_skipped o query.now entry.now) }
+    ensures kept { KeepsToldStats S.Stats stats.old stats.new }
     ensures cause { IsErrOf result ReadError.Fault
-        → Increased (S.faults stats.old) (S.faults stats.new) }
-    ensures unfaulted { UnlessFault result (S.faults stats.new ≡ S.faults stats.old) }
+        → CountIncreasedOrSaturated (S.faults stats.old) (S.faults stats.new) }
+    ensures unfaulted { HoldsUnlessFault result (S.faults stats.new ≡ S.faults stats.old) }
 {
-    if !is_candidate(query, entry) {
+    if !needs_worktree_look(query, entry) {
         return Ok(false);
     }
-    Ok(!is_skipped_in(alloc, stats, query.root, query.comparison, entry)?)
+    Ok(!is_effectively_skipped_below_root(alloc, stats, query.root, query.comparison, entry)?)
 }
 
 /// How an entry stands that is looked at.
-fn looked_at<W: Worktree, S: Stats>(
+fn change_of_examined_entry<W: Worktree, S: Stats>(
     alloc: Global,
     worktree: &mut W,
     stats: &mut S,
@@ -137,27 +144,31 @@ fn looked_at<W: Worktree, S: Stats>(
     detail: &Detail,
 ) -> Result<Result<PathChange, Unsupported>, ReadError>
     ensures standing { (o : TreeAndStats) → Tells (W.told worktree.old) (S.told stats.old) o
-        → IfOk result (λ change. change ≡ words.looked_at o query.now.root.now
+        → IfOk result (λ change. change ≡ words.change_of_examined_entry o query.now.root.now
         query.now.comparison.now query.now.standings entry.now detail.now) }
-    ensures worktree { Asks W.Worktree worktree.old worktree.new }
-    ensures stats { AsksStats S.Stats stats.old stats.new }
+    ensures worktree { KeepsTreeAndListCounts W.Worktree worktree.old worktree.new }
+    ensures stats { KeepsToldStats S.Stats stats.old stats.new }
     ensures cause { IsErrOf result ReadError.Fault
-        → Fails W.Worktree S.Stats worktree.old worktree.new stats.old stats.new }
-    ensures unfaulted { UnlessFault result
+        → CountsFaultInEither W.Worktree S.Stats worktree.old worktree.new stats.old stats.new }
+    ensures unfaulted { HoldsUnlessFault result
         (KeepsFaultCounts W.Worktree S.Stats worktree.old worktree.new stats.old stats.new) }
 {
     let root = query.root;
     let comparison = query.comparison;
     match query.standings {
-        Standings::Deleted => Ok(Ok(presence_of(alloc, stats, root, entry)?)),
-        Standings::Modified => standing_of(alloc, worktree, stats, root, comparison, entry, detail),
-        Standings::Both => standing_of(alloc, worktree, stats, root, comparison, entry, detail),
+        Standings::Deleted => Ok(Ok(change_for_ls_files_deleted(alloc, stats, root, entry)?)),
+        Standings::Modified => change_for_ls_files_modified(
+            alloc, worktree, stats, root, comparison, entry, detail,
+        ),
+        Standings::Both => change_for_ls_files_modified(
+            alloc, worktree, stats, root, comparison, entry, detail,
+        ),
     }
 }
 
 /// How an entry stands; one that is not looked at is the same.
-#[tactic(auto, unfolding(crate::specs::Changed::change_of))]
-pub fn change_of<W: Worktree, S: Stats>(
+#[tactic(auto, unfolding(crate::specs::Changed::change_of_entry))]
+pub fn change_of_entry<W: Worktree, S: Stats>(
     alloc: Global,
     worktree: &mut W,
     stats: &mut S,
@@ -166,23 +177,24 @@ pub fn change_of<W: Worktree, S: Stats>(
     detail: &Detail,
 ) -> Result<Result<PathChange, Unsupported>, ReadError>
     ensures change { (o : TreeAndStats) → Tells (W.told worktree.old) (S.told stats.old) o
-        → IfOk result (λ change. change ≡ words.change_by o query.now entry.now detail.now) }
-    ensures worktree { Asks W.Worktree worktree.old worktree.new }
-    ensures stats { AsksStats S.Stats stats.old stats.new }
+        → IfOk result (λ change. change ≡ words.change_of_entry_by_query o query.now entry.now
+        detail.now) }
+    ensures worktree { KeepsTreeAndListCounts W.Worktree worktree.old worktree.new }
+    ensures stats { KeepsToldStats S.Stats stats.old stats.new }
     ensures cause { IsErrOf result ReadError.Fault
-        → Fails W.Worktree S.Stats worktree.old worktree.new stats.old stats.new }
-    ensures unfaulted { UnlessFault result
+        → CountsFaultInEither W.Worktree S.Stats worktree.old worktree.new stats.old stats.new }
+    ensures unfaulted { HoldsUnlessFault result
         (KeepsFaultCounts W.Worktree S.Stats worktree.old worktree.new stats.old stats.new) }
 {
-    if !is_looked_at(alloc, stats, query, entry)? {
+    if !needs_look_unless_skipped(alloc, stats, query, entry)? {
         return Ok(Ok(PathChange::Same));
     }
-    looked_at(alloc, worktree, stats, query, entry, detail)
+    change_of_examined_entry(alloc, worktree, stats, query, entry, detail)
 }
 
 /// Whether nothing stands at a path.
-fn is_deleted(change: PathChange) -> bool
-    ensures { result ≡ words.is_deleted change }
+fn is_deletion(change: PathChange) -> bool
+    ensures { result ≡ words.is_deletion change }
 {
     match change {
         PathChange::Same => false,
@@ -195,8 +207,8 @@ fn is_deleted(change: PathChange) -> bool
 }
 
 /// Whether what stands at a path is as its entry has it.
-fn is_same(change: PathChange) -> bool
-    ensures { result ≡ rows.is_same change }
+fn is_unchanged(change: PathChange) -> bool
+    ensures { result ≡ rows.is_unchanged change }
 {
     match change {
         PathChange::Same => true,
@@ -209,15 +221,15 @@ fn is_same(change: PathChange) -> bool
 }
 
 /// Whether a path is shown as gone.
-pub fn is_gone(asked: Standings, change: PathChange) -> bool
-    ensures { result ≡ words.is_gone asked change }
+pub fn is_listed_as_deleted(asked: Standings, change: PathChange) -> bool
+    ensures { result ≡ words.is_listed_as_deleted asked change }
 {
-    shows_deleted(asked) && is_deleted(change)
+    lists_deleted(asked) && is_deletion(change)
 }
 
 /// Whether a path is shown as modified.
-pub fn is_modified(asked: Standings, change: PathChange) -> bool
-    ensures { result ≡ words.is_modified asked change }
+pub fn is_listed_as_modified(asked: Standings, change: PathChange) -> bool
+    ensures { result ≡ words.is_listed_as_modified asked change }
 {
-    shows_modified(asked) && !is_same(change)
+    lists_modified(asked) && !is_unchanged(change)
 }

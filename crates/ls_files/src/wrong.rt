@@ -4,7 +4,7 @@ ghost use Rattle.std.specs.List.{list_any};
 ghost use Rattle.ls_files.specs.Wrong as words;
 
 use crate::alone::has_only_given_patterns;
-use crate::cached::{asks_rules, shows_index, walks};
+use crate::cached::{lists_index_entries, needs_worktree_walk, uses_per_directory_ignore_rules};
 use crate::options::Listing;
 use diff_files::Unsupported;
 use gitbase_core::{IndexEntry, State};
@@ -37,8 +37,8 @@ pub enum WrongListing {
 }
 
 /// What is told of a form that is not answered.
-fn unsupported_text(form: Unsupported) -> &'static [u8]
-    ensures { result.now ≡ words.unsupported_text form }
+fn message_of_unsupported(form: Unsupported) -> &'static [u8]
+    ensures { result.now ≡ words.message_of_unsupported form }
 {
     match form {
         Unsupported::Repository => b"ls-files -m is not supported where a repository stands",
@@ -52,7 +52,7 @@ fn unsupported_text(form: Unsupported) -> &'static [u8]
 impl WrongListing {
     /// What is told of it, behind `fatal: `; of what git refuses too in git's words.
     pub fn text(&self) -> &'static [u8]
-        ensures { result.now ≡ words.wrong_text self.now }
+        ensures { result.now ≡ words.message_of_wrong_listing self.now }
     {
         match self {
             WrongListing::IgnoredOfNothing => b"ls-files -i must be used with either -o or -c",
@@ -71,29 +71,29 @@ impl WrongListing {
             WrongListing::UnreadRules => {
                 b"ls-files -i is not supported with a rules file that is not read"
             }
-            WrongListing::Unsupported(form) => unsupported_text(*form),
+            WrongListing::Unsupported(form) => message_of_unsupported(*form),
         }
     }
 }
 
 /// Whether there are rules.
-pub fn has_rules(listing: &Listing) -> bool
-    ensures { result ≡ words.has_rules listing.now }
+pub fn has_any_exclude_rules(listing: &Listing) -> bool
+    ensures { result ≡ words.has_any_exclude_rules listing.now }
 {
-    asks_rules(listing) || listing.patterns
+    uses_per_directory_ignore_rules(listing) || listing.patterns
 }
 
 /// Why there is no listing of only what is ignored.
-fn wrong_ignored(listing: &Listing) -> Option<WrongListing>
-    ensures { result ≡ words.wrong_ignored listing.now }
+fn refusal_of_ignored_option_combination(listing: &Listing) -> Option<WrongListing>
+    ensures { result ≡ words.refusal_of_ignored_option_combination listing.now }
 {
     if !(listing.others | listing.cached) {
         return Some(WrongListing::IgnoredOfNothing);
     }
-    if !has_rules(listing) {
+    if !has_any_exclude_rules(listing) {
         return Some(WrongListing::IgnoredWithoutRules);
     }
-    if shows_index(listing) {
+    if lists_index_entries(listing) {
         return Some(WrongListing::IgnoredIndex);
     }
     if listing.directories & listing.killed {
@@ -103,57 +103,57 @@ fn wrong_ignored(listing: &Listing) -> Option<WrongListing>
 }
 
 /// The same where only what is ignored is asked for.
-fn wrong_if_ignored(listing: &Listing) -> Option<WrongListing>
-    ensures { result ≡ words.wrong_if_ignored listing.now }
+fn refusal_if_ignored_option_given(listing: &Listing) -> Option<WrongListing>
+    ensures { result ≡ words.refusal_if_ignored_option_given listing.now }
 {
     if listing.ignored {
-        return wrong_ignored(listing);
+        return refusal_of_ignored_option_combination(listing);
     }
     None
 }
 
 /// Whether directories are shown where something in them is not ignored.
-fn shows_directories(listing: &Listing) -> bool
-    ensures { result ≡ words.shows_directories listing.now }
+fn lists_unignored_directories(listing: &Listing) -> bool
+    ensures { result ≡ words.lists_unignored_directories listing.now }
 {
     listing.others && listing.directories && !listing.ignored
 }
 
 /// Why there is no listing by patterns alone.
-fn wrong_rules(listing: &Listing) -> Option<WrongListing>
-    ensures { result ≡ words.wrong_rules listing.now }
+fn refusal_if_patterns_stand_alone(listing: &Listing) -> Option<WrongListing>
+    ensures { result ≡ words.refusal_if_patterns_stand_alone listing.now }
 {
     if !has_only_given_patterns(listing) {
         return None;
     }
-    if listing.killed | shows_directories(listing) {
+    if listing.killed | lists_unignored_directories(listing) {
         return Some(WrongListing::PatternsAlone);
     }
     None
 }
 
 /// Whether an entry stands for all that is beneath a directory.
-fn is_sparse(entry: &IndexEntry) -> bool
-    ensures { result ≡ words.is_sparse entry.now }
+fn is_sparse_directory_entry(entry: &IndexEntry) -> bool
+    ensures { result ≡ words.is_sparse_index_directory entry.now }
 {
     entry.mode.is_sparse()
 }
 
 /// Whether an entry does.
-pub fn has_sparse(entries: &[IndexEntry]) -> bool
-    ensures { result ≡ list_any words.is_sparse entries.now }
+pub fn has_sparse_directory_entry(entries: &[IndexEntry]) -> bool
+    ensures { result ≡ list_any words.is_sparse_index_directory entries.now }
 {
-    entries.iter().any(|entry| is_sparse(entry))
+    entries.iter().any(|entry| is_sparse_directory_entry(entry))
 }
 
 /// Why there is no listing of what an index has, or of what lies in its way.
-fn refusal_of_sparse_index(listing: &Listing, index: &State) -> Option<WrongListing>
-    ensures { result ≡ words.refusal_of_sparse_index listing.now index.now }
+fn refusal_if_index_is_sparse(listing: &Listing, index: &State) -> Option<WrongListing>
+    ensures { result ≡ words.refusal_if_index_is_sparse listing.now index.now }
 {
-    if !(shows_index(listing) | listing.killed) {
+    if !(lists_index_entries(listing) | listing.killed) {
         return None;
     }
-    if has_sparse(index.entries()) {
+    if has_sparse_directory_entry(index.entries()) {
         return Some(WrongListing::SparseIndex);
     }
     None
@@ -165,26 +165,29 @@ fn refusal_of_sparse_index(listing: &Listing, index: &State) -> Option<WrongList
 /// See docs/DIFFERENCES.md#list-ignored-forms.
 /// See docs/DIFFERENCES.md#list-sparse-index.
 /// See docs/DIFFERENCES.md#list-patterns-alone.
-pub fn wrong_in(listing: &Listing, index: &State) -> Option<WrongListing>
-    ensures { result ≡ words.wrong_in listing.now index.now }
+pub fn first_refusal_of_options_and_index(listing: &Listing, index: &State) -> Option<WrongListing>
+    ensures { result ≡ words.first_refusal_of_options_and_index listing.now index.now }
 {
-    let first = wrong_if_ignored(listing);
+    let first = refusal_if_ignored_option_given(listing);
     if first.is_some() {
         return first;
     }
-    let second = wrong_rules(listing);
+    let second = refusal_if_patterns_stand_alone(listing);
     if second.is_some() {
         return second;
     }
-    refusal_of_sparse_index(listing, index)
+    refusal_if_index_is_sparse(listing, index)
 }
 
 /// Why there is no such listing of a part of a work tree; `whole` says that the whole is listed: no
 /// path spec is written, and the command is called at the top.
 ///
 /// See docs/DIFFERENCES.md#list-ignored-forms.
-pub fn wrong_within(listing: &Listing, whole: bool) -> Option<WrongListing>
-    ensures { result ≡ words.wrong_within listing.now whole }
+pub fn refusal_of_partial_ignored_directories(
+    listing: &Listing,
+    whole: bool,
+) -> Option<WrongListing>
+    ensures { result ≡ words.refusal_of_partial_ignored_directories listing.now whole }
 {
     if listing.ignored & listing.directories & !whole {
         return Some(WrongListing::IgnoredDirectories);
@@ -197,17 +200,17 @@ pub fn wrong_within(listing: &Listing, whole: bool) -> Option<WrongListing>
 ///
 /// See docs/DIFFERENCES.md#list-ignored-forms.
 /// See docs/DIFFERENCES.md#list-changed-and-others.
-pub fn wrong_beside(listing: &Listing) -> Option<WrongListing>
-    ensures { result ≡ words.wrong_beside listing.now }
+pub fn refusal_of_options_for_changes(listing: &Listing) -> Option<WrongListing>
+    ensures { result ≡ words.refusal_of_options_for_changes listing.now }
 {
-    let first = wrong_if_ignored(listing);
+    let first = refusal_if_ignored_option_given(listing);
     if first.is_some() {
         return first;
     }
     if listing.ignored {
         return Some(WrongListing::IgnoredIndex);
     }
-    if walks(listing) & listing.error_unmatch {
+    if needs_worktree_walk(listing) & listing.error_unmatch {
         return Some(WrongListing::UnmatchedOfBoth);
     }
     None

@@ -4,11 +4,12 @@ use crate::words::{all_named, listing_of, rules_of, specs_of};
 use bstr::ByteSlice;
 use gitbase_core::Bytes;
 use ls_files::{
-    Listed, Listing, NamedSpec, list_excluded, list_files, lists_excluded, walk_options,
-    wrong_excluded, wrong_in,
+    Listed, Listing, NamedSpec, first_refusal_of_options_and_index, list_files_of_worktree,
+    list_ignored_index_entries, lists_only_ignored_index_entries, refusal_if_no_rules_or_sparse,
+    walk_options_for_listing,
 };
 use std::alloc::Global;
-use test_cases::{lines_of, split_at_byte, tree_of};
+use test_cases::{replace_marks_by_line_feeds, split_at_byte, tree_from_steps};
 use worktree_fs::PlannedInterrupt;
 use worktree_report::Setup;
 
@@ -20,9 +21,9 @@ fn setup_for(
     options: &[u8],
     specs: &[u8],
 ) -> Option<Setup> {
-    let lines = lines_of(alloc, text, b'$')?;
+    let lines = replace_marks_by_line_feeds(alloc, text, b'$')?;
     let mut setup = Setup::parse(alloc, &lines).ok()?;
-    setup.options = walk_options(listing, &setup.options);
+    setup.options = walk_options_for_listing(listing, &setup.options);
     setup.specs = specs_of(alloc, specs)?;
     setup.overrides = rules_of(alloc, options)?;
     if !listing.excludes_standard {
@@ -40,11 +41,11 @@ fn excluded_of(
     prefix: &[u8],
     named: &[NamedSpec],
 ) -> Option<Listed> {
-    if let Some(_) = wrong_excluded(listing, &setup.index) {
+    if let Some(_) = refusal_if_no_rules_or_sparse(listing, &setup.index) {
         return None;
     }
-    let mut tree = tree_of(alloc, steps, b'$')?;
-    list_excluded(alloc, &mut tree, b"/w/r", setup, listing, prefix, named).ok()
+    let mut tree = tree_from_steps(alloc, steps, b'$')?;
+    list_ignored_index_entries(alloc, &mut tree, b"/w/r", setup, listing, prefix, named).ok()
 }
 
 /// What is listed of the tree of some steps.
@@ -56,12 +57,12 @@ fn listed_of(
     prefix: &[u8],
     named: &[NamedSpec],
 ) -> Option<Listed> {
-    if let Some(_) = wrong_in(listing, &setup.index) {
+    if let Some(_) = first_refusal_of_options_and_index(listing, &setup.index) {
         return None;
     }
-    let mut tree = tree_of(alloc, steps, b'$')?;
+    let mut tree = tree_from_steps(alloc, steps, b'$')?;
     let mut interrupt = PlannedInterrupt::never();
-    list_files(
+    list_files_of_worktree(
         alloc,
         &mut tree,
         &mut interrupt,
@@ -86,7 +87,7 @@ fn listed_in(
     let listing = listing_of(options);
     let setup = setup_for(alloc, text, &listing, options, specs)?;
     let named = all_named(alloc, specs)?;
-    if lists_excluded(&listing) {
+    if lists_only_ignored_index_entries(&listing) {
         return excluded_of(alloc, steps, &setup, &listing, prefix, &named);
     }
     listed_of(alloc, steps, &setup, &listing, prefix, &named)
@@ -94,7 +95,7 @@ fn listed_in(
 
 /// Whether a text is what a row has, with `$` in the place of each line feed.
 fn is_text(alloc: Global, text: &[u8], want: &[u8]) -> bool {
-    match lines_of(alloc, want, b'$') {
+    match replace_marks_by_line_feeds(alloc, want, b'$') {
         Some(lines) => lines.as_slice() == text,
         None => false,
     }

@@ -16,12 +16,12 @@ use Rattle.std.proofs.lemmas.List.Sums.{sum_by-cons}
 use Rattle.std.proofs.lemmas.Map.Text.{is_eq-slice_cmp}
 use Rattle.std.proofs.lemmas.Slice.Eq.{bytes_eq-Decides}
 use Rattle.module_plan.specs.declared.step.Step.{Step}
-use Rattle.module_plan.specs.Lines.{step_line}
-use Rattle.module_plan.specs.Order.{is_before, insert_step, by_path}
-use Rattle.module_plan.specs.Plans.{Ascends, path_of}
+use Rattle.module_plan.specs.Lines.{line_of_step}
+use Rattle.module_plan.specs.Order.{is_before_by_path, insert_step_by_path, sort_steps_by_path}
+use Rattle.module_plan.specs.Plans.{IsStrictlySortedByPath, path_of_step}
 
-by_paths : IsStrictWeakOrder is_before
-by_paths = ranks_by nat_list_cmp_total path_of
+by_paths : IsStrictWeakOrder is_before_by_path
+by_paths = ranks_by nat_list_cmp_total path_of_step
 
 -- ---- counts
 
@@ -55,45 +55,45 @@ count_by-le p q (x ∷ xs) h =
 
 abbrev IsUp : List Step → Type 0
 IsUp [] = Unit {0}
-IsUp (x ∷ xs) = AllByRecursion (λ y. is_before y x ≡ false) xs × IsUp xs
+IsUp (x ∷ xs) = AllByRecursion (λ y. is_before_by_path y x ≡ false) xs × IsUp xs
 
-all_insert : (P : Step → Type 0) (s : Step) (xs : List Step) → P s → AllByRecursion P xs → AllByRecursion P (insert_step s xs)
+all_insert : (P : Step → Type 0) (s : Step) (xs : List Step) → P s → AllByRecursion P xs → AllByRecursion P (insert_step_by_path s xs)
 all_insert P s [] ps h = (ps, tt)
-all_insert P s (x ∷ xs) ps h = go (is_before x s) (all_insert P s xs ps h.1)
+all_insert P s (x ∷ xs) ps h = go (is_before_by_path x s) (all_insert P s xs ps h.1)
   where
-    go : (b : Bool) → AllByRecursion P (insert_step s xs) → AllByRecursion P (cond b (x ∷ insert_step s xs) (s ∷ x ∷ xs))
+    go : (b : Bool) → AllByRecursion P (insert_step_by_path s xs) → AllByRecursion P (cond b (x ∷ insert_step_by_path s xs) (s ∷ x ∷ xs))
     go true ih = (h.0, ih)
     go false ih = (ps, h)
 
-all_chain : (x s : Step) (xs : List Step) → is_before x s ≡ false → AllByRecursion (λ y. is_before y x ≡ false) xs → AllByRecursion (λ y. is_before y s ≡ false) xs
+all_chain : (x s : Step) (xs : List Step) → is_before_by_path x s ≡ false → AllByRecursion (λ y. is_before_by_path y x ≡ false) xs → AllByRecursion (λ y. is_before_by_path y s ≡ false) xs
 all_chain x s [] h all = tt
 all_chain x s (y ∷ ys) h all = (by_paths.chain y x s all.0 h, all_chain x s ys h all.1)
 
-IsUp-insert : (s : Step) (xs : List Step) → IsUp xs → IsUp (insert_step s xs)
+IsUp-insert : (s : Step) (xs : List Step) → IsUp xs → IsUp (insert_step_by_path s xs)
 IsUp-insert s [] up = (tt, tt)
-IsUp-insert s (x ∷ xs) up = go (is_before x s) refl (IsUp-insert s xs up.1)
+IsUp-insert s (x ∷ xs) up = go (is_before_by_path x s) refl (IsUp-insert s xs up.1)
   where
-    go : (b : Bool) → is_before x s ≡ b → IsUp (insert_step s xs) → IsUp (cond b (x ∷ insert_step s xs) (s ∷ x ∷ xs))
-    go true is ih = (all_insert (λ y. is_before y x ≡ false) s xs (by_paths.one_way x s is) up.0, ih)
+    go : (b : Bool) → is_before_by_path x s ≡ b → IsUp (insert_step_by_path s xs) → IsUp (cond b (x ∷ insert_step_by_path s xs) (s ∷ x ∷ xs))
+    go true is ih = (all_insert (λ y. is_before_by_path y x ≡ false) s xs (by_paths.one_way x s is) up.0, ih)
     go false is ih = ((is, all_chain x s xs is up.0), up)
 
-IsUp-by_path : (xs : List Step) → IsUp (by_path xs)
-unfolding by_path
+IsUp-by_path : (xs : List Step) → IsUp (sort_steps_by_path xs)
+unfolding sort_steps_by_path
 IsUp-by_path [] = tt
-IsUp-by_path (x ∷ xs) = IsUp-insert x (by_path xs) (IsUp-by_path xs)
+IsUp-by_path (x ∷ xs) = IsUp-insert x (sort_steps_by_path xs) (IsUp-by_path xs)
 
-count_by-insert : (p : Step → Bool) (s : Step) (xs : List Step) → count_by p (insert_step s xs) ≡ cond (p s) 1 0 + count_by p xs
+count_by-insert : (p : Step → Bool) (s : Step) (xs : List Step) → count_by p (insert_step_by_path s xs) ≡ cond (p s) 1 0 + count_by p xs
 count_by-insert p s [] = count_by-cons p s []
-count_by-insert p s (x ∷ xs) = go (is_before x s) (count_by-insert p s xs)
+count_by-insert p s (x ∷ xs) = go (is_before_by_path x s) (count_by-insert p s xs)
   where
-    go : (b : Bool) → count_by p (insert_step s xs) ≡ cond (p s) 1 0 + count_by p xs → count_by p (cond b (x ∷ insert_step s xs) (s ∷ x ∷ xs)) ≡ cond (p s) 1 0 + count_by p (x ∷ xs)
-    go true ih = omega (arith, ih, count_by-cons p x (insert_step s xs), count_by-cons p x xs)
+    go : (b : Bool) → count_by p (insert_step_by_path s xs) ≡ cond (p s) 1 0 + count_by p xs → count_by p (cond b (x ∷ insert_step_by_path s xs) (s ∷ x ∷ xs)) ≡ cond (p s) 1 0 + count_by p (x ∷ xs)
+    go true ih = omega (arith, ih, count_by-cons p x (insert_step_by_path s xs), count_by-cons p x xs)
     go false ih = count_by-cons p s (x ∷ xs)
 
-count_by-by_path : (p : Step → Bool) (xs : List Step) → count_by p (by_path xs) ≡ count_by p xs
-unfolding by_path
+count_by-by_path : (p : Step → Bool) (xs : List Step) → count_by p (sort_steps_by_path xs) ≡ count_by p xs
+unfolding sort_steps_by_path
 count_by-by_path p [] = refl
-count_by-by_path p (x ∷ xs) = omega (arith, count_by-insert p x (by_path xs), count_by-by_path p xs, count_by-cons p x xs)
+count_by-by_path p (x ∷ xs) = omega (arith, count_by-insert p x (sort_steps_by_path xs), count_by-by_path p xs, count_by-cons p x xs)
 
 -- ---- one order
 
@@ -108,7 +108,7 @@ less_differs : (p q : List ℕ) → slice_cmp nat_cmp p q ≡ Less → bytes_eq 
 less_differs p q less = sym (is_eq-slice_cmp p q) ∙ ap is_eq less
 
 -- of a path below that of a first step there is none behind it
-below_none : (p : List ℕ) (y : Step) (ys : List Step) → slice_cmp nat_cmp p y.path ≡ Less → AllByRecursion (λ z. is_before z y ≡ false) ys
+below_none : (p : List ℕ) (y : Step) (ys : List Step) → slice_cmp nat_cmp p y.path ≡ Less → AllByRecursion (λ z. is_before_by_path z y ≡ false) ys
     → AllByRecursion (λ s. has_path p s ≡ false) ys
 below_none p y [] less up = tt
 below_none p y (z ∷ ys) less up = (
@@ -117,7 +117,7 @@ below_none p y (z ∷ ys) less up = (
 )
 
 -- the same where the paths ascend
-above_none : (p : List ℕ) (x : Step) (xs : List Step) → is_lt (slice_cmp nat_cmp x.path p) ≡ false → AllByRecursion (λ path. slice_cmp nat_cmp x.path path ≡ Less) (map path_of xs)
+above_none : (p : List ℕ) (x : Step) (xs : List Step) → is_lt (slice_cmp nat_cmp x.path p) ≡ false → AllByRecursion (λ path. slice_cmp nat_cmp x.path path ≡ Less) (map path_of_step xs)
     → AllByRecursion (λ s. has_path p s ≡ false) xs
 above_none p x [] less up = tt
 above_none p x (z ∷ xs) less up = (
@@ -125,8 +125,8 @@ above_none p x (z ∷ xs) less up = (
   above_none p x xs less up.1,
 )
 
-module _ (x y : Step) (xs ys : List Step) (first : AllByRecursion (λ path. slice_cmp nat_cmp x.path path ≡ Less) (map path_of xs))
-    (up : AllByRecursion (λ z. is_before z y ≡ false) ys) (same : SameCounts (x ∷ xs) (y ∷ ys)) where
+module _ (x y : Step) (xs ys : List Step) (first : AllByRecursion (λ path. slice_cmp nat_cmp x.path path ≡ Less) (map path_of_step xs))
+    (up : AllByRecursion (λ z. is_before_by_path z y ≡ false) ys) (same : SameCounts (x ∷ xs) (y ∷ ys)) where
   is_itself : has_path x.path x ≡ true
   is_itself = nat_list_eq_equiv.refl x.path
 
@@ -194,15 +194,15 @@ module _ (x y : Step) (xs ys : List Step) (first : AllByRecursion (λ path. slic
     tails : SameCounts xs ys
     tails p = omega (arith, same p, count_by-cons p x xs, count_by-cons p y ys, alike p)
 
-    head_lines : step_line x ≡ step_line y
-    head_lines = (bytes_eq-Decides (step_line x) (step_line y)).0 (counted (bytes_eq (step_line x) (step_line y)) refl)
+    head_lines : line_of_step x ≡ line_of_step y
+    head_lines = (bytes_eq-Decides (line_of_step x) (line_of_step y)).0 (counted (bytes_eq (line_of_step x) (line_of_step y)) refl)
       where
-        counted : (b : Bool) → bytes_eq (step_line x) (step_line y) ≡ b → bytes_eq (step_line x) (step_line y) ≡ true
+        counted : (b : Bool) → bytes_eq (line_of_step x) (line_of_step y) ≡ b → bytes_eq (line_of_step x) (line_of_step y) ≡ true
         counted true e = e
         counted false e =
-            absurd (let a : cond {A = ℕ} (bytes_eq (step_line x) (step_line x)) 1 0 ≡ cond (bytes_eq (step_line x) (step_line y)) 1 0 = alike (λ s. bytes_eq (step_line x) (step_line s)) in
-            let one : cond {A = ℕ} (bytes_eq (step_line x) (step_line x)) 1 0 ≡ 1 = ap (λ b. cond b 1 0) (nat_list_eq_equiv.refl (step_line x)) in
-            let zero : cond {A = ℕ} (bytes_eq (step_line x) (step_line y)) 1 0 ≡ 0 = ap (λ b. cond b 1 0) e in
+            absurd (let a : cond {A = ℕ} (bytes_eq (line_of_step x) (line_of_step x)) 1 0 ≡ cond (bytes_eq (line_of_step x) (line_of_step y)) 1 0 = alike (λ s. bytes_eq (line_of_step x) (line_of_step s)) in
+            let one : cond {A = ℕ} (bytes_eq (line_of_step x) (line_of_step x)) 1 0 ≡ 1 = ap (λ b. cond b 1 0) (nat_list_eq_equiv.refl (line_of_step x)) in
+            let zero : cond {A = ℕ} (bytes_eq (line_of_step x) (line_of_step y)) 1 0 ≡ 0 = ap (λ b. cond b 1 0) e in
             omega (arith, a, one, zero))
 
   one_path : bytes_eq x.path y.path ≡ true
@@ -213,7 +213,7 @@ module _ (x y : Step) (xs ys : List Step) (first : AllByRecursion (λ path. slic
       go Equal e = sym (is_eq-slice_cmp x.path y.path) ∙ ap is_eq e
       go Greater e = absurd (no_greater e)
 
-same_lines : (xs ys : List Step) → Ascends xs → IsUp ys → SameCounts xs ys → flat_map step_line xs ≡ flat_map step_line ys
+same_lines : (xs ys : List Step) → IsStrictlySortedByPath xs → IsUp ys → SameCounts xs ys → flat_map line_of_step xs ≡ flat_map line_of_step ys
 unfolding IsStrictlySortedBy
 same_lines [] [] ascends up same = refl
 same_lines [] (y ∷ ys) ascends up same = absurd (omega (arith, same (λ _. true), count_by-cons (λ _. true) y ys))
@@ -221,10 +221,10 @@ same_lines (x ∷ xs) [] ascends up same = absurd (omega (arith, same (λ _. tru
 same_lines (x ∷ xs) (y ∷ ys) ascends up same =
     let equal = one_path x y xs ys ascends.0 up.0 same in
     let rest = same_lines xs ys ascends.1 up.1 (tails x y xs ys ascends.0 up.0 same equal) in
-    flat_map-cons step_line x xs ∙ ap (λ (l : List ℕ). l ++ flat_map step_line xs) (head_lines x y xs ys ascends.0 up.0 same equal)
-    ∙ ap (λ (l : List ℕ). step_line y ++ l) rest ∙ sym (flat_map-cons step_line y ys)
+    flat_map-cons line_of_step x xs ∙ ap (λ (l : List ℕ). l ++ flat_map line_of_step xs) (head_lines x y xs ys ascends.0 up.0 same equal)
+    ∙ ap (λ (l : List ℕ). line_of_step y ++ l) rest ∙ sym (flat_map-cons line_of_step y ys)
 
-pub lines-by_path : (steps made : List Step) → IsPermutation steps made → Ascends made → flat_map step_line made ≡ flat_map step_line (by_path steps)
+pub lines-by_path : (steps made : List Step) → IsPermutation steps made → IsStrictlySortedByPath made → flat_map line_of_step made ≡ flat_map line_of_step (sort_steps_by_path steps)
 lines-by_path steps made moved ascends =
-    same_lines made (by_path steps) ascends (IsUp-by_path steps)
+    same_lines made (sort_steps_by_path steps) ascends (IsUp-by_path steps)
     (λ p. sum_by-IsPermutation (λ s. cond (p s) 1 0) steps made moved ∙ sym (count_by-by_path p steps))

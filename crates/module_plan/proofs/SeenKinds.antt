@@ -9,20 +9,20 @@ use Rattle.std.specs.Ordering.{nat_cmp, is_eq, match_ordering}
 use Rattle.std.specs.declared.cmp.Ordering.{Ordering}
 use Rattle.std.specs.declared.cmp.Ordering.TheVariants.{Less, Equal, Greater}
 use Rattle.std.proofs.lemmas.Map.Lookups.{exact_bytes}
-use Rattle.worktree_fs.specs.Answers.{kind_of}
+use Rattle.worktree_fs.specs.Answers.{kind_of_lookup}
 use Rattle.worktree_fs.specs.Tree.{Names, look}
 use Rattle.worktree_fs.specs.declared.answers.NodeKind.{NodeKind}
-use Rattle.module_plan.specs.Ways.{AreSeen}
+use Rattle.module_plan.specs.Ways.{AreRecordedKindsRight}
 
 abbrev by_bytes : List ℕ → List ℕ → Ordering
 by_bytes = slice_cmp nat_cmp
 
 abbrev kind_at : Names → List ℕ → Option NodeKind
-kind_at t path = kind_of (look t path false)
+kind_at t path = kind_of_lookup (look t path false)
 
 -- they are of these kinds in a tree
 abbrev Are : Names → List (List ℕ × Option NodeKind) → Type 0
-Are t seen = AllByRecursion (λ (one : List ℕ × Option NodeKind). one.1 ≡ kind_of (look t one.0 false)) seen
+Are t seen = AllByRecursion (λ (one : List ℕ × Option NodeKind). one.1 ≡ kind_of_lookup (look t one.0 false)) seen
 
 found : (t : Names) (path : List ℕ) (seen : List (List ℕ × Option NodeKind)) (kind : Option NodeKind) → Are t seen
     → lookup (λ other. is_eq (by_bytes path other)) seen ≡ Some kind → kind ≡ kind_at t path
@@ -46,12 +46,12 @@ more t path kind (other ∷ seen) are is = go (by_bytes path other.0) refl (more
     go Greater k later = (are.0, later)
 
 -- what is found at a path is the kind of the node that stands there
-pub found_seen : (t : Names) (path : List ℕ) (seen : List (List ℕ × Option NodeKind)) (kind : Option (Option NodeKind)) → AreSeen (Some t) seen
-    → kind ≡ lookup (λ other. is_eq (by_bytes path other)) seen → IfSome kind (λ k. k ≡ kind_of (look t path false))
+pub found_seen : (t : Names) (path : List ℕ) (seen : List (List ℕ × Option NodeKind)) (kind : Option (Option NodeKind)) → AreRecordedKindsRight (Some t) seen
+    → kind ≡ lookup (λ other. is_eq (by_bytes path other)) seen → IfSome kind (λ k. k ≡ kind_of_lookup (look t path false))
 found_seen t path seen None are e = tt
 found_seen t path seen (Some kind) are e = found t path seen kind (are t refl) (sym e)
 
 -- one more
-pub seen_more : (told : Option Names) (path : List ℕ) (kind : Option NodeKind) (seen now : List (List ℕ × Option NodeKind)) → AreSeen told seen
-    → ((t : Names) → told ≡ Some t → kind ≡ kind_of (look t path false)) → now ≡ insert_entry by_bytes seen path kind → AreSeen told now
-seen_more told path kind seen now are is e = subst (AreSeen told) (sym e) (λ t tells. more t path kind seen (are t tells) (is t tells))
+pub seen_more : (told : Option Names) (path : List ℕ) (kind : Option NodeKind) (seen now : List (List ℕ × Option NodeKind)) → AreRecordedKindsRight told seen
+    → ((t : Names) → told ≡ Some t → kind ≡ kind_of_lookup (look t path false)) → now ≡ insert_entry by_bytes seen path kind → AreRecordedKindsRight told now
+seen_more told path kind seen now are is e = subst (AreRecordedKindsRight told) (sym e) (λ t tells. more t path kind seen (are t tells) (is t tells))

@@ -5,7 +5,7 @@ use Rattle.module_plan.specs.declared.wanted.Stop.{Stop}
 use Rattle.module_plan.specs.declared.wanted.Stop.TheVariants as stops
 
 -- an answer is the given one; want of memory is free
-abbrev pub Gives : {T : Type 0} → Result T Stop → Result T Why → Type 0
-Gives (Ok answer) given = given ≡ Ok answer
-Gives (Err (stops.LeaveOut why)) given = given ≡ Err why
-Gives (Err stops.OutOfMemory) given = Unit {0}
+abbrev pub IsResultUnlessMemory : {T : Type 0} → Result T Stop → Result T Why → Type 0
+IsResultUnlessMemory (Ok answer) given = given ≡ Ok answer
+IsResultUnlessMemory (Err (stops.LeaveOut why)) given = given ≡ Err why
+IsResultUnlessMemory (Err stops.OutOfMemory) given = Unit {0}

@@ -16,5 +16,5 @@ mod way;
 
 pub use error::ModuleError;
 pub use planned::plan;
-pub use program::{planned_text, run_modules};
+pub use program::{plan_text_by_setup, run_modules};
 pub use step::{ModulePlan, Skipped, Step, StepKind, Why};

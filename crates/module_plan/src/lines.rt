@@ -1,15 +1,15 @@
 //! The lines of a plan.
 ghost use Rattle.std.specs.Prelude.{◌≡◌, ◌++◌, IfOk, OnOk};
 ghost use Rattle.std.specs.List.{flat_map};
-ghost use Rattle.module_plan.specs.Lines.{kind_word, column, name_column, command_part, step_line, why_word, skipped_line, plan_text};
+ghost use Rattle.module_plan.specs.Lines.{word_of_step_kind, tab_and_escaped_bytes, tab_and_escaped_name, command_column_if_any, line_of_step, word_of_skip_reason, line_of_skipped, text_of_plan};
 
 use crate::step::{ModulePlan, Skipped, Step, StepKind, Why};
 use gitbase_core::{Bytes, OutOfMemory};
 use std::alloc::Global;
-use worktree_report::{add_escaped, add_escaped_in_word};
+use worktree_report::{append_path_escaped, append_path_escaped_in_word};
 
-fn kind_word(kind: &StepKind) -> &'static [u8]
-    ensures { result.now ≡ kind_word kind.now }
+fn word_of_step_kind(kind: &StepKind) -> &'static [u8]
+    ensures { result.now ≡ word_of_step_kind kind.now }
 {
     match kind {
         StepKind::Checkout => b"checkout",
@@ -20,27 +20,27 @@ fn kind_word(kind: &StepKind) -> &'static [u8]
 }
 
 /// Adds a tab and a path or a command.
-fn add_column(text: &mut Vec<u8>, bytes: &[u8]) -> Result<(), OutOfMemory>
-    ensures { OnOk result (text.new.items ≡ text.old.items ++ column bytes.now) }
+fn append_tab_and_escaped_bytes(text: &mut Vec<u8>, bytes: &[u8]) -> Result<(), OutOfMemory>
+    ensures { OnOk result (text.new.items ≡ text.old.items ++ tab_and_escaped_bytes bytes.now) }
 {
     text.push(b'\t')?;
-    add_escaped(text, bytes)
+    append_path_escaped(text, bytes)
 }
 
 /// Adds a tab and a name, in which a space is escaped too.
-fn add_name_column(text: &mut Vec<u8>, name: &[u8]) -> Result<(), OutOfMemory>
-    ensures { OnOk result (text.new.items ≡ text.old.items ++ name_column name.now) }
+fn append_tab_and_escaped_name(text: &mut Vec<u8>, name: &[u8]) -> Result<(), OutOfMemory>
+    ensures { OnOk result (text.new.items ≡ text.old.items ++ tab_and_escaped_name name.now) }
 {
     text.push(b'\t')?;
-    add_escaped_in_word(text, name)
+    append_path_escaped_in_word(text, name)
 }
 
 /// Adds the command, where one is to be run.
-fn add_command(text: &mut Vec<u8>, kind: &StepKind) -> Result<(), OutOfMemory>
-    ensures { OnOk result (text.new.items ≡ text.old.items ++ command_part kind.now) }
+fn append_command_if_any(text: &mut Vec<u8>, kind: &StepKind) -> Result<(), OutOfMemory>
+    ensures { OnOk result (text.new.items ≡ text.old.items ++ command_column_if_any kind.now) }
 {
     match kind {
-        StepKind::Command(command) => add_column(text, command.as_bytes()),
+        StepKind::Command(command) => append_tab_and_escaped_bytes(text, command.as_bytes()),
         StepKind::Checkout => Ok(()),
         StepKind::Rebase => Ok(()),
         StepKind::Merge => Ok(()),
@@ -48,30 +48,30 @@ fn add_command(text: &mut Vec<u8>, kind: &StepKind) -> Result<(), OutOfMemory>
 }
 
 /// Adds the line of a step.
-#[tactic(auto, unfolding(crate::specs::Lines::step_line))]
-fn add_step(text: &mut Vec<u8>, step: &Step) -> Result<(), OutOfMemory>
-    ensures { OnOk result (text.new.items ≡ text.old.items ++ step_line step.now) }
+#[tactic(auto, unfolding(crate::specs::Lines::line_of_step))]
+fn append_step_line(text: &mut Vec<u8>, step: &Step) -> Result<(), OutOfMemory>
+    ensures { OnOk result (text.new.items ≡ text.old.items ++ line_of_step step.now) }
 {
-    text.extend_from_slice(kind_word(&step.kind))?;
-    add_column(text, step.path.as_bytes())?;
-    add_name_column(text, step.name.as_bytes())?;
-    add_command(text, &step.kind)?;
+    text.extend_from_slice(word_of_step_kind(&step.kind))?;
+    append_tab_and_escaped_bytes(text, step.path.as_bytes())?;
+    append_tab_and_escaped_name(text, step.name.as_bytes())?;
+    append_command_if_any(text, &step.kind)?;
     text.push(b'\n')?;
     Ok(())
 }
 
 /// Adds the lines of steps, in their order.
-fn add_steps(text: &mut Vec<u8>, steps: &[Step]) -> Result<(), OutOfMemory>
-    ensures { OnOk result (text.new.items ≡ text.old.items ++ flat_map step_line steps.now) }
+fn append_step_lines(text: &mut Vec<u8>, steps: &[Step]) -> Result<(), OutOfMemory>
+    ensures { OnOk result (text.new.items ≡ text.old.items ++ flat_map line_of_step steps.now) }
 {
     for step in steps {
-        add_step(text, step)?;
+        append_step_line(text, step)?;
     }
     Ok(())
 }
 
-fn why_word(why: Why) -> &'static [u8]
-    ensures { result.now ≡ why_word why }
+fn word_of_skip_reason(why: Why) -> &'static [u8]
+    ensures { result.now ≡ word_of_skip_reason why }
 {
     match why {
         Why::BadActive => b"bad-active",
@@ -90,36 +90,36 @@ fn why_word(why: Why) -> &'static [u8]
 }
 
 /// Adds the line of a submodule that is left out.
-#[tactic(auto, unfolding(crate::specs::Lines::skipped_line))]
-fn add_skipped(text: &mut Vec<u8>, one: &Skipped) -> Result<(), OutOfMemory>
-    ensures { OnOk result (text.new.items ≡ text.old.items ++ skipped_line one.now) }
+#[tactic(auto, unfolding(crate::specs::Lines::line_of_skipped))]
+fn append_skipped_line(text: &mut Vec<u8>, one: &Skipped) -> Result<(), OutOfMemory>
+    ensures { OnOk result (text.new.items ≡ text.old.items ++ line_of_skipped one.now) }
 {
     text.extend_from_slice(b"skip ")?;
-    text.extend_from_slice(why_word(one.why))?;
-    add_name_column(text, one.name.as_bytes())?;
+    text.extend_from_slice(word_of_skip_reason(one.why))?;
+    append_tab_and_escaped_name(text, one.name.as_bytes())?;
     text.push(b'\n')?;
     Ok(())
 }
 
 /// Adds the lines of what is left out, in its order.
-fn add_all_skipped(text: &mut Vec<u8>, skipped: &[Skipped]) -> Result<(), OutOfMemory>
+fn append_skipped_lines(text: &mut Vec<u8>, skipped: &[Skipped]) -> Result<(), OutOfMemory>
     ensures { OnOk result (text.new.items
-        ≡ text.old.items ++ flat_map skipped_line skipped.now) }
+        ≡ text.old.items ++ flat_map line_of_skipped skipped.now) }
 {
     for one in skipped {
-        add_skipped(text, one)?;
+        append_skipped_line(text, one)?;
     }
     Ok(())
 }
 
 /// The text of a plan: a line for each step, and behind them one for each submodule that is left
 /// out.
-pub fn plan_bytes(alloc: Global, plan: &ModulePlan) -> Result<Bytes, OutOfMemory>
+pub fn text_of_plan(alloc: Global, plan: &ModulePlan) -> Result<Bytes, OutOfMemory>
     ensures { IfOk result (λ text. text
-        ≡ plan_text plan.now.steps.items plan.now.skipped.items) }
+        ≡ text_of_plan plan.now.steps.items plan.now.skipped.items) }
 {
     let mut text = Vec::new(alloc);
-    add_steps(&mut text, &plan.steps)?;
-    add_all_skipped(&mut text, &plan.skipped)?;
+    append_step_lines(&mut text, &plan.steps)?;
+    append_skipped_lines(&mut text, &plan.skipped)?;
     Ok(Bytes::from_vec(text))
 }

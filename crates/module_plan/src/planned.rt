@@ -1,18 +1,18 @@
 //! The plan of an update.
 ghost use Rattle.std.specs.Prelude.{◌≡◌, ◌≢◌, None, Some, IfOk, IfErr, OnOk, IsPermutation, Result};
 ghost use Rattle.std.specs.List.{IsDistinct};
-ghost use Rattle.worktree_fs.specs.Causes.{Increased};
-ghost use Rattle.worktree_fs.specs.Kept.{Asks};
+ghost use Rattle.worktree_fs.specs.Causes.{CountIncreasedOrSaturated};
+ghost use Rattle.worktree_fs.specs.Kept.{KeepsTreeAndListCounts};
 ghost use Rattle.worktree_fs.specs.Tree.{Names};
-ghost use Rattle.submodule.specs.Active.{platform};
+ghost use Rattle.submodule.specs.Active.{active_specs_or_error_of_config};
 ghost use Rattle.module_plan.specs.Judged as judged;
 ghost use Rattle.module_plan.specs.Plans as plans;
-ghost use Rattle.module_plan.specs.Wanted.{asked_of};
+ghost use Rattle.module_plan.specs.Wanted.{plan_input_of_configs};
 ghost use Rattle.module_plan.specs.Ways as ways;
 
 use crate::error::ModuleError;
 use crate::inputs::Asking;
-use crate::judge::judge_all;
+use crate::judge::plan_submodules_in_name_order;
 use crate::step::{ModulePlan, Step};
 use git_config_lite as config;
 use gitbase_core::OutOfMemory;
@@ -50,46 +50,48 @@ pub fn plan<W: Worktree>(
     defaults: Defaults,
 ) -> Result<ModulePlan, ModuleError>
     ensures planned { (t : Names) → W.told worktree.old ≡ Some t
-        → IfOk result (plans.IsPlan (plans.verdicts t worktree_root.now
-        (asked_of defaults.ignore_case modules.now config.now))) }
-    ensures possible { IfOk result (plans.IsPlanned (W.told worktree.old) worktree_root.now
-        (asked_of defaults.ignore_case modules.now config.now)) }
-    ensures ascends { IfOk result (λ plan. plans.Ascends plan.steps.items) }
-    ensures safe { IfOk result (plans.AreSafe
-        (asked_of defaults.ignore_case modules.now config.now)) }
+        → IfOk result (plans.IsSortedPlanOfVerdicts (plans.verdicts_on_all_submodules t
+        worktree_root.now (plan_input_of_configs defaults.ignore_case modules.now config.now))) }
+    ensures possible { IfOk result (plans.IsPlanOfPossibleVerdicts (W.told worktree.old)
+        worktree_root.now (plan_input_of_configs defaults.ignore_case modules.now config.now)) }
+    ensures ascends { IfOk result (λ plan. plans.IsStrictlySortedByPath plan.steps.items) }
+    ensures safe { IfOk result (plans.HasOnlySafeSteps
+        (plan_input_of_configs defaults.ignore_case modules.now config.now)) }
     ensures open_way { (t : Names) → W.told worktree.old ≡ Some t
-        → IfOk result (plans.AreOpen t worktree_root.now) }
-    ensures active { OnOk result (plans.refused_value
-        (platform defaults.ignore_case config.now.sections) ≡ None) }
-    ensures refused { IfErr result (plans.Refuses (W.told worktree.old) worktree_root.now
-        (asked_of defaults.ignore_case modules.now config.now)
-        (plans.refused_value (platform defaults.ignore_case config.now.sections))
-        (Increased (W.faults worktree.old) (W.faults worktree.new))) }
-    ensures keeps { Asks W.Worktree worktree.old worktree.new }
-    ensures unfaulted { ways.UnlessFault result (W.faults worktree.new ≡ W.faults worktree.old) }
+        → IfOk result (plans.HasNoObstacles t worktree_root.now) }
+    ensures active { OnOk result (plans.index_of_refused_active_value
+        (active_specs_or_error_of_config defaults.ignore_case config.now.sections) ≡ None) }
+    ensures refused { IfErr result (plans.RefusesPlanWithCause (W.told worktree.old)
+        worktree_root.now (plan_input_of_configs defaults.ignore_case modules.now config.now)
+        (plans.index_of_refused_active_value (active_specs_or_error_of_config defaults.ignore_case
+        config.now.sections)) (CountIncreasedOrSaturated (W.faults worktree.old)
+        (W.faults worktree.new))) }
+    ensures keeps { KeepsTreeAndListCounts W.Worktree worktree.old worktree.new }
+    ensures unfaulted { ways.HoldsUnlessFault result (W.faults worktree.new
+        ≡ W.faults worktree.old) }
     ensures reads { W.reads worktree.new ≡ W.reads worktree.old }
 {
-    let mut platform = platform_of(alloc, modules, config, defaults)?;
+    let mut platform = parse_active_specs_of_config(alloc, modules, config, defaults)?;
     let asking = Asking {
         root: worktree_root,
         modules,
         config,
     };
-    let plan = judge_all(alloc, worktree, &asking, &mut platform)?;
-    Ok(by_path(plan)?)
+    let plan = plan_submodules_in_name_order(alloc, worktree, &asking, &mut platform)?;
+    Ok(sort_steps_by_path(plan)?)
 }
 
 /// What decides which submodules are active.
-fn platform_of(
+fn parse_active_specs_of_config(
     alloc: Global,
     modules: &submodule::File,
     config: &config::File,
     defaults: Defaults,
 ) -> Result<IsActivePlatform, ModuleError>
     ensures platform { IfOk result (λ made.
-        platform defaults.ignore_case config.now.sections ≡ Ok made) }
-    ensures refused { IfErr result (plans.RefusesValue
-        (plans.refused_value (platform defaults.ignore_case config.now.sections))) }
+        active_specs_or_error_of_config defaults.ignore_case config.now.sections ≡ Ok made) }
+    ensures refused { IfErr result (plans.RefusesActiveValue (plans.index_of_refused_active_value
+        (active_specs_or_error_of_config defaults.ignore_case config.now.sections))) }
 {
     match modules.is_active_platform(alloc, config, defaults) {
         Ok(platform) => Ok(platform),
@@ -104,11 +106,11 @@ fn platform_of(
 }
 
 /// The plan with its steps in ascending order of their paths.
-fn by_path(plan: ModulePlan) -> Result<ModulePlan, OutOfMemory>
+fn sort_steps_by_path(plan: ModulePlan) -> Result<ModulePlan, OutOfMemory>
     ensures same { IfOk result (λ sorted. IsPermutation plan.steps.items sorted.steps.items) }
     ensures skipped { IfOk result (λ sorted. sorted.skipped.items ≡ plan.skipped.items) }
     ensures ascends { plans.HaveDistinctPaths plan.steps.items
-        → IfOk result (λ sorted. plans.Ascends sorted.steps.items) }
+        → IfOk result (λ sorted. plans.IsStrictlySortedByPath sorted.steps.items) }
 {
     let ModulePlan { mut steps, skipped } = plan;
     steps.sort_by(|a, b| a.path.as_bytes().cmp(&b.path.as_bytes()))?;

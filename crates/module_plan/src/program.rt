@@ -1,26 +1,26 @@
 //! The top call.
 ghost use Rattle.std.specs.Prelude.{◌≡◌, ◌⊎◌, ◌↔◌, ◌≤◌, ◌+◌, ℕ, List, Some, None, Ok, Err, IfOk, IfErr, OnOk, IsErrOf};
-ghost use Rattle.worktree_fs.specs.Causes.{Increased, NotIncreased};
-ghost use Rattle.worktree_fs.specs.Kept.{Asks};
+ghost use Rattle.worktree_fs.specs.Causes.{CountIncreasedOrSaturated, CountNotIncreased};
+ghost use Rattle.worktree_fs.specs.Kept.{KeepsTreeAndListCounts};
 ghost use Rattle.worktree_fs.specs.Tree.{Names};
 ghost use Rattle.module_plan.specs.Run as top;
-ghost use Rattle.worktree_report.specs.Ends.{Runs};
-ghost use Rattle.worktree_report.specs.Loading.{files_of, modules_in, with_active_platform, AreModules, IsKnown};
-ghost use Rattle.worktree_report.specs.Loads.{LoadsFiles};
-ghost use Rattle.worktree_report.specs.Named.{named_by};
-ghost use Rattle.worktree_report.specs.Outside.{files_to, IsOutside, StopsAt};
-ghost use Rattle.worktree_report.specs.Written.{Appends};
+ghost use Rattle.worktree_report.specs.Ends.{TopCallAnswersAndEnds};
+ghost use Rattle.worktree_report.specs.Loading.{count_files_for_submodules, modules_of_setup_in_tree, known_with_active_platform, AreModulesOfSomeText, IsKnownWithoutMisread};
+ghost use Rattle.worktree_report.specs.Loads.{ReadsFilesAtMost};
+ghost use Rattle.worktree_report.specs.Named.{places_of_borrowed};
+ghost use Rattle.worktree_report.specs.Outside.{count_files_read_to_misread, IsMisreadOfSetup, StopsAtUnreadFile};
+ghost use Rattle.worktree_report.specs.Written.{AppendsWholeBytes};
 ghost use Rattle.worktree_report.specs.declared.refusal.Misread.{Misread as Place};
 
 use crate::error::ModuleError;
-use crate::lines::plan_bytes;
+use crate::lines::text_of_plan;
 use crate::planned::plan;
 use gitbase_core::Bytes;
 use glob_rules::pathspec::Defaults;
 use std::alloc::Global;
 use worktree_fs::{Interrupt, Sink, Worktree};
 use worktree_report::{
-    Misread, Modules, Places, Refusal, Setup, load_modules, places_behind, read_setup,
+    Misread, Modules, Places, Refusal, Setup, load_modules, parse_places_of_command, read_setup,
     refusal_of_report_error, write_answer,
 };
 
@@ -45,27 +45,30 @@ impl From<ModuleError> for Refusal {
 }
 
 /// What a work tree and the configurations of a setup tell of submodules.
-fn modules_of<W: Worktree>(
+fn load_modules_or_refuse<W: Worktree>(
     alloc: Global,
     worktree: &mut W,
     root: &[u8],
     setup: &Setup,
 ) -> Result<Modules, Refusal>
     ensures gives { (t : Names) → W.told worktree.old ≡ Some t
-        → IfOk result (λ modules. modules_in t root.now setup.now ≡ Ok modules) }
-    ensures text { IfOk result (AreModules root.now) }
+        → IfOk result (λ modules. modules_of_setup_in_tree t root.now setup.now ≡ Ok modules) }
+    ensures text { IfOk result (AreModulesOfSomeText root.now) }
     ensures misread { (t : Names) → W.told worktree.old ≡ Some t → (which : Place)
-        → IsErrOf result (Refusal.Misread which) → modules_in t root.now setup.now ≡ Err which }
+        → IsErrOf result (Refusal.Misread which) → modules_of_setup_in_tree t root.now setup.now
+        ≡ Err which }
     ensures outside { (which : Place) → IsErrOf result (Refusal.Misread which)
-        → IsOutside root.now setup.now which }
+        → IsMisreadOfSetup root.now setup.now which }
     ensures misread_reads { (which : Place) → IsErrOf result (Refusal.Misread which)
-        → W.reads worktree.new ≤ W.reads worktree.old + files_to setup.now which }
-    ensures refused { IfErr result (top.IsOfPlanning (Increased (W.faults worktree.old)
-        (W.faults worktree.new))) }
+        → W.reads worktree.new ≤ W.reads worktree.old + count_files_read_to_misread setup.now
+        which }
+    ensures refused { IfErr result (top.MayComeFromPlanning (CountIncreasedOrSaturated
+        (W.faults worktree.old) (W.faults worktree.new))) }
     ensures stops { (t : Names) → W.told worktree.old ≡ Some t → IsErrOf result Refusal.Fault
-        → StopsAt t setup.now (W.reads worktree.old) (W.reads worktree.new) }
+        → StopsAtUnreadFile t setup.now (W.reads worktree.old) (W.reads worktree.new) }
     ensures unfaulted { OnOk result (W.faults worktree.new ≡ W.faults worktree.old) }
-    ensures loads { LoadsFiles W.Worktree worktree.old worktree.new (files_of setup.now) }
+    ensures loads { ReadsFilesAtMost W.Worktree worktree.old worktree.new
+        (count_files_for_submodules setup.now) }
 {
     match load_modules(alloc, worktree, root, setup) {
         Ok(modules) => Ok(modules),
@@ -74,7 +77,7 @@ fn modules_of<W: Worktree>(
 }
 
 /// The text of the plan that files ask for.
-fn text_of_modules<W: Worktree>(
+fn plan_text_of_modules<W: Worktree>(
     alloc: Global,
     worktree: &mut W,
     root: &[u8],
@@ -82,18 +85,18 @@ fn text_of_modules<W: Worktree>(
     modules: &Modules,
 ) -> Result<Bytes, Refusal>
     ensures gives { (t : Names) → W.told worktree.old ≡ Some t → IfOk result
-        (λ text. top.text_of_modules t root.now ignore_case modules.now ≡ Some text) }
+        (λ text. top.plan_text_of_modules t root.now ignore_case modules.now ≡ Some text) }
     ensures safe { (t : Names) → W.told worktree.old ≡ Some t
-        → OnOk result (top.IsSafePlanOf t root.now ignore_case modules.now) }
-    ensures orderly { IfOk result (λ text. AreModules root.now modules.now
-        → top.IsPlanText (W.told worktree.old) root.now ignore_case text) }
+        → OnOk result (top.HasSafeUnobstructedPlan t root.now ignore_case modules.now) }
+    ensures orderly { IfOk result (λ text. AreModulesOfSomeText root.now modules.now
+        → top.IsTextOfSafePlan (W.told worktree.old) root.now ignore_case text) }
     ensures misread { (which : Place) → IsErrOf result (Refusal.Misread which)
-        → with_active_platform ignore_case modules.now ≡ Err which }
-    ensures refused { IfErr result (top.IsOfPlanning (Increased (W.faults worktree.old)
-        (W.faults worktree.new))) }
-    ensures late { IsErrOf result Refusal.Fault → IsKnown (with_active_platform ignore_case
-        modules.now) }
-    ensures keeps { Asks W.Worktree worktree.old worktree.new }
+        → known_with_active_platform ignore_case modules.now ≡ Err which }
+    ensures refused { IfErr result (top.MayComeFromPlanning (CountIncreasedOrSaturated
+        (W.faults worktree.old) (W.faults worktree.new))) }
+    ensures late { IsErrOf result Refusal.Fault → IsKnownWithoutMisread (known_with_active_platform
+        ignore_case modules.now) }
+    ensures keeps { KeepsTreeAndListCounts W.Worktree worktree.old worktree.new }
     ensures reads { W.reads worktree.new ≡ W.reads worktree.old }
     ensures unfaulted { OnOk result (W.faults worktree.new ≡ W.faults worktree.old) }
 {
@@ -106,7 +109,7 @@ fn text_of_modules<W: Worktree>(
         &modules.config,
         defaults,
     ) {
-        Ok(plan) => Ok(plan_bytes(alloc, &plan)?),
+        Ok(plan) => Ok(text_of_plan(alloc, &plan)?),
         Err(error) => Err(Refusal::from(error)),
     }
 }
@@ -118,41 +121,42 @@ fn text_of_modules<W: Worktree>(
 /// - `Misread` names what tells of submodules and is outside its grammar.
 /// - `Fault`: the worktree failed, and counted it.
 /// - `OutOfMemory`: memory was refused.
-pub fn planned_text<W: Worktree>(
+pub fn plan_text_by_setup<W: Worktree>(
     alloc: Global,
     worktree: &mut W,
     root: &[u8],
     setup: &Setup,
 ) -> Result<Bytes, Refusal>
-    ensures { top.PlansText W.Worktree worktree.old worktree.new root.now setup.now result }
+    ensures { top.MakesPlanText W.Worktree worktree.old worktree.new root.now setup.now result }
 {
-    let modules = modules_of(alloc, worktree, root, setup)?;
-    text_of_modules(alloc, worktree, root, setup.options.ignore_case, &modules)
+    let modules = load_modules_or_refuse(alloc, worktree, root, setup)?;
+    plan_text_of_modules(alloc, worktree, root, setup.options.ignore_case, &modules)
 }
 
 /// The text of the plan at some places.
-fn text_at<W: Worktree>(
+fn read_setup_and_make_plan_text<W: Worktree>(
     alloc: Global,
     places: Places<'_>,
     worktree: &mut W,
 ) -> Result<Bytes, Refusal>
-    ensures { top.AnswersPlan W.Worktree worktree.old worktree.new (named_by places.entry) result }
+    ensures { top.AnswersPlanAtPlaces W.Worktree worktree.old worktree.new
+        (places_of_borrowed places.entry) result }
 {
     let setup = read_setup(alloc, worktree, places.setup)?;
-    planned_text(alloc, worktree, places.root, &setup)
+    plan_text_by_setup(alloc, worktree, places.root, &setup)
 }
 
 /// The text that the words ask for, or why there is none.
-fn text_asked<W: Worktree>(
+fn modules_plan_text_for_words<W: Worktree>(
     alloc: Global,
     words: &[Bytes],
     worktree: &mut W,
 ) -> Result<Bytes, Refusal>
-    ensures { top.AnswersAsked W.Worktree worktree.old worktree.new
-        (top.asked (W.precomposes worktree.old) words.now) result }
+    ensures { top.AnswersPlanCommand W.Worktree worktree.old worktree.new
+        (top.root_and_setup_of_modules_command (W.precomposes worktree.old) words.now) result }
 {
-    match places_behind(b"modules", worktree.precomposes(), words) {
-        Some(places) => text_at(alloc, places, worktree),
+    match parse_places_of_command(b"modules", worktree.precomposes(), words) {
+        Some(places) => read_setup_and_make_plan_text(alloc, places, worktree),
         None => Err(Refusal::Usage),
     }
 }
@@ -189,28 +193,30 @@ pub fn run_modules<W: Worktree, I: Interrupt, S: Sink, E: Sink>(
 ) -> u8
     // What the words ask for came to an answer: a text, or a refusal with its cause. The status, `out` and `err` are as that answer
     // has it, and what stays is said of each.
-    ensures runs { Runs S.Sink E.Sink out.old out.new err.old err.new top.usage
-        (top.Answers W.Worktree I.Interrupt worktree.old worktree.new interrupt.old interrupt.new
-        (top.asked (W.precomposes worktree.old) words.now)) result }
+    ensures runs { TopCallAnswersAndEnds S.Sink E.Sink out.old out.new err.old err.new top.usage
+        (top.AnswersPlanWithoutInterrupt W.Worktree I.Interrupt worktree.old worktree.new
+        interrupt.old interrupt.new (top.root_and_setup_of_modules_command
+        (W.precomposes worktree.old) words.now)) result }
 
     // Status 0: no fault was counted.
     ensures unfaulted { result ≡ 0 → W.faults worktree.new ≡ W.faults worktree.old }
 
     // Status 0, over a told tree: what `out` has is what it had, and the lines of the plan.
-    ensures plan { (t : Names) → W.told worktree.old ≡ Some t → result ≡ 0
-        → (text : List ℕ) × (top.output_of (W.precomposes worktree.old) t words.now ≡ Some text)
-        × Appends (S.written out.old) (S.written out.new) text }
+    ensures plan { (t : Names) → W.told worktree.old ≡ Some t → result ≡ 0 → (text : List ℕ)
+        × (top.modules_plan_text_for_words (W.precomposes worktree.old) t words.now ≡ Some text)
+        × AppendsWholeBytes (S.written out.old) (S.written out.new) text }
 
     // Status 2 exactly where the words ask for nothing.
-    ensures usage { (result ≡ 2) ↔ (top.asked (W.precomposes worktree.old) words.now ≡ None) }
+    ensures usage { (result ≡ 2) ↔ (top.root_and_setup_of_modules_command
+        (W.precomposes worktree.old) words.now ≡ None) }
 
     // Valid input, over a told tree and with nothing counted.
-    ensures complete { (t : Names) → W.told worktree.old ≡ Some t
-        → top.IsValid (W.precomposes worktree.old) t words.now
-        → NotIncreased (W.faults worktree.old) (W.faults worktree.new)
-        → NotIncreased (I.raised interrupt.old) (I.raised interrupt.new)
-        → NotIncreased (S.refusals out.old) (S.refusals out.new) → (result ≡ 0) ⊎ (result ≡ 8) }
+    ensures complete { (t : Names) → W.told worktree.old ≡ Some t → top.AreWordsValidInTree
+        (W.precomposes worktree.old) t words.now → CountNotIncreased (W.faults worktree.old)
+        (W.faults worktree.new) → CountNotIncreased (I.raised interrupt.old)
+        (I.raised interrupt.new) → CountNotIncreased (S.refusals out.old) (S.refusals out.new)
+        → (result ≡ 0) ⊎ (result ≡ 8) }
 {
-    let answer = text_asked(alloc, words, worktree);
+    let answer = modules_plan_text_for_words(alloc, words, worktree);
     write_answer(alloc, USAGE, answer, out, err)
 }

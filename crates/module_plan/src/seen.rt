@@ -1,8 +1,8 @@
 //! The nodes that were looked at.
 ghost use Rattle.std.specs.Prelude.{◌≡◌, false, [], Option, Some, OnOk, IfSome};
-ghost use Rattle.worktree_fs.specs.Answers.{kind_of};
+ghost use Rattle.worktree_fs.specs.Answers.{kind_of_lookup};
 ghost use Rattle.worktree_fs.specs.Tree.{Names, look};
-ghost use Rattle.module_plan.specs.Ways.{AreSeen};
+ghost use Rattle.module_plan.specs.Ways.{AreRecordedKindsRight};
 
 use gitbase_core::{OutOfMemory, PathText};
 use std::alloc::Global;
@@ -38,9 +38,9 @@ impl Seen {
     }
 
     /// The kind of the node at a whole path, if it was looked at.
-    pub(crate) fn kind_at(&self, full: &PathText) -> Option<Option<NodeKind>>
-        ensures { (t : Names) → AreSeen (Some t) self.now
-            → IfSome result (λ kind. kind ≡ kind_of (look t full.now false)) }
+    pub(crate) fn recorded_kind_at_path(&self, full: &PathText) -> Option<Option<NodeKind>>
+        ensures { (t : Names) → AreRecordedKindsRight (Some t) self.now
+            → IfSome result (λ kind. kind ≡ kind_of_lookup (look t full.now false)) }
     {
         self.kinds.get(full).copied()
     }
@@ -52,9 +52,9 @@ impl Seen {
         full: &PathText,
         kind: Option<NodeKind>,
     ) -> Result<(), OutOfMemory>
-        ensures { (told : Option Names) → AreSeen told self.old
-            → ((t : Names) → told ≡ Some t → kind ≡ kind_of (look t full.now false))
-            → OnOk result (AreSeen told self.new) }
+        ensures { (told : Option Names) → AreRecordedKindsRight told self.old
+            → ((t : Names) → told ≡ Some t → kind ≡ kind_of_lookup (look t full.now false))
+            → OnOk result (AreRecordedKindsRight told self.new) }
     {
         let full = PathText::from_bytes(alloc, full.as_bytes())?;
         self.kinds.insert(full, kind)?;

@@ -2,16 +2,16 @@
 ghost use Rattle.std.specs.Prelude.{◌≡◌, Some, Ok, IfOk, is_err};
 ghost use Rattle.std.specs.List.{list_any};
 ghost use Rattle.gitbase_core.specs.Path.{components};
-ghost use Rattle.gitbase_core.specs.Text.{is_dot_git};
+ghost use Rattle.gitbase_core.specs.Text.{is_dot_git_ignoring_case};
 ghost use Rattle.submodule.specs.Access as access;
 ghost use Rattle.submodule.specs.Active as active;
 ghost use Rattle.module_plan.specs.Wanted as wanted;
-ghost use Rattle.module_plan.specs.Gives.{Gives};
+ghost use Rattle.module_plan.specs.Gives.{IsResultUnlessMemory};
 
 use crate::inputs::Asking;
 use crate::step::{StepKind, Why};
 use git_config_lite as config;
-use gitbase_core::{OutOfMemory, PathText, is_dot_git};
+use gitbase_core::{OutOfMemory, PathText, is_dot_git_ignoring_case};
 use std::alloc::Global;
 use submodule::{IsActivePlatform, Update, path, update, url};
 
@@ -46,31 +46,35 @@ impl From<OutOfMemory> for Stop {
 /// See docs/DIFFERENCES.md#modules-without-index.
 /// See docs/DIFFERENCES.md#modules-up-to-date.
 /// See docs/DIFFERENCES.md#modules-just-cloned.
-pub(crate) fn wanted_step(
+pub(crate) fn step_wanted_by_submodule(
     alloc: Global,
     asking: &Asking<'_>,
     platform: &mut IsActivePlatform,
     name: &[u8],
 ) -> Result<Wanted, Stop>
-    ensures wanted { Gives result (wanted.wanted
-        (wanted.asked_by asking.now platform.old) name.now) }
+    ensures wanted { IsResultUnlessMemory result (wanted.step_wanted_by_submodule
+        (wanted.plan_input_of_asking asking.now platform.old) name.now) }
     ensures same { platform.new ≡ platform.old }
 {
-    if let Some(why) = why_inactive(asking.config, platform, name) {
+    if let Some(why) = reason_if_inactive(asking.config, platform, name) {
         return Err(Stop::LeaveOut(why));
     }
-    let path = path_of(alloc, asking.modules, name)?;
-    let kind = kind_of(alloc, asking.modules, name)?;
-    if lacks_url(alloc, asking.modules, name)? {
+    let path = checked_path_of_submodule(alloc, asking.modules, name)?;
+    let kind = step_kind_of_submodule(alloc, asking.modules, name)?;
+    if lacks_valid_url(alloc, asking.modules, name)? {
         return Err(Stop::LeaveOut(Why::BadUrl));
     }
     Ok(Wanted { path, kind })
 }
 
 /// Why a submodule is not active, if it is not.
-fn why_inactive(config: &config::File, platform: &mut IsActivePlatform, name: &[u8]) -> Option<Why>
+fn reason_if_inactive(
+    config: &config::File,
+    platform: &mut IsActivePlatform,
+    name: &[u8],
+) -> Option<Why>
     ensures why { result
-        ≡ wanted.why_inactive (active.is_active platform.old config.now.sections name.now) }
+        ≡ wanted.reason_if_inactive (active.is_active platform.old config.now.sections name.now) }
     ensures same { platform.new ≡ platform.old }
 {
     match platform.is_active(config, name) {
@@ -81,12 +85,16 @@ fn why_inactive(config: &config::File, platform: &mut IsActivePlatform, name: &[
 }
 
 /// Where a submodule stands.
-fn path_of(alloc: Global, modules: &submodule::File, name: &[u8]) -> Result<PathText, Stop>
-    ensures { Gives result (wanted.submodule_path_or_why (access.path name.now
+fn checked_path_of_submodule(
+    alloc: Global,
+    modules: &submodule::File,
+    name: &[u8],
+) -> Result<PathText, Stop>
+    ensures { IsResultUnlessMemory result (wanted.submodule_path_or_why (access.path name.now
         modules.now.sections)) }
 {
     match modules.path(alloc, name) {
-        Ok(path) => place_of(alloc, path),
+        Ok(path) => require_safe_submodule_path(alloc, path),
         Err(path::Error::Missing { .. }) => Err(Stop::LeaveOut(Why::BadPath)),
         Err(path::Error::Absolute { .. }) => Err(Stop::LeaveOut(Why::BadPath)),
         Err(path::Error::OutsideOfWorktree { .. }) => Err(Stop::LeaveOut(Why::BadPath)),
@@ -95,8 +103,8 @@ fn path_of(alloc: Global, modules: &submodule::File, name: &[u8]) -> Result<Path
 }
 
 /// Where a path leads, if a submodule may stand there.
-fn place_of(alloc: Global, path: &[u8]) -> Result<PathText, Stop>
-    ensures { Gives result (wanted.submodule_path_or_why (Ok path.now)) }
+fn require_safe_submodule_path(alloc: Global, path: &[u8]) -> Result<PathText, Stop>
+    ensures { IsResultUnlessMemory result (wanted.submodule_path_or_why (Ok path.now)) }
 {
     let Some(path) = PathText::from_bytes(alloc, path)?.normalize(alloc)? else {
         return Err(Stop::LeaveOut(Why::BadPath));
@@ -104,18 +112,18 @@ fn place_of(alloc: Global, path: &[u8]) -> Result<PathText, Stop>
     if path.as_bytes().is_empty() {
         return Err(Stop::LeaveOut(Why::Root));
     }
-    if has_dot_git(&path) {
+    if has_dot_git_component(&path) {
         return Err(Stop::LeaveOut(Why::DotGit));
     }
     Ok(path)
 }
 
 /// Whether a component of a path is `.git`, whatever the case of the letters.
-fn has_dot_git(path: &PathText) -> bool
-    ensures { result ≡ list_any is_dot_git (components path.now) }
+fn has_dot_git_component(path: &PathText) -> bool
+    ensures { result ≡ list_any is_dot_git_ignoring_case (components path.now) }
 {
     for name in path.components() {
-        if is_dot_git(name) {
+        if is_dot_git_ignoring_case(name) {
             return true;
         }
     }
@@ -123,11 +131,16 @@ fn has_dot_git(path: &PathText) -> bool
 }
 
 /// How a submodule is updated.
-fn kind_of(alloc: Global, modules: &submodule::File, name: &[u8]) -> Result<StepKind, Stop>
-    ensures { Gives result (wanted.kind (access.update name.now modules.now.sections)) }
+fn step_kind_of_submodule(
+    alloc: Global,
+    modules: &submodule::File,
+    name: &[u8],
+) -> Result<StepKind, Stop>
+    ensures { IsResultUnlessMemory result
+        (wanted.kind (access.update name.now modules.now.sections)) }
 {
     match modules.update(alloc, name) {
-        Ok(update) => step_kind(update),
+        Ok(update) => step_kind_of_update(update),
         Err(update::Error::Invalid { .. }) => Err(Stop::LeaveOut(Why::BadUpdate)),
         Err(update::Error::CommandForbiddenInModulesConfiguration { .. }) => {
             Err(Stop::LeaveOut(Why::SharedCommand))
@@ -137,8 +150,8 @@ fn kind_of(alloc: Global, modules: &submodule::File, name: &[u8]) -> Result<Step
 }
 
 /// The step of an update; the commit is checked out where nothing is said.
-fn step_kind(update: Option<Update>) -> Result<StepKind, Stop>
-    ensures { Gives result (wanted.step_kind update) }
+fn step_kind_of_update(update: Option<Update>) -> Result<StepKind, Stop>
+    ensures { IsResultUnlessMemory result (wanted.step_kind_of_update update) }
 {
     match update {
         None => Ok(StepKind::Checkout),
@@ -151,7 +164,11 @@ fn step_kind(update: Option<Update>) -> Result<StepKind, Stop>
 }
 
 /// Whether a submodule has no url.
-fn lacks_url(alloc: Global, modules: &submodule::File, name: &[u8]) -> Result<bool, OutOfMemory>
+fn lacks_valid_url(
+    alloc: Global,
+    modules: &submodule::File,
+    name: &[u8],
+) -> Result<bool, OutOfMemory>
     ensures { IfOk result (λ lacks. lacks ≡ is_err (access.url name.now modules.now.sections)) }
 {
     match modules.url(alloc, name) {

@@ -1,11 +1,11 @@
 //! What stands on the way to a path.
 ghost use Rattle.std.specs.Prelude.{◌≡◌, false, Some, IfOk, IfErr, OnOk, IsErrOf};
 ghost use Rattle.gitbase_core.specs.Path.{components};
-ghost use Rattle.worktree_fs.specs.Causes.{Increased};
-ghost use Rattle.worktree_fs.specs.Kept.{Asks};
-ghost use Rattle.worktree_fs.specs.Answers.{kind_of, UnlessFault};
+ghost use Rattle.worktree_fs.specs.Causes.{CountIncreasedOrSaturated};
+ghost use Rattle.worktree_fs.specs.Kept.{KeepsTreeAndListCounts};
+ghost use Rattle.worktree_fs.specs.Answers.{kind_of_lookup, HoldsUnlessFault};
 ghost use Rattle.worktree_fs.specs.Tree.{Names, look};
-ghost use Rattle.worktree_report.specs.Looks.{IsLookedAt, is_directory};
+ghost use Rattle.worktree_report.specs.Looks.{IsLookedAtOnWay, is_directory_kind};
 ghost use Rattle.module_plan.specs.Ways as ways;
 
 use crate::error::ModuleError;
@@ -22,32 +22,33 @@ use worktree_fs::{NodeKind, ReadError, Worktree};
 /// See docs/DECISIONS.md#way-to-first-gap.
 /// See docs/DECISIONS.md#too-long-path.
 /// See docs/DECISIONS.md#plan-root-link.
-pub(crate) fn obstacle<W: Worktree>(
+pub(crate) fn first_obstacle_on_way<W: Worktree>(
     alloc: Global,
     worktree: &mut W,
     root: &[u8],
     seen: &mut Seen,
     path: &PathText,
 ) -> Result<Option<Why>, ModuleError>
-    requires seen { ways.AreSeen (W.told worktree.old) seen.old }
+    requires seen { ways.AreRecordedKindsRight (W.told worktree.old) seen.old }
     ensures obstacle { (t : Names) → W.told worktree.old ≡ Some t
-        → IfOk result (λ why. why ≡ ways.obstacle t root.now (components path.now)) }
-    ensures is { IfOk result ways.IsObstacle }
-    ensures seen { OnOk result (ways.AreSeen (W.told worktree.old) seen.new) }
-    ensures refused { IfErr result (ways.StopsLook
-        (IsLookedAt (W.told worktree.old) root.now (components path.now))
-        (Increased (W.faults worktree.old) (W.faults worktree.new))) }
-    ensures keeps { Asks W.Worktree worktree.old worktree.new }
-    ensures unfaulted { ways.UnlessFault result (W.faults worktree.new ≡ W.faults worktree.old) }
+        → IfOk result (λ why. why ≡ ways.first_obstacle_on_way t root.now (components path.now)) }
+    ensures is { IfOk result ways.IsNoneLinkOrNonDirectory }
+    ensures seen { OnOk result (ways.AreRecordedKindsRight (W.told worktree.old) seen.new) }
+    ensures refused { IfErr result (ways.FailsLookingAtPath
+        (IsLookedAtOnWay (W.told worktree.old) root.now (components path.now))
+        (CountIncreasedOrSaturated (W.faults worktree.old) (W.faults worktree.new))) }
+    ensures keeps { KeepsTreeAndListCounts W.Worktree worktree.old worktree.new }
+    ensures unfaulted { ways.HoldsUnlessFault result (W.faults worktree.new
+        ≡ W.faults worktree.old) }
     ensures reads { W.reads worktree.new ≡ W.reads worktree.old }
 {
     let mut full = PathText::from_bytes(alloc, root)?;
     for name in path.components() {
         full.push_component(alloc, name)?;
-        match seen_kind(alloc, worktree, seen, &full) {
+        match kind_by_cache_or_worktree(alloc, worktree, seen, &full) {
             Ok(kind) => {
-                if !is_directory(kind) {
-                    return Ok(obstacle_of(kind));
+                if !is_directory_kind(kind) {
+                    return Ok(obstacle_by_node_kind(kind));
                 }
             }
             Err(ReadError::Fault) => return Err(ModuleError::Fault { path: full }),
@@ -58,50 +59,50 @@ pub(crate) fn obstacle<W: Worktree>(
 }
 
 /// The kind of the node at a whole path, which is looked at unless it was before.
-fn seen_kind<W: Worktree>(
+fn kind_by_cache_or_worktree<W: Worktree>(
     alloc: Global,
     worktree: &mut W,
     seen: &mut Seen,
     full: &PathText,
 ) -> Result<Option<NodeKind>, ReadError>
-    requires seen { ways.AreSeen (W.told worktree.old) seen.old }
+    requires seen { ways.AreRecordedKindsRight (W.told worktree.old) seen.old }
     ensures kind { (t : Names) → W.told worktree.old ≡ Some t
-        → IfOk result (λ kind. kind ≡ kind_of (look t full.now false)) }
-    ensures seen { OnOk result (ways.AreSeen (W.told worktree.old) seen.new) }
+        → IfOk result (λ kind. kind ≡ kind_of_lookup (look t full.now false)) }
+    ensures seen { OnOk result (ways.AreRecordedKindsRight (W.told worktree.old) seen.new) }
     ensures cause { IsErrOf result ReadError.Fault
-        → Increased (W.faults worktree.old) (W.faults worktree.new) }
-    ensures keeps { Asks W.Worktree worktree.old worktree.new }
-    ensures unfaulted { UnlessFault result (W.faults worktree.new ≡ W.faults worktree.old) }
+        → CountIncreasedOrSaturated (W.faults worktree.old) (W.faults worktree.new) }
+    ensures keeps { KeepsTreeAndListCounts W.Worktree worktree.old worktree.new }
+    ensures unfaulted { HoldsUnlessFault result (W.faults worktree.new ≡ W.faults worktree.old) }
     ensures reads { W.reads worktree.new ≡ W.reads worktree.old }
 {
-    if let Some(kind) = seen.kind_at(full) {
+    if let Some(kind) = seen.recorded_kind_at_path(full) {
         return Ok(kind);
     }
-    let kind = kind_at(alloc, worktree, full)?;
+    let kind = kind_in_worktree(alloc, worktree, full)?;
     seen.add(alloc, full, kind)?;
     Ok(kind)
 }
 
 /// The kind of the node at a whole path.
-fn kind_at<W: Worktree>(
+fn kind_in_worktree<W: Worktree>(
     alloc: Global,
     worktree: &mut W,
     full: &PathText,
 ) -> Result<Option<NodeKind>, ReadError>
     ensures kind { (t : Names) → W.told worktree.old ≡ Some t
-        → IfOk result (λ kind. kind ≡ kind_of (look t full.now false)) }
+        → IfOk result (λ kind. kind ≡ kind_of_lookup (look t full.now false)) }
     ensures cause { IsErrOf result ReadError.Fault
-        → Increased (W.faults worktree.old) (W.faults worktree.new) }
-    ensures keeps { Asks W.Worktree worktree.old worktree.new }
-    ensures unfaulted { UnlessFault result (W.faults worktree.new ≡ W.faults worktree.old) }
+        → CountIncreasedOrSaturated (W.faults worktree.old) (W.faults worktree.new) }
+    ensures keeps { KeepsTreeAndListCounts W.Worktree worktree.old worktree.new }
+    ensures unfaulted { HoldsUnlessFault result (W.faults worktree.new ≡ W.faults worktree.old) }
     ensures reads { W.reads worktree.new ≡ W.reads worktree.old }
 {
     worktree.kind(alloc, full.as_bytes())
 }
 
 /// Whether a node of this kind is a directory; a link is none.
-fn is_directory(kind: Option<NodeKind>) -> bool
-    ensures { result ≡ is_directory kind }
+fn is_directory_kind(kind: Option<NodeKind>) -> bool
+    ensures { result ≡ is_directory_kind kind }
 {
     match kind {
         Some(NodeKind::Directory) => true,
@@ -113,8 +114,8 @@ fn is_directory(kind: Option<NodeKind>) -> bool
 }
 
 /// Why nothing below a node of this kind is updated.
-fn obstacle_of(kind: Option<NodeKind>) -> Option<Why>
-    ensures { result ≡ ways.obstacle_of kind }
+fn obstacle_by_node_kind(kind: Option<NodeKind>) -> Option<Why>
+    ensures { result ≡ ways.obstacle_by_node_kind kind }
 {
     match kind {
         None => None,

@@ -33,7 +33,7 @@ fn writes_plan(alloc: Global) -> Option<bool> {
     let mut out = MemorySink::new(alloc, ROOM).ok()?;
     let mut err = MemorySink::new(alloc, ROOM).ok()?;
     let ended = run_modules(alloc, &words, &mut tree, &mut never, &mut out, &mut err);
-    Some(ended == 0 && out.written() == b"skip inactive\tm\n".as_slice())
+    Some(ended == 0 && out.written_bytes() == b"skip inactive\tm\n".as_slice())
 }
 
 /// Whether the states and the report are written whole.
@@ -45,7 +45,7 @@ fn writes_status(alloc: Global) -> Option<bool> {
     let mut err = MemorySink::new(alloc, ROOM).ok()?;
     let ended = run_status(alloc, &words, &mut tree, &mut never, &mut out, &mut err);
     let want = b"modified\ta\nuntracked file - always - -\t.gitmodules\n".as_slice();
-    Some(ended == 0 && out.written() == want)
+    Some(ended == 0 && out.written_bytes() == want)
 }
 
 /// Whether one path is modified, and another one is reported.

@@ -7,7 +7,7 @@ use glob_rules::pathspec::Defaults;
 use module_plan::{ModuleError, ModulePlan, Skipped, Step, StepKind, Why, plan};
 use std::alloc::Global;
 use submodule::File;
-use test_cases::{held, split_at_byte, split_at_mark, text_of};
+use test_cases::{held, lines_of_field_steps, split_at_byte, split_at_mark};
 use worktree_fs::MemoryWorktree;
 
 /// Cases, each behind an `@`: the nodes, the lines of `.gitmodules` and of the configuration, and
@@ -346,7 +346,7 @@ wanted:";
 
 /// The configuration of some lines.
 fn configuration(alloc: Global, lines: &[u8]) -> Option<config::File> {
-    let text = text_of(alloc, lines)?;
+    let text = lines_of_field_steps(alloc, lines)?;
     let meta = Metadata {
         source: Source::Local,
         path: None,
@@ -356,7 +356,7 @@ fn configuration(alloc: Global, lines: &[u8]) -> Option<config::File> {
 
 /// The `.gitmodules` of some lines.
 fn modules_of(alloc: Global, lines: &[u8], config: &config::File) -> Option<File> {
-    let text = text_of(alloc, lines)?;
+    let text = lines_of_field_steps(alloc, lines)?;
     File::from_bytes(alloc, &text, None, config).ok()
 }
 

@@ -2,9 +2,9 @@
 use crate::tree::tree_of;
 use bstr::ByteSlice;
 use gitbase_core::{Flags, IndexEntry, Mode, ObjectId, PathText, State};
-use index_status::{PathState, StatesError, blob_id, states};
+use index_status::{PathState, StatesError, blob_id, compare_index_paths_with_worktree};
 use std::alloc::Global;
-use test_cases::{digit, held, split_at_byte, split_at_mark};
+use test_cases::{held, split_at_byte, split_at_mark, value_of_first_digit};
 use worktree_fs::MemoryWorktree;
 
 /// Ids of blobs, as `git hash-object` gives them.
@@ -207,7 +207,7 @@ fn entry_of(alloc: Global, words: &[u8]) -> Option<IndexEntry> {
     let (flag, id) = split_at_byte(rest, b'`');
     Some(IndexEntry {
         path: PathText::from_bytes(alloc, path).ok()?,
-        stage: digit(stage),
+        stage: value_of_first_digit(stage),
         mode: mode_of(mode),
         flags: flags_of(flag),
         id: id_of(id),
@@ -257,7 +257,7 @@ fn rows_are(made: &[(PathText, PathState)], want: &[u8]) -> bool {
 }
 
 fn answers(alloc: Global, tree: &mut MemoryWorktree, index: &State, want: &[u8]) -> bool {
-    match states(alloc, tree, b"/w", index) {
+    match compare_index_paths_with_worktree(alloc, tree, b"/w", index) {
         Ok(made) => rows_are(&made, want),
         Err(StatesError::Fault { path }) => {
             let (word, at) = split_at_byte(want, b'`');

@@ -1,7 +1,7 @@
 //! Trees in memory, from a row.
 use bstr::ByteSlice;
 use std::alloc::Global;
-use test_cases::{digit, is_put, split_at_byte};
+use test_cases::{split_at_byte, try_add_node_of_kind, value_of_first_digit};
 use worktree_fs::{CallKind, MemoryWorktree};
 
 /// Whether a step was taken: a node put at a path, or a look planned to fail.
@@ -10,19 +10,19 @@ fn is_taken(alloc: Global, tree: &mut MemoryWorktree, step: &[u8]) -> bool {
     let (path, text) = split_at_byte(rest, b'`');
     match what {
         b"fail kind" => tree
-            .plan_fault(alloc, CallKind::Kind, u64::from(digit(path)))
+            .plan_fault_of_nth_call(alloc, CallKind::Kind, u64::from(value_of_first_digit(path)))
             .is_ok(),
         b"fail read" => tree
-            .plan_fault(alloc, CallKind::Read, u64::from(digit(path)))
+            .plan_fault_of_nth_call(alloc, CallKind::Read, u64::from(value_of_first_digit(path)))
             .is_ok(),
-        _ => is_put(alloc, tree, what, path, text),
+        _ => try_add_node_of_kind(alloc, tree, what, path, text),
     }
 }
 
 /// The tree of some steps, each on a line of its own.
 pub fn tree_of(alloc: Global, steps: &[u8], reversed: bool) -> Option<MemoryWorktree> {
     let mut tree = MemoryWorktree::new(alloc, false);
-    tree.set_reversed(reversed);
+    tree.set_listing_reversed(reversed);
     for step in steps.split_str(b"\n  ") {
         if !is_taken(alloc, &mut tree, step) {
             return None;

@@ -1,19 +1,19 @@
 //! The calls of the program, by the first word of its command line.
 ghost use Rattle.std.specs.Prelude.{◌≡◌, ◌⊎◌, ◌↔◌, ℕ, List, Some};
 ghost use Rattle.worktree_fs.specs.Tree.{Names};
-ghost use Rattle.worktree_fs.specs.Causes.{NotIncreased};
-ghost use Rattle.worktree_report.specs.Written.{Appends};
+ghost use Rattle.worktree_fs.specs.Causes.{CountNotIncreased};
+ghost use Rattle.worktree_report.specs.Written.{AppendsWholeBytes};
 ghost use Rattle.report_cli.specs.Dispatch.{
-  call_named,
-  call_of,
+  call_of_command_word,
+  call_by_first_word_after_composed,
   composes,
-  uncomposed,
-  AsksNothingBy,
-  IsOutputBy,
-  IsQuietFor,
-  IsUnfaultedBy,
-  IsValidBy,
-  RunsBy,
+  words_after_optional_composed,
+  WordsMissCallUsage,
+  IsOutputOfCall,
+  OutputNeedsNoFaultForCall,
+  CountsNoFaultForCall,
+  AreValidWordsOfCall,
+  CallRunsToItsAnswer,
 };
 
 use clean_plan::run_clean;
@@ -38,8 +38,8 @@ pub enum Call {
 }
 
 /// The call that a word names.
-fn call_named(word: &[u8]) -> Call
-    ensures { result ≡ call_named word.now }
+fn call_of_command_word(word: &[u8]) -> Call
+    ensures { result ≡ call_of_command_word word.now }
 {
     if word == b"clean".as_slice() {
         Call::Clean
@@ -53,8 +53,8 @@ fn call_named(word: &[u8]) -> Call
 }
 
 /// The words, without one `composed` before them.
-fn uncomposed(words: &[Bytes]) -> &[Bytes]
-    ensures { result.now ≡ uncomposed words.now }
+fn words_after_optional_composed(words: &[Bytes]) -> &[Bytes]
+    ensures { result.now ≡ words_after_optional_composed words.now }
 {
     match words {
         [word, rest @ ..] if word.as_bytes() == b"composed".as_slice() => rest,
@@ -73,11 +73,11 @@ pub fn composes(words: &[Bytes]) -> bool
 }
 
 /// The call by the first word behind an optional `composed`.
-fn call_of(words: &[Bytes]) -> Call
-    ensures { result ≡ call_of words.now }
+fn call_by_first_word_after_composed(words: &[Bytes]) -> Call
+    ensures { result ≡ call_by_first_word_after_composed words.now }
 {
-    match uncomposed(words) {
-        [word, ..] => call_named(word.as_bytes()),
+    match words_after_optional_composed(words) {
+        [word, ..] => call_of_command_word(word.as_bytes()),
         [] => Call::Report,
     }
 }
@@ -94,33 +94,34 @@ pub fn dispatch<W: CountsFaults, I: Interrupt, S: Sink, E: Sink>(
     err: &mut E,
 ) -> u8
     // What the words ask for came to an answer, a text or a refusal with its cause; the status, `out` and `err` are as that has it.
-    ensures runs { RunsBy W.Worktree I.Interrupt S.Sink E.Sink worktree.old worktree.new
-        interrupt.old interrupt.new out.old out.new err.old err.new (W.precomposes worktree.old)
-        words.now result (call_of words.now) }
+    ensures runs { CallRunsToItsAnswer W.Worktree I.Interrupt S.Sink E.Sink worktree.old
+        worktree.new interrupt.old interrupt.new out.old out.new err.old err.new
+        (W.precomposes worktree.old) words.now result (call_by_first_word_after_composed
+        words.now) }
 
     // Status 2 exactly where the words ask nothing of the call that they name.
-    ensures usage { (result ≡ 2) ↔ AsksNothingBy (call_of words.now)
+    ensures usage { (result ≡ 2) ↔ WordsMissCallUsage (call_by_first_word_after_composed words.now)
         (W.precomposes worktree.old) words.now }
 
     // Status 0, but for a report: no fault was counted.
-    ensures unfaulted { result ≡ 0 → IsUnfaultedBy (call_of words.now) (W.faults worktree.old)
-        (W.faults worktree.new) }
+    ensures unfaulted { result ≡ 0 → CountsNoFaultForCall (call_by_first_word_after_composed
+        words.now) (W.faults worktree.old) (W.faults worktree.new) }
 
     // Status 0, over a told tree, and for a report with no fault counted: what `out` has is what it had, and what the words ask for.
-    ensures output { (t : Names) → W.told worktree.old ≡ Some t
-        → IsQuietFor (call_of words.now) (W.faults worktree.old) (W.faults worktree.new)
-        → result ≡ 0
-        → (text : List ℕ) × IsOutputBy (call_of words.now) (W.precomposes worktree.old) t words.now
-        text × Appends (S.written out.old) (S.written out.new) text }
+    ensures output { (t : Names) → W.told worktree.old ≡ Some t → OutputNeedsNoFaultForCall
+        (call_by_first_word_after_composed words.now) (W.faults worktree.old)
+        (W.faults worktree.new) → result ≡ 0 → (text : List ℕ)
+        × IsOutputOfCall (call_by_first_word_after_composed words.now) (W.precomposes worktree.old)
+        t words.now text × AppendsWholeBytes (S.written out.old) (S.written out.new) text }
 
     // Valid input, over a told tree and with nothing counted.
-    ensures complete { (t : Names) → W.told worktree.old ≡ Some t
-        → IsValidBy (call_of words.now) (W.precomposes worktree.old) t words.now
-        → NotIncreased (W.faults worktree.old) (W.faults worktree.new)
-        → NotIncreased (I.raised interrupt.old) (I.raised interrupt.new)
-        → NotIncreased (S.refusals out.old) (S.refusals out.new) → (result ≡ 0) ⊎ (result ≡ 8) }
+    ensures complete { (t : Names) → W.told worktree.old ≡ Some t → AreValidWordsOfCall
+        (call_by_first_word_after_composed words.now) (W.precomposes worktree.old) t words.now
+        → CountNotIncreased (W.faults worktree.old) (W.faults worktree.new) → CountNotIncreased
+        (I.raised interrupt.old) (I.raised interrupt.new) → CountNotIncreased (S.refusals out.old)
+        (S.refusals out.new) → (result ≡ 0) ⊎ (result ≡ 8) }
 {
-    match call_of(words) {
+    match call_by_first_word_after_composed(words) {
         Call::Clean => run_clean(alloc, words, worktree, interrupt, out, err),
         Call::Modules => run_modules(alloc, words, worktree, interrupt, out, err),
         Call::Status => run_status(alloc, words, worktree, interrupt, out, err),

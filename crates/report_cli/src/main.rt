@@ -39,7 +39,7 @@ fn words<R: Env>(rt: &R, alloc: Global) -> Result<Vec<Bytes>, OutOfMemory> {
 
 /// The path of the current directory with a slash at its end; nothing where the system tells none
 /// that is UTF-8.
-fn current<R: Env>(rt: &R, alloc: Global) -> Result<String, OutOfMemory> {
+fn current_directory_with_slash<R: Env>(rt: &R, alloc: Global) -> Result<String, OutOfMemory> {
     let mut buffer = vec![in alloc; 0u8; PATH_LIMIT]?;
     let Ok(length) = rt.current_dir(&mut buffer) else {
         return Ok(String::new(alloc));
@@ -53,7 +53,11 @@ fn current<R: Env>(rt: &R, alloc: Global) -> Result<String, OutOfMemory> {
 }
 
 /// All files of the system, whose names are composed where the words ask for that.
-fn disk<'a>(rt: &'a HostRuntime, words: &[Bytes], current: &'a str) -> DiskWorktree<'a>
+fn disk_worktree_composing_by_words<'a>(
+    rt: &'a HostRuntime,
+    words: &[Bytes],
+    current: &'a str,
+) -> DiskWorktree<'a>
     ensures { result.composes ≡ composes words.now }
 {
     DiskWorktree::new_with_current_dir(rt, composes(words), current)
@@ -61,10 +65,11 @@ fn disk<'a>(rt: &'a HostRuntime, words: &[Bytes], current: &'a str) -> DiskWorkt
 
 fn main(rt: HostRuntime) -> ExitCode {
     let alloc = rt.alloc();
-    let (Ok(words), Ok(current)) = (words(&rt, alloc), current(&rt, alloc)) else {
+    let (Ok(words), Ok(current)) = (words(&rt, alloc), current_directory_with_slash(&rt, alloc))
+    else {
         return ExitCode::from(8);
     };
-    let mut worktree = disk(&rt, &words, current.as_str());
+    let mut worktree = disk_worktree_composing_by_words(&rt, &words, current.as_str());
     let mut interrupt = PlannedInterrupt::never();
     let mut out = StdSink::out(&rt);
     let mut err = StdSink::err(&rt);

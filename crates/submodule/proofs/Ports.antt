@@ -3,16 +3,16 @@ use Rattle.std.proofs.Common.{◌≡◌, ℕ, ◌+◌, ◌*◌, ◌-◌, ◌≤�
 use Rattle.std.specs.Prelude.{◌&&◌, nat_le}
 use Rattle.std.specs.List.{list_all}
 use Rattle.std.proofs.lemmas.Bool.Decides.{nat_tests}
-use Rattle.git_config_lite.specs.Texts.{is_digit}
-use Rattle.submodule.specs.Urls.{number_from}
-use Rattle.submodule.specs.Digits.{small_from}
+use Rattle.git_config_lite.specs.Texts.{is_decimal_digit}
+use Rattle.submodule.specs.Urls.{decimal_number_after}
+use Rattle.submodule.specs.Digits.{parse_port_number_after}
 
-grows : (n : ℕ) (text : List ℕ) → n ≤ number_from n text
+grows : (n : ℕ) (text : List ℕ) → n ≤ decimal_number_after n text
 grows n [] = omega arith
 grows n (d ∷ digits) = omega (arith, grows (n * 10 + (d - 48)) digits)
 
 abbrev pub small_number : ℕ → List ℕ → Option ℕ
-small_number n text = cond (list_all is_digit text && nat_le (number_from n text) 65535) (Some (number_from n text)) None
+small_number n text = cond (list_all is_decimal_digit text && nat_le (decimal_number_after n text) 65535) (Some (decimal_number_after n text)) None
 
 step : (digit fits all small : Bool) (m last : ℕ) (rest : ℕ → Option ℕ) → (fits ≡ true → rest m ≡ cond (all && small) (Some last) None)
     → (fits ≡ false → small ≡ false) → option_and_then rest (cond (digit && fits) (Some m) None) ≡ cond ((digit && all) && small) (Some last) None
@@ -30,12 +30,12 @@ too_great m last more not_fits = grind (arith, nat_tests)
 fits_in : (m : ℕ) → nat_le m 65535 ≡ true → m ≤ 65535
 fits_in m yes_fits = grind (arith, nat_tests)
 
-pub small_from-is : (n : ℕ) (text : List ℕ) → n ≤ 65535 → small_from n text ≡ small_number n text
+pub small_from-is : (n : ℕ) (text : List ℕ) → n ≤ 65535 → parse_port_number_after n text ≡ small_number n text
 small_from-is n [] fits = ends n fits
 small_from-is n (d ∷ digits) fits =
     let m : ℕ = n * 10 + (d - 48) in
-    step (is_digit d) (nat_le m 65535) (list_all is_digit digits) (nat_le (number_from m digits) 65535) m (number_from m digits) (λ k. small_from k digits)
-    (λ small. small_from-is m digits (fits_in m small)) (λ great. too_great m (number_from m digits) (grows m digits) great)
+    step (is_decimal_digit d) (nat_le m 65535) (list_all is_decimal_digit digits) (nat_le (decimal_number_after m digits) 65535) m (decimal_number_after m digits) (λ k. parse_port_number_after k digits)
+    (λ small. small_from-is m digits (fits_in m small)) (λ great. too_great m (decimal_number_after m digits) (grows m digits) great)
 
-pub whole : (text : List ℕ) → small_from 0 text ≡ small_number 0 text
+pub whole : (text : List ℕ) → parse_port_number_after 0 text ≡ small_number 0 text
 whole text = small_from-is 0 text (omega arith)

@@ -4,14 +4,14 @@ use Rattle.std.specs.Option.{option_or}
 use Rattle.gitbase_core.specs.Path.{is_empty, is_absolute, normalized}
 use Rattle.git_config_lite.specs.declared.metadata.Source.{Source}
 use Rattle.git_config_lite.specs.Sections.{Section}
-use Rattle.git_config_lite.specs.Lookups.{string_with_source, boolean}
-use Rattle.submodule.specs.Names.{is_modules, module_names}
+use Rattle.git_config_lite.specs.Lookups.{last_string_with_source, last_boolean_value}
+use Rattle.submodule.specs.Names.{is_gitmodules_source, submodule_names_of_gitmodules}
 use Rattle.submodule.specs.Overrides.{value}
-use Rattle.submodule.specs.Ignores.{ignore_of}
-use Rattle.submodule.specs.Recursions.{recurse}
-use Rattle.submodule.specs.Branches.{branch_of}
-use Rattle.submodule.specs.Updates.{update_of}
-use Rattle.submodule.specs.Urls.{url_of}
+use Rattle.submodule.specs.Ignores.{parse_ignore_word}
+use Rattle.submodule.specs.Recursions.{fetch_recurse_of_boolean_or_text}
+use Rattle.submodule.specs.Branches.{parse_branch}
+use Rattle.submodule.specs.Updates.{parse_update}
+use Rattle.submodule.specs.Urls.{parse_url}
 use Rattle.submodule.specs.declared.ignore.Ignore.{Ignore}
 use Rattle.submodule.specs.declared.fetch_recurse.FetchRecurse.{FetchRecurse}
 use Rattle.submodule.specs.declared.branch.Branch.{Branch}
@@ -34,122 +34,122 @@ use Rattle.submodule.specs.declared.field.FieldError.TheVariants as field_errors
 
 -- ---- path: not empty, not absolute, and it leads to a place inside the work tree
 
-abbrev pub is_path : List ℕ → Bool
-is_path text = not (is_empty text) && (not (is_absolute text) && is_some (normalized text))
+abbrev pub is_valid_submodule_path : List ℕ → Bool
+is_valid_submodule_path text = not (is_empty text) && (not (is_absolute text) && is_some (normalized text))
 
 -- why a text that is no such path is refused
-abbrev pub path_refusal : List ℕ → List ℕ → PathError
-path_refusal name text =
+abbrev pub path_error_of_value : List ℕ → List ℕ → PathError
+path_error_of_value name text =
     if is_empty text then path_errors.Missing name
     else if is_absolute text then path_errors.Absolute name text
     else path_errors.OutsideOfWorktree name text
 
-abbrev pub path_by : List ℕ → Option (List ℕ) → Result (List ℕ) PathError
-path_by name None = Err (path_errors.Missing name)
-path_by name (Some text) = if is_path text then Ok text else Err (path_refusal name text)
+abbrev pub path_of_optional_value : List ℕ → Option (List ℕ) → Result (List ℕ) PathError
+path_of_optional_value name None = Err (path_errors.Missing name)
+path_of_optional_value name (Some text) = if is_valid_submodule_path text then Ok text else Err (path_error_of_value name text)
 
 abbrev pub path : List ℕ → List Section → Result (List ℕ) PathError
-path name sections = path_by name (value name (codes "path") sections)
+path name sections = path_of_optional_value name (value name (codes "path") sections)
 
 -- a value of `path` is this path, and one that may be given
-abbrev pub has_path : List ℕ → Option (List ℕ) → Bool
-has_path path None = false
-has_path path (Some text) = bytes_eq text path && is_path text
+abbrev pub is_value_this_valid_path : List ℕ → Option (List ℕ) → Bool
+is_value_this_valid_path path None = false
+is_value_this_valid_path path (Some text) = bytes_eq text path && is_valid_submodule_path text
 
 -- the first name of that path
 abbrev pub name_by_path : List ℕ → List Section → Option (List ℕ)
-name_by_path path sections = find (λ name. has_path path (value name (codes "path") sections)) (module_names sections)
+name_by_path path sections = find (λ name. is_value_this_valid_path path (value name (codes "path") sections)) (submodule_names_of_gitmodules sections)
 
 -- ---- url: not empty
 
-abbrev pub url_or_refused : List ℕ → Result Url UrlError → Result Url UrlRefusal
-url_or_refused name (Ok url) = Ok url
-url_or_refused name (Err e) = Err (url_errors.Parse name e)
+abbrev pub url_or_submodule_url_error : List ℕ → Result Url UrlError → Result Url UrlRefusal
+url_or_submodule_url_error name (Ok url) = Ok url
+url_or_submodule_url_error name (Err e) = Err (url_errors.Parse name e)
 
-abbrev pub url_by : List ℕ → Option (List ℕ) → Result Url UrlRefusal
-url_by name None = Err (url_errors.Missing name)
-url_by name (Some text) = if is_empty text then Err (url_errors.Missing name) else url_or_refused name (url_of text)
+abbrev pub url_of_optional_value : List ℕ → Option (List ℕ) → Result Url UrlRefusal
+url_of_optional_value name None = Err (url_errors.Missing name)
+url_of_optional_value name (Some text) = if is_empty text then Err (url_errors.Missing name) else url_or_submodule_url_error name (parse_url text)
 
 abbrev pub url : List ℕ → List Section → Result Url UrlRefusal
-url name sections = url_by name (value name (codes "url") sections)
+url name sections = url_of_optional_value name (value name (codes "url") sections)
 
 -- ---- update: a command of `.gitmodules` is forbidden
 
-abbrev pub found_update : List ℕ → List Section → Option (List ℕ × Source)
-found_update name sections = string_with_source (codes "submodule") (Some name) (codes "update") sections
+abbrev pub update_value_and_source : List ℕ → List Section → Option (List ℕ × Source)
+update_value_and_source name sections = last_string_with_source (codes "submodule") (Some name) (codes "update") sections
 
 -- an update, unless it is a command of `.gitmodules`
-abbrev pub allowed : List ℕ → Source → Update → Result Update UpdateError
-allowed name source (update_words.Command command) =
-    if is_modules source then Err (update_errors.CommandForbiddenInModulesConfiguration name command)
+abbrev pub update_unless_gitmodules_command : List ℕ → Source → Update → Result Update UpdateError
+update_unless_gitmodules_command name source (update_words.Command command) =
+    if is_gitmodules_source source then Err (update_errors.CommandForbiddenInModulesConfiguration name command)
     else Ok (update_words.Command command)
-allowed name source update_words.Checkout = Ok update_words.Checkout
-allowed name source update_words.Rebase = Ok update_words.Rebase
-allowed name source update_words.Merge = Ok update_words.Merge
-allowed name source update_words.None = Ok update_words.None
+update_unless_gitmodules_command name source update_words.Checkout = Ok update_words.Checkout
+update_unless_gitmodules_command name source update_words.Rebase = Ok update_words.Rebase
+update_unless_gitmodules_command name source update_words.Merge = Ok update_words.Merge
+update_unless_gitmodules_command name source update_words.None = Ok update_words.None
 
-abbrev pub update_from : List ℕ → List ℕ → Source → Option Update → Result Update UpdateError
-update_from name text source None = Err (update_errors.Invalid name text)
-update_from name text source (Some update) = allowed name source update
+abbrev pub update_allowed_or_error : List ℕ → List ℕ → Source → Option Update → Result Update UpdateError
+update_allowed_or_error name text source None = Err (update_errors.Invalid name text)
+update_allowed_or_error name text source (Some update) = update_unless_gitmodules_command name source update
 
-abbrev pub some_update : Result Update UpdateError → Result (Option Update) UpdateError
-some_update (Ok update) = Ok (Some update)
-some_update (Err e) = Err e
+abbrev pub update_result_as_some : Result Update UpdateError → Result (Option Update) UpdateError
+update_result_as_some (Ok update) = Ok (Some update)
+update_result_as_some (Err e) = Err e
 
-abbrev pub update_by : List ℕ → Option (List ℕ × Source) → Result (Option Update) UpdateError
-update_by name None = Ok None
-update_by name (Some found) = some_update (update_from name found.0 found.1 (update_of found.0))
+abbrev pub update_of_optional_value : List ℕ → Option (List ℕ × Source) → Result (Option Update) UpdateError
+update_of_optional_value name None = Ok None
+update_of_optional_value name (Some found) = update_result_as_some (update_allowed_or_error name found.0 found.1 (parse_update found.0))
 
 abbrev pub update : List ℕ → List Section → Result (Option Update) UpdateError
-update name sections = update_by name (found_update name sections)
+update name sections = update_of_optional_value name (update_value_and_source name sections)
 
 -- a command is given only where the deciding value is it, behind a `!`, in a section that is not one of `.gitmodules`
-abbrev pub IsAllowed : Option (List ℕ × Source) → Update → Type 0
-IsAllowed found (update_words.Command command) = (source : Source) × (found ≡ Some (33 ∷ command, source)) × (is_modules source ≡ false)
-IsAllowed found update_words.Checkout = Unit {0}
-IsAllowed found update_words.Rebase = Unit {0}
-IsAllowed found update_words.Merge = Unit {0}
-IsAllowed found update_words.None = Unit {0}
+abbrev pub IsAllowedUpdate : Option (List ℕ × Source) → Update → Type 0
+IsAllowedUpdate found (update_words.Command command) = (source : Source) × (found ≡ Some (33 ∷ command, source)) × (is_gitmodules_source source ≡ false)
+IsAllowedUpdate found update_words.Checkout = Unit {0}
+IsAllowedUpdate found update_words.Rebase = Unit {0}
+IsAllowedUpdate found update_words.Merge = Unit {0}
+IsAllowedUpdate found update_words.None = Unit {0}
 
 -- a command is forbidden only where the deciding value is it, behind a `!`, in a section of `.gitmodules`
-abbrev pub IsForbidden : Option (List ℕ × Source) → UpdateError → Type 0
-IsForbidden found (update_errors.CommandForbiddenInModulesConfiguration name command) = (source : Source) × (found ≡ Some (33 ∷ command, source)) × (is_modules source ≡ true)
-IsForbidden found (update_errors.Invalid name text) = Unit {0}
-IsForbidden found update_errors.OutOfMemory = Unit {0}
+abbrev pub IsForbiddenUpdateError : Option (List ℕ × Source) → UpdateError → Type 0
+IsForbiddenUpdateError found (update_errors.CommandForbiddenInModulesConfiguration name command) = (source : Source) × (found ≡ Some (33 ∷ command, source)) × (is_gitmodules_source source ≡ true)
+IsForbiddenUpdateError found (update_errors.Invalid name text) = Unit {0}
+IsForbiddenUpdateError found update_errors.OutOfMemory = Unit {0}
 
 -- ---- branch, fetchRecurseSubmodules, ignore, shallow
 
-abbrev pub branch_from : List ℕ → List ℕ → Option Branch → Result (Option Branch) BranchError
-branch_from name text None = Err (branch_errors.Refspec name text refspec_errors.Invalid)
-branch_from name text (Some branch) = Ok (Some branch)
+abbrev pub branch_or_refspec_error : List ℕ → List ℕ → Option Branch → Result (Option Branch) BranchError
+branch_or_refspec_error name text None = Err (branch_errors.Refspec name text refspec_errors.Invalid)
+branch_or_refspec_error name text (Some branch) = Ok (Some branch)
 
-abbrev pub branch_by : List ℕ → Option (List ℕ) → Result (Option Branch) BranchError
-branch_by name None = Ok None
-branch_by name (Some text) = branch_from name text (branch_of text)
+abbrev pub branch_of_optional_value : List ℕ → Option (List ℕ) → Result (Option Branch) BranchError
+branch_of_optional_value name None = Ok None
+branch_of_optional_value name (Some text) = branch_or_refspec_error name text (parse_branch text)
 
 abbrev pub branch : List ℕ → List Section → Result (Option Branch) BranchError
-branch name sections = branch_by name (value name (codes "branch") sections)
+branch name sections = branch_of_optional_value name (value name (codes "branch") sections)
 
-abbrev pub recurse_by : List ℕ → Result (Option FetchRecurse) (List ℕ) → Result (Option FetchRecurse) FieldError
-recurse_by name (Ok answer) = Ok answer
-recurse_by name (Err text) = Err (field_errors.Invalid fields.FetchRecurseSubmodules name text)
+abbrev pub fetch_recurse_or_field_error : List ℕ → Result (Option FetchRecurse) (List ℕ) → Result (Option FetchRecurse) FieldError
+fetch_recurse_or_field_error name (Ok answer) = Ok answer
+fetch_recurse_or_field_error name (Err text) = Err (field_errors.Invalid fields.FetchRecurseSubmodules name text)
 
 abbrev pub fetch_recurse : List ℕ → List Section → Result (Option FetchRecurse) FieldError
-fetch_recurse name sections = recurse_by name (recurse (boolean (codes "submodule") (Some name) (codes "fetchRecurseSubmodules") sections))
+fetch_recurse name sections = fetch_recurse_or_field_error name (fetch_recurse_of_boolean_or_text (last_boolean_value (codes "submodule") (Some name) (codes "fetchRecurseSubmodules") sections))
 
-abbrev pub ignore_from : List ℕ → List ℕ → Option Ignore → Result (Option Ignore) FieldError
-ignore_from name text None = Err (field_errors.Invalid fields.Ignore name text)
-ignore_from name text (Some ignore) = Ok (Some ignore)
+abbrev pub ignore_or_field_error : List ℕ → List ℕ → Option Ignore → Result (Option Ignore) FieldError
+ignore_or_field_error name text None = Err (field_errors.Invalid fields.Ignore name text)
+ignore_or_field_error name text (Some ignore) = Ok (Some ignore)
 
-abbrev pub ignore_by : List ℕ → Option (List ℕ) → Result (Option Ignore) FieldError
-ignore_by name None = Ok None
-ignore_by name (Some text) = ignore_from name text (ignore_of text)
+abbrev pub ignore_of_optional_value : List ℕ → Option (List ℕ) → Result (Option Ignore) FieldError
+ignore_of_optional_value name None = Ok None
+ignore_of_optional_value name (Some text) = ignore_or_field_error name text (parse_ignore_word text)
 
 abbrev pub ignore : List ℕ → List Section → Result (Option Ignore) FieldError
-ignore name sections = ignore_by name (value name (codes "ignore") sections)
+ignore name sections = ignore_of_optional_value name (value name (codes "ignore") sections)
 
 abbrev pub shallow : List ℕ → List Section → Result (Option Bool) (List ℕ)
-shallow name sections = boolean (codes "submodule") (Some name) (codes "shallow") sections
+shallow name sections = last_boolean_value (codes "submodule") (Some name) (codes "shallow") sections
 
 -- ---- the file
 

@@ -10,26 +10,26 @@ use Rattle.submodule.specs.declared.is_active_platform.Error.{Error}
 use Rattle.submodule.specs.declared.is_active_platform.Error.TheVariants as errors
 
 -- the spec of the value of this number
-abbrev pub SpecGives : ℕ → Result PathSpec Error → Result PathSpec SpecError → Type 0
-SpecGives number (Ok spec) given = given ≡ Ok spec
-SpecGives number (Err (errors.ParsePattern value at)) given = (value ≡ number) × (given ≡ Err (spec_errors.Parse at))
-SpecGives number (Err (errors.NormalizePattern value)) given = (value ≡ number) × (given ≡ Err spec_errors.Normalize)
-SpecGives number (Err errors.OutOfMemory) given = Unit {0}
+abbrev pub SpecResultAgrees : ℕ → Result PathSpec Error → Result PathSpec SpecError → Type 0
+SpecResultAgrees number (Ok spec) given = given ≡ Ok spec
+SpecResultAgrees number (Err (errors.ParsePattern value at)) given = (value ≡ number) × (given ≡ Err (spec_errors.Parse at))
+SpecResultAgrees number (Err (errors.NormalizePattern value)) given = (value ≡ number) × (given ≡ Err spec_errors.Normalize)
+SpecResultAgrees number (Err errors.OutOfMemory) given = Unit {0}
 
 -- a refusal that is not want of memory is the one that is given
-abbrev pub RefusalGives : {T : Type 0} → Error → Result T Error → Type 0
-RefusalGives (errors.ParsePattern value at) given = given ≡ Err (errors.ParsePattern value at)
-RefusalGives (errors.NormalizePattern value) given = given ≡ Err (errors.NormalizePattern value)
-RefusalGives errors.OutOfMemory given = Unit {0}
+abbrev pub ErrorAgreesUnlessOutOfMemory : {T : Type 0} → Error → Result T Error → Type 0
+ErrorAgreesUnlessOutOfMemory (errors.ParsePattern value at) given = given ≡ Err (errors.ParsePattern value at)
+ErrorAgreesUnlessOutOfMemory (errors.NormalizePattern value) given = given ≡ Err (errors.NormalizePattern value)
+ErrorAgreesUnlessOutOfMemory errors.OutOfMemory given = Unit {0}
 
-abbrev pub ActiveGives : {T : Type 0} → Result T Error → Result T Error → Type 0
-ActiveGives (Ok answer) given = given ≡ Ok answer
-ActiveGives (Err e) given = RefusalGives e given
+abbrev pub ActiveResultAgrees : {T : Type 0} → Result T Error → Result T Error → Type 0
+ActiveResultAgrees (Ok answer) given = given ≡ Ok answer
+ActiveResultAgrees (Err e) given = ErrorAgreesUnlessOutOfMemory e given
 
 -- an answer, or the text that is refused
-abbrev pub active_seen : Result Bool ValueError → Result Bool (List ℕ)
-active_seen (Ok answer) = Ok answer
-active_seen (Err e) = Err e.input.now
+abbrev pub active_result_with_error_text : Result Bool ValueError → Result Bool (List ℕ)
+active_result_with_error_text (Ok answer) = Ok answer
+active_result_with_error_text (Err e) = Err e.input.now
 
-abbrev pub state_seen : Bor (List ℕ) × Result Bool ValueError → NameAndActive
-state_seen state = (state.0.now, active_seen state.1)
+abbrev pub name_and_active_of_references : Bor (List ℕ) × Result Bool ValueError → NameAndActive
+name_and_active_of_references state = (state.0.now, active_result_with_error_text state.1)

@@ -10,18 +10,18 @@ use Rattle.submodule.specs.declared.url.Url.{Url}
 use Rattle.submodule.specs.declared.url.UrlError.{UrlError}
 use Rattle.submodule.specs.declared.url.UrlError.TheVariants as url_errors
 
-abbrev pub BranchGives : Result Branch RefspecError → Option Branch → Type 0
-BranchGives (Ok branch) given = given ≡ Some branch
-BranchGives (Err refspec_errors.Invalid) given = given ≡ None
-BranchGives (Err refspec_errors.OutOfMemory) given = Unit {0}
+abbrev pub BranchParseAgrees : Result Branch RefspecError → Option Branch → Type 0
+BranchParseAgrees (Ok branch) given = given ≡ Some branch
+BranchParseAgrees (Err refspec_errors.Invalid) given = given ≡ None
+BranchParseAgrees (Err refspec_errors.OutOfMemory) given = Unit {0}
 
-abbrev pub UpdateGives : Result Update UpdateParseError → Option Update → Type 0
-UpdateGives (Ok update) given = given ≡ Some update
-UpdateGives (Err update_errors.Invalid) given = given ≡ None
-UpdateGives (Err update_errors.OutOfMemory) given = Unit {0}
+abbrev pub UpdateParseAgrees : Result Update UpdateParseError → Option Update → Type 0
+UpdateParseAgrees (Ok update) given = given ≡ Some update
+UpdateParseAgrees (Err update_errors.Invalid) given = given ≡ None
+UpdateParseAgrees (Err update_errors.OutOfMemory) given = Unit {0}
 
-abbrev pub UrlGives : Result Url UrlError → Result Url UrlError → Type 0
-UrlGives (Ok url) given = given ≡ Ok url
-UrlGives (Err url_errors.EmptyHost) given = given ≡ Err url_errors.EmptyHost
-UrlGives (Err url_errors.Port) given = given ≡ Err url_errors.Port
-UrlGives (Err url_errors.OutOfMemory) given = Unit {0}
+abbrev pub UrlParseAgrees : Result Url UrlError → Result Url UrlError → Type 0
+UrlParseAgrees (Ok url) given = given ≡ Ok url
+UrlParseAgrees (Err url_errors.EmptyHost) given = given ≡ Err url_errors.EmptyHost
+UrlParseAgrees (Err url_errors.Port) given = given ≡ Err url_errors.Port
+UrlParseAgrees (Err url_errors.OutOfMemory) given = Unit {0}

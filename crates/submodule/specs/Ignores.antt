@@ -3,8 +3,8 @@ use Rattle.std.specs.Prelude.{ℕ, List, codes, bytes_eq, Option, Some, None, if
 use Rattle.submodule.specs.declared.ignore.Ignore.{Ignore}
 use Rattle.submodule.specs.declared.ignore.Ignore.TheVariants as ignore
 
-abbrev pub ignore_of : List ℕ → Option Ignore
-ignore_of text =
+abbrev pub parse_ignore_word : List ℕ → Option Ignore
+parse_ignore_word text =
     if bytes_eq text (codes "all") then Some ignore.All
     else if bytes_eq text (codes "dirty") then Some ignore.Dirty
     else if bytes_eq text (codes "untracked") then Some ignore.Untracked

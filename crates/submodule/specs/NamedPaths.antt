@@ -11,36 +11,36 @@ abbrev pub named_path : List ℕ → List ℕ → NamedPath
 named_path path name = record { path = path; name = name }
 
 -- a name with its path, if it says one
-abbrev pub paths_of_name : List ℕ → Option (List ℕ) → List NamedPath
-paths_of_name name None = []
-paths_of_name name (Some path) = named_path path name ∷ []
+abbrev pub named_path_if_given : List ℕ → Option (List ℕ) → List NamedPath
+named_path_if_given name None = []
+named_path_if_given name (Some path) = named_path path name ∷ []
 
 -- the names of submodules with the paths that they say, in the order of the names
-abbrev pub named_paths : List Section → List (List ℕ) → List NamedPath
-named_paths sections [] = []
-named_paths sections (name ∷ names) = paths_of_name name (value name (codes "path") sections) ++ named_paths sections names
+abbrev pub named_paths_of_submodules : List Section → List (List ℕ) → List NamedPath
+named_paths_of_submodules sections [] = []
+named_paths_of_submodules sections (name ∷ names) = named_path_if_given name (value name (codes "path") sections) ++ named_paths_of_submodules sections names
 
 -- the path of one is less than another's
-abbrev pub is_before : NamedPath → NamedPath → Bool
-is_before a b = is_lt (slice_cmp nat_cmp a.path b.path)
+abbrev pub is_row_path_before : NamedPath → NamedPath → Bool
+is_row_path_before a b = is_lt (slice_cmp nat_cmp a.path b.path)
 
 -- one has a path that is less than this one
-abbrev pub is_less : List ℕ → NamedPath → Bool
-is_less path p = is_before p (named_path path [])
+abbrev pub is_row_path_below : List ℕ → NamedPath → Bool
+is_row_path_below path p = is_row_path_before p (named_path path [])
 
 -- one has a path that is not greater than this one
-abbrev pub is_at_most : List ℕ → NamedPath → Bool
-is_at_most path p = not (is_before (named_path path []) p)
+abbrev pub is_row_path_at_most : List ℕ → NamedPath → Bool
+is_row_path_at_most path p = not (is_row_path_before (named_path path []) p)
 
 -- one has this path
-abbrev pub is_at_path : List ℕ → NamedPath → Bool
-is_at_path path p = ties is_before (named_path path []) p
+abbrev pub row_has_path : List ℕ → NamedPath → Bool
+row_has_path path p = ties is_row_path_before (named_path path []) p
 
 -- a table has the paths of these names; those of one path stand in the order of the names
-abbrev pub IsTableOf : List NamedPath → List Section → List (List ℕ) → Type 0
-IsTableOf table sections names = IsStableBy is_before (named_paths sections names) table
+abbrev pub IsSortedPathTable : List NamedPath → List Section → List (List ℕ) → Type 0
+IsSortedPathTable table sections names = IsStableBy is_row_path_before (named_paths_of_submodules sections names) table
 
 -- the name of the first
-abbrev pub first_name : List NamedPath → Option (List ℕ)
-first_name [] = None
-first_name (p ∷ paths) = Some p.name
+abbrev pub name_of_first_row : List NamedPath → Option (List ℕ)
+name_of_first_row [] = None
+name_of_first_row (p ∷ paths) = Some p.name

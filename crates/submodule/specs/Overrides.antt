@@ -13,32 +13,32 @@ use Rattle.git_config_lite.specs.declared.metadata.Source.TheVariants.{GitInstal
 use Rattle.git_config_lite.specs.declared.metadata.Metadata.{Metadata}
 use Rattle.git_config_lite.specs.declared.entry.Entry.{Entry}
 use Rattle.git_config_lite.specs.Sections.{Section, Configuration}
-use Rattle.git_config_lite.specs.Lookups.{string}
+use Rattle.git_config_lite.specs.Lookups.{last_string_value}
 use Rattle.git_config_lite.specs.Grammar.{parse_text_sections}
-use Rattle.git_config_lite.specs.Writers.{entry_with, with_sections}
+use Rattle.git_config_lite.specs.Writers.{entry_of_key_and_value, configuration_with_sections}
 use Rattle.submodule.specs.Names.{submodule_sections}
 
 -- names in the order of their bytes, with one more in its place, unless it is there
-abbrev pub in_order : List (List ℕ) → Option (List ℕ) → List (List ℕ)
-in_order names None = names
-in_order names (Some name) = insert_key (slice_cmp nat_cmp) names name
+abbrev pub ordered_names_with_name : List (List ℕ) → Option (List ℕ) → List (List ℕ)
+ordered_names_with_name names None = names
+ordered_names_with_name names (Some name) = insert_key (slice_cmp nat_cmp) names name
 
 -- the names that are in order once these sections are read
-abbrev pub ordered_after : List (List ℕ) → List Section → List (List ℕ)
-ordered_after names [] = names
-ordered_after names (section ∷ sections) = ordered_after (in_order names section.subsection) sections
+abbrev pub ordered_names_after_sections : List (List ℕ) → List Section → List (List ℕ)
+ordered_names_after_sections names [] = names
+ordered_names_after_sections names (section ∷ sections) = ordered_names_after_sections (ordered_names_with_name names section.subsection) sections
 
 -- the names that a configuration tells, in the order of their bytes
-abbrev pub ordered_names : List Section → List (List ℕ)
-ordered_names sections = ordered_after [] (submodule_sections sections)
+abbrev pub ordered_submodule_names : List Section → List (List ℕ)
+ordered_submodule_names sections = ordered_names_after_sections [] (submodule_sections sections)
 
 -- the last value of a key of a submodule
 abbrev pub value : List ℕ → List ℕ → List Section → Option (List ℕ)
-value name key sections = string (codes "submodule") (Some name) key sections
+value name key sections = last_string_value (codes "submodule") (Some name) key sections
 
 -- a key of a submodule with its last value, if it has one
 abbrev pub override : List ℕ → List ℕ → List Section → List Entry
-override name key sections = option_to_list (option_map (entry_with key) (value name key sections))
+override name key sections = option_to_list (option_map (entry_of_key_and_value key) (value name key sections))
 
 -- the keys that override, in the order in which they are written
 abbrev pub overriding_keys : List (List ℕ)
@@ -49,56 +49,56 @@ abbrev pub override_entries : List Section → List ℕ → List Entry
 override_entries sections name = flat_map (λ key. override name key sections) overriding_keys
 
 -- a submodule has some key that overrides
-abbrev pub is_overriding : List Section → List ℕ → Bool
-is_overriding sections name = list_any (λ key. is_some (value name key sections)) overriding_keys
+abbrev pub has_overriding_key : List Section → List ℕ → Bool
+has_overriding_key sections name = list_any (λ key. is_some (value name key sections)) overriding_keys
 
-abbrev pub override_section : Metadata → List Section → List ℕ → Section
-override_section meta sections name =
+abbrev pub override_section_of_submodule : Metadata → List Section → List ℕ → Section
+override_section_of_submodule meta sections name =
     record { name = codes "submodule"; subsection = Some name; meta = meta; entries = override_entries sections name }
 
 -- the section of a name, if it has some key that overrides
-abbrev pub section_for : Metadata → List Section → List ℕ → List Section
-section_for meta sections name = if is_overriding sections name then override_section meta sections name ∷ [] else []
+abbrev pub override_section_if_overriding : Metadata → List Section → List ℕ → List Section
+override_section_if_overriding meta sections name = if has_overriding_key sections name then override_section_of_submodule meta sections name ∷ [] else []
 
 -- the sections of some names
-abbrev pub sections_for : Metadata → List Section → List (List ℕ) → List Section
-sections_for meta sections [] = []
-sections_for meta sections (name ∷ names) = section_for meta sections name ++ sections_for meta sections names
+abbrev pub override_sections_of_names : Metadata → List Section → List (List ℕ) → List Section
+override_sections_of_names meta sections [] = []
+override_sections_of_names meta sections (name ∷ names) = override_section_if_overriding meta sections name ++ override_sections_of_names meta sections names
 
 -- what overrides belong to
-abbrev pub override_source : Source → Source
-override_source Modules = Api
-override_source GitInstallation = GitInstallation
-override_source System = System
-override_source Git = Git
-override_source User = User
-override_source Local = Local
-override_source Env = Env
-override_source Api = Api
+abbrev pub source_with_modules_as_api : Source → Source
+source_with_modules_as_api Modules = Api
+source_with_modules_as_api GitInstallation = GitInstallation
+source_with_modules_as_api System = System
+source_with_modules_as_api Git = Git
+source_with_modules_as_api User = User
+source_with_modules_as_api Local = Local
+source_with_modules_as_api Env = Env
+source_with_modules_as_api Api = Api
 
-abbrev pub override_meta : Metadata → Metadata
-override_meta meta = record { source = override_source meta.source; path = meta.path }
+abbrev pub metadata_of_overrides : Metadata → Metadata
+metadata_of_overrides meta = record { source = source_with_modules_as_api meta.source; path = meta.path }
 
 -- The overrides of a configuration.
 abbrev pub overrides : Configuration → List Section
-overrides config = sections_for (override_meta config.meta) config.sections (ordered_names config.sections)
+overrides config = override_sections_of_names (metadata_of_overrides config.meta) config.sections (ordered_submodule_names config.sections)
 
 -- Submodules with the overrides of a configuration behind them.
-abbrev pub with_overrides : Configuration → Configuration → Configuration
-with_overrides modules config = with_sections modules (modules.sections ++ overrides config)
+abbrev pub modules_with_overrides_appended : Configuration → Configuration → Configuration
+modules_with_overrides_appended modules config = configuration_with_sections modules (modules.sections ++ overrides config)
 
 -- where the sections of `.gitmodules` are read
-abbrev pub modules_meta : Option (List ℕ) → Metadata
-modules_meta path = record { source = Modules; path = path }
+abbrev pub gitmodules_metadata : Option (List ℕ) → Metadata
+gitmodules_metadata path = record { source = Modules; path = path }
 
-abbrev pub configuration : Metadata → List Section → Configuration
-configuration meta sections = record { meta = meta; sections = sections }
+abbrev pub configuration_of_sections : Metadata → List Section → Configuration
+configuration_of_sections meta sections = record { meta = meta; sections = sections }
 
-abbrev pub modules_said : Metadata → Configuration → Result (List Section) ℕ → Result Configuration ℕ
-modules_said meta config (Err line) = Err line
-modules_said meta config (Ok sections) = Ok (with_overrides (configuration meta sections) config)
+abbrev pub modules_with_overrides_or_error : Metadata → Configuration → Result (List Section) ℕ → Result Configuration ℕ
+modules_with_overrides_or_error meta config (Err line) = Err line
+modules_with_overrides_or_error meta config (Ok sections) = Ok (modules_with_overrides_appended (configuration_of_sections meta sections) config)
 
 -- What the text of `.gitmodules` says of submodules beside a configuration, or the number of its first line outside the
 -- grammar of configurations.
-abbrev pub modules_of : Option (List ℕ) → List ℕ → Configuration → Result Configuration ℕ
-modules_of path text config = modules_said (modules_meta path) config (parse_text_sections (modules_meta path) text)
+abbrev pub parse_gitmodules_with_overrides : Option (List ℕ) → List ℕ → Configuration → Result Configuration ℕ
+parse_gitmodules_with_overrides path text config = modules_with_overrides_or_error (gitmodules_metadata path) config (parse_text_sections (gitmodules_metadata path) text)

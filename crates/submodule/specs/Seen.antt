@@ -5,19 +5,19 @@ use Rattle.submodule.specs.declared.url.Url.{Url}
 use Rattle.submodule.specs.declared.url.UrlError.{UrlError}
 use Rattle.submodule.specs.declared.url_parts.UrlParts.{UrlParts}
 use Rattle.submodule.specs.declared.url_parts.HostAndPort.{HostAndPort}
-use Rattle.submodule.specs.Urls.{Place, place_at}
+use Rattle.submodule.specs.Urls.{HostAndPortText, host_and_port_text}
 
 abbrev pub url_of_parts : UrlParts → Url
 url_of_parts p = record { scheme = p.scheme.now; user = option_copied p.user; password = option_copied p.password; host = option_copied p.host; port = p.port; path = p.path.now }
 
-abbrev pub parsed_url : Result UrlParts UrlError → Result Url UrlError
-parsed_url (Ok p) = Ok (url_of_parts p)
-parsed_url (Err e) = Err e
+abbrev pub url_of_parts_result : Result UrlParts UrlError → Result Url UrlError
+url_of_parts_result (Ok p) = Ok (url_of_parts p)
+url_of_parts_result (Err e) = Err e
 
-abbrev pub host_place : HostAndPort → Place
-host_place p = place_at p.host.now p.port.now
+abbrev pub host_and_port_text_of_parts : HostAndPort → HostAndPortText
+host_and_port_text_of_parts p = host_and_port_text p.host.now p.port.now
 
 -- two parts of a text
-abbrev pub pair : Option (Bor (List ℕ) × Bor (List ℕ)) → Option (List ℕ × List ℕ)
-pair None = None
-pair (Some split) = Some (split.0.now, split.1.now)
+abbrev pub optional_pair_of_references : Option (Bor (List ℕ) × Bor (List ℕ)) → Option (List ℕ × List ℕ)
+optional_pair_of_references None = None
+optional_pair_of_references (Some split) = Some (split.0.now, split.1.now)

@@ -4,14 +4,14 @@ use Rattle.submodule.specs.declared.update.Update.{Update}
 use Rattle.submodule.specs.declared.update.Update.TheVariants as update
 
 -- the text behind a `!`
-abbrev pub command_of : List ℕ → Option Update
-command_of [] = None
-command_of (b ∷ text) = if b == 33 then Some (update.Command text) else None
+abbrev pub parse_update_command : List ℕ → Option Update
+parse_update_command [] = None
+parse_update_command (b ∷ text) = if b == 33 then Some (update.Command text) else None
 
-abbrev pub update_of : List ℕ → Option Update
-update_of text =
+abbrev pub parse_update : List ℕ → Option Update
+parse_update text =
     if bytes_eq text (codes "checkout") then Some update.Checkout
     else if bytes_eq text (codes "rebase") then Some update.Rebase
     else if bytes_eq text (codes "merge") then Some update.Merge
     else if bytes_eq text (codes "none") then Some update.None
-    else command_of text
+    else parse_update_command text

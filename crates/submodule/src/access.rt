@@ -1,6 +1,6 @@
 //! What is said of a submodule.
 ghost use Rattle.std.specs.Prelude.{◌≡◌, ◌⊎◌, ℕ, List, Some, ◌∷◌, option_copied, IfOk, IfErr, IfSome, IsErrOf, IsTrue};
-ghost use Rattle.git_config_lite.specs.Gives.{truth_seen};
+ghost use Rattle.git_config_lite.specs.Gives.{boolean_with_error_text};
 ghost use Rattle.submodule.specs.Overrides as overrides;
 ghost use Rattle.submodule.specs.Access as access;
 ghost use Rattle.submodule.specs.Answers as answers;
@@ -38,10 +38,10 @@ impl File {
     ///
     /// See docs/DECISIONS.md#values-unjudged.
     pub fn path(&self, alloc: Global, name: &[u8]) -> Result<&[u8], path::Error>
-        ensures value { answers.PathGives result (access.path name.now self.now.sections) }
-        ensures inside { IfOk result (λ path. IsTrue (access.is_path path.now)) }
+        ensures value { answers.PathResultAgrees result (access.path name.now self.now.sections) }
+        ensures inside { IfOk result (λ path. IsTrue (access.is_valid_submodule_path path.now)) }
     {
-        path::path_of(alloc, name, self.value(name, b"path"))
+        path::path_of_optional_value(alloc, name, self.value(name, b"path"))
     }
 
     /// Where the submodule is fetched from: the parts of its `url`.
@@ -54,9 +54,9 @@ impl File {
     ///
     /// See docs/DIFFERENCES.md#module-dash.
     pub fn url(&self, alloc: Global, name: &[u8]) -> Result<Url, url::Error>
-        ensures { answers.UrlOfGives result (access.url name.now self.now.sections) }
+        ensures { answers.UrlFieldResultAgrees result (access.url name.now self.now.sections) }
     {
-        url::url_of(alloc, name, self.value(name, b"url"))
+        url::url_of_optional_value(alloc, name, self.value(name, b"url"))
     }
 
     /// How the submodule is brought up to date: its `update`, if it is set. A command is given only
@@ -69,13 +69,14 @@ impl File {
     ///   `.gitmodules`.
     /// - `OutOfMemory` for want of memory.
     pub fn update(&self, alloc: Global, name: &[u8]) -> Result<Option<Update>, update::Error>
-        ensures value { answers.UpdateOfGives result (access.update name.now self.now.sections) }
+        ensures value { answers.UpdateFieldResultAgrees result (access.update name.now
+            self.now.sections) }
         ensures command { IfOk result (λ update. IfSome update
-            (access.IsAllowed (access.found_update name.now self.now.sections))) }
-        ensures forbidden { IfErr result
-            (access.IsForbidden (access.found_update name.now self.now.sections)) }
+            (access.IsAllowedUpdate (access.update_value_and_source name.now self.now.sections))) }
+        ensures forbidden { IfErr result (access.IsForbiddenUpdateError
+            (access.update_value_and_source name.now self.now.sections)) }
     {
-        update::update_of(
+        update::update_of_optional_value(
             alloc,
             name,
             self.config()
@@ -90,9 +91,10 @@ impl File {
     /// - `Refspec` exactly where `Branch::try_from` refuses it, with its refusal.
     /// - `OutOfMemory` for want of memory.
     pub fn branch(&self, alloc: Global, name: &[u8]) -> Result<Option<Branch>, branch::Error>
-        ensures { answers.BranchOfGives result (access.branch name.now self.now.sections) }
+        ensures { answers.BranchFieldResultAgrees result (access.branch name.now
+            self.now.sections) }
     {
-        branch::branch_of(alloc, name, self.value(name, b"branch"))
+        branch::branch_of_optional_value(alloc, name, self.value(name, b"branch"))
     }
 
     /// Whether a fetch goes on into the submodule: its `fetchRecurseSubmodules`, if it is set.
@@ -106,13 +108,14 @@ impl File {
         alloc: Global,
         name: &[u8],
     ) -> Result<Option<FetchRecurse>, FieldError>
-        ensures { answers.FieldGives result (access.fetch_recurse name.now self.now.sections) }
+        ensures { answers.FieldResultAgrees result (access.fetch_recurse name.now
+            self.now.sections) }
     {
         let said = FetchRecurse::new(
             self.config()
                 .boolean(b"submodule", Some(name), b"fetchRecurseSubmodules"),
         );
-        field::recurse_of(alloc, name, said)
+        field::fetch_recurse_or_field_error(alloc, name, said)
     }
 
     /// Which changes of the submodule a status leaves out: its `ignore`, if it is set.
@@ -122,15 +125,15 @@ impl File {
     /// - `Invalid` exactly where it is none of the words.
     /// - `OutOfMemory` for want of memory.
     pub fn ignore(&self, alloc: Global, name: &[u8]) -> Result<Option<Ignore>, FieldError>
-        ensures { answers.FieldGives result (access.ignore name.now self.now.sections) }
+        ensures { answers.FieldResultAgrees result (access.ignore name.now self.now.sections) }
     {
-        field::ignore_of(alloc, name, self.value(name, b"ignore"))
+        field::ignore_of_optional_value(alloc, name, self.value(name, b"ignore"))
     }
 
     /// Whether only the newest commit of the submodule is fetched: its `shallow`, if it is set. The
     /// error has the text of a value that is no boolean.
     pub fn shallow(&self, name: &[u8]) -> Result<Option<bool>, ValueError<'_>>
-        ensures { truth_seen result ≡ access.shallow name.now self.now.sections }
+        ensures { boolean_with_error_text result ≡ access.shallow name.now self.now.sections }
     {
         self.config().boolean(b"submodule", Some(name), b"shallow")
     }

@@ -2,15 +2,15 @@
 ghost use Rattle.std.specs.Prelude.{◌≡◌, ◌==◌, codes, count_by, option_copied, IfOk};
 ghost use Rattle.std.specs.List.{list_any};
 ghost use Rattle.submodule.specs.Branches as branches;
-ghost use Rattle.submodule.specs.Gives.{BranchGives};
+ghost use Rattle.submodule.specs.Gives.{BranchParseAgrees};
 ghost use Rattle.submodule.specs.Access as access;
 ghost use Rattle.submodule.specs.Answers as answers;
 ghost use Rattle.submodule.specs.declared.branch.Branch.TheVariants as variants;
 ghost use Rattle.submodule.specs.declared.branch.Error.TheVariants as refusals;
 ghost use Rattle.submodule.specs.declared.branch.RefspecError.TheVariants as refspec_errors;
 
-use crate::shown::shown;
-use crate::text::{before, contains};
+use crate::shown::lossy_text_of_bytes;
+use crate::text::{contains, text_before_first_occurrence};
 use gitbase_core::{Bytes, OutOfMemory};
 use std::alloc::Global;
 
@@ -49,7 +49,7 @@ impl From<OutOfMemory> for RefspecError {
 #[derive(Debug, Drop, PartialEq, Eq, thiserror::Error)]
 pub enum Error {
     /// Its value names none.
-    #[error("The value '{}' of the 'branch' field of submodule '{}' couldn't be turned into a valid fetch refspec", shown(.actual), shown(.submodule))]
+    #[error("The value '{}' of the 'branch' field of submodule '{}' couldn't be turned into a valid fetch refspec", lossy_text_of_bytes(.actual), lossy_text_of_bytes(.submodule))]
     Refspec {
         /// The name of the submodule.
         submodule: Bytes,
@@ -97,17 +97,17 @@ impl Branch {
     ///
     /// See docs/DIFFERENCES.md#gix-branch.
     pub fn try_from(alloc: Global, value: &[u8]) -> Result<Branch, RefspecError>
-        ensures { BranchGives result (branches.branch_of value.now) }
+        ensures { BranchParseAgrees result (branches.parse_branch value.now) }
     {
         if value == b".".as_slice() {
             return Ok(Branch::CurrentInSuperproject);
         }
-        named(alloc, refspec_source(value))
+        branch_of_refspec_source(alloc, refspec_source(value))
     }
 }
 
-fn without_plus(text: &[u8]) -> &[u8]
-    ensures { result.now ≡ branches.without_plus text.now }
+fn without_leading_plus(text: &[u8]) -> &[u8]
+    ensures { result.now ≡ branches.without_leading_plus text.now }
 {
     match text {
         [b'+', after @ ..] => after,
@@ -122,58 +122,58 @@ fn without_plus(text: &[u8]) -> &[u8]
 fn refspec_source(text: &[u8]) -> &[u8]
     ensures { result.now ≡ branches.refspec_source text.now }
 {
-    before(b':', without_plus(text))
+    text_before_first_occurrence(b':', without_leading_plus(text))
 }
 
 /// The branch of a name.
-fn named(alloc: Global, name: &[u8]) -> Result<Branch, RefspecError>
-    ensures { BranchGives result (branches.branch_named name.now) }
+fn branch_of_refspec_source(alloc: Global, name: &[u8]) -> Result<Branch, RefspecError>
+    ensures { BranchParseAgrees result (branches.branch_of_refspec_source name.now) }
 {
     if let [] = name {
         return Ok(Branch::default_branch(alloc)?);
     }
-    if is_bad_name(name) {
+    if is_invalid_ref_name(name) {
         return Err(RefspecError::Invalid);
     }
     Ok(Branch::Name(Bytes::from_slice(alloc, name)?))
 }
 
 /// A control byte, a blank, or one of `~^?[\`.
-fn is_bad_byte(byte: u8) -> bool
-    ensures { result ≡ branches.is_bad_byte byte }
+fn is_forbidden_ref_name_byte(byte: u8) -> bool
+    ensures { result ≡ branches.is_forbidden_ref_name_byte byte }
 {
     byte <= b' ' || matches!(byte, 0x7f | b'~' | b'^' | b'?' | b'[' | b'\\')
 }
 
-fn has_bad_byte(name: &[u8]) -> bool
-    ensures { result ≡ list_any branches.is_bad_byte name.now }
+fn has_forbidden_ref_name_byte(name: &[u8]) -> bool
+    ensures { result ≡ list_any branches.is_forbidden_ref_name_byte name.now }
 {
-    name.iter().any(|byte| is_bad_byte(*byte))
+    name.iter().any(|byte| is_forbidden_ref_name_byte(*byte))
 }
 
 /// `..`, `@{`, `//`, or a component behind a slash that begins with a dot.
-fn has_bad_pair(name: &[u8]) -> bool
-    ensures { result ≡ branches.has_bad_pair name.now }
+fn has_forbidden_ref_name_part(name: &[u8]) -> bool
+    ensures { result ≡ branches.has_forbidden_ref_name_part name.now }
 {
     contains(b"..", name) || contains(b"@{", name) || contains(b"//", name) || contains(b"/.", name)
 }
 
 /// A slash or a dot at the start.
-fn has_bad_start(name: &[u8]) -> bool
-    ensures { result ≡ branches.has_bad_start name.now }
+fn has_forbidden_ref_name_start(name: &[u8]) -> bool
+    ensures { result ≡ branches.has_forbidden_ref_name_start name.now }
 {
     name.starts_with(b"/") || name.starts_with(b".")
 }
 
 /// A slash, a dot or `.lock` at the end.
 /// See docs/DIFFERENCES.md#branch-lock.
-fn has_bad_end(name: &[u8]) -> bool
-    ensures { result ≡ branches.has_bad_end name.now }
+fn has_forbidden_ref_name_end(name: &[u8]) -> bool
+    ensures { result ≡ branches.has_forbidden_ref_name_end name.now }
 {
     name.ends_with(b"/") || name.ends_with(b".") || name.ends_with(b".lock")
 }
 
-fn star_count(name: &[u8]) -> usize
+fn count_of_stars(name: &[u8]) -> usize
     ensures { result ≡ count_by (λ b. b == 42) name.now }
 {
     name.iter().filter(|byte| **byte == b'*').count()
@@ -182,20 +182,24 @@ fn star_count(name: &[u8]) -> usize
 fn has_several_stars(name: &[u8]) -> bool
     ensures { result ≡ branches.has_several_stars name.now }
 {
-    star_count(name) >= 2
+    count_of_stars(name) >= 2
 }
 
-fn is_bad_name(name: &[u8]) -> bool
-    ensures { result ≡ branches.is_bad_name name.now }
+fn is_invalid_ref_name(name: &[u8]) -> bool
+    ensures { result ≡ branches.is_invalid_ref_name name.now }
 {
-    has_bad_byte(name)
-        || has_bad_pair(name)
-        || has_bad_start(name)
-        || has_bad_end(name)
+    has_forbidden_ref_name_byte(name)
+        || has_forbidden_ref_name_part(name)
+        || has_forbidden_ref_name_start(name)
+        || has_forbidden_ref_name_end(name)
         || has_several_stars(name)
 }
 
-fn refused(alloc: Global, name: &[u8], value: &[u8]) -> Result<Error, OutOfMemory>
+fn refspec_error_of_submodule(
+    alloc: Global,
+    name: &[u8],
+    value: &[u8],
+) -> Result<Error, OutOfMemory>
     ensures { IfOk result (λ e. e ≡ refusals.Refspec name.now value.now refspec_errors.Invalid) }
 {
     Ok(Error::Refspec {
@@ -206,19 +210,20 @@ fn refused(alloc: Global, name: &[u8], value: &[u8]) -> Result<Error, OutOfMemor
 }
 
 /// The branch that a value names, if there is one.
-pub(crate) fn branch_of(
+pub(crate) fn branch_of_optional_value(
     alloc: Global,
     name: &[u8],
     value: Option<&[u8]>,
 ) -> Result<Option<Branch>, Error>
-    ensures { answers.BranchOfGives result (access.branch_by name.now (option_copied value.entry)) }
+    ensures { answers.BranchFieldResultAgrees result (access.branch_of_optional_value name.now
+        (option_copied value.entry)) }
 {
     let Some(value) = value else {
         return Ok(None);
     };
     match Branch::try_from(alloc, value) {
         Ok(branch) => Ok(Some(branch)),
-        Err(RefspecError::Invalid) => Err(refused(alloc, name, value)?),
+        Err(RefspecError::Invalid) => Err(refspec_error_of_submodule(alloc, name, value)?),
         Err(RefspecError::OutOfMemory) => Err(Error::OutOfMemory),
     }
 }

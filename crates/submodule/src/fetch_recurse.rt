@@ -1,6 +1,6 @@
 //! Whether a fetch goes on into a submodule.
 ghost use Rattle.std.specs.Prelude.{◌≡◌};
-ghost use Rattle.git_config_lite.specs.Gives.{truth_seen};
+ghost use Rattle.git_config_lite.specs.Gives.{boolean_with_error_text};
 ghost use Rattle.submodule.specs.Recursions as recursions;
 
 use git_config_lite::ValueError;
@@ -25,7 +25,8 @@ impl FetchRecurse {
     pub fn new<'a>(
         boolean: Result<Option<bool>, ValueError<'a>>,
     ) -> Result<Option<FetchRecurse>, &'a [u8]>
-        ensures { recursions.recurse_seen result ≡ recursions.recurse (truth_seen boolean.entry) }
+        ensures { recursions.fetch_recurse_result_of_reference result
+            ≡ recursions.fetch_recurse_of_boolean_or_text (boolean_with_error_text boolean.entry) }
     {
         match boolean {
             Ok(None) => Ok(None),

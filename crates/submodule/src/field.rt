@@ -1,13 +1,13 @@
 //! The fields that are one of some words.
 ghost use Rattle.std.specs.Prelude.{◌≡◌, option_copied, IfOk};
 ghost use Rattle.submodule.specs.Access as access;
-ghost use Rattle.submodule.specs.Recursions.{recurse_seen};
+ghost use Rattle.submodule.specs.Recursions.{fetch_recurse_result_of_reference};
 ghost use Rattle.submodule.specs.Answers as answers;
 ghost use Rattle.submodule.specs.declared.field.FieldError.TheVariants as errors;
 
 use crate::fetch_recurse::FetchRecurse;
 use crate::ignore::Ignore;
-use crate::shown::shown;
+use crate::shown::lossy_text_of_bytes;
 use gitbase_core::{Bytes, OutOfMemory};
 use std::alloc::Global;
 use std::fmt;
@@ -35,7 +35,7 @@ impl fmt::Display for FieldName {
 #[derive(Debug, Drop, PartialEq, Eq, thiserror::Error)]
 pub enum FieldError {
     /// Its value is none of the words.
-    #[error("The '{}' field of submodule '{}' was invalid: '{}'", .field, shown(.submodule), shown(.actual))]
+    #[error("The '{}' field of submodule '{}' was invalid: '{}'", .field, lossy_text_of_bytes(.submodule), lossy_text_of_bytes(.actual))]
     Invalid {
         /// Which of the keys it is.
         field: FieldName,
@@ -76,12 +76,13 @@ fn invalid(
 }
 
 /// What a value of `ignore` says, if there is one.
-pub(crate) fn ignore_of(
+pub(crate) fn ignore_of_optional_value(
     alloc: Global,
     name: &[u8],
     value: Option<&[u8]>,
 ) -> Result<Option<Ignore>, FieldError>
-    ensures { answers.FieldGives result (access.ignore_by name.now (option_copied value.entry)) }
+    ensures { answers.FieldResultAgrees result (access.ignore_of_optional_value name.now
+        (option_copied value.entry)) }
 {
     let Some(value) = value else {
         return Ok(None);
@@ -93,12 +94,13 @@ pub(crate) fn ignore_of(
 }
 
 /// What a value of `fetchRecurseSubmodules` says, or that it is none of the words.
-pub(crate) fn recurse_of(
+pub(crate) fn fetch_recurse_or_field_error(
     alloc: Global,
     name: &[u8],
     said: Result<Option<FetchRecurse>, &[u8]>,
 ) -> Result<Option<FetchRecurse>, FieldError>
-    ensures { answers.FieldGives result (access.recurse_by name.now (recurse_seen said.entry)) }
+    ensures { answers.FieldResultAgrees result (access.fetch_recurse_or_field_error name.now
+        (fetch_recurse_result_of_reference said.entry)) }
 {
     match said {
         Ok(answer) => Ok(answer),

@@ -1,17 +1,17 @@
 //! What is known of submodules: `.gitmodules`, and the configuration that overrides it.
 ghost use Rattle.std.specs.Prelude.{◌≡◌, bytes_eq, option_copied, OnOk, OnErr, IfOk};
 ghost use Rattle.std.specs.List.{IsDistinct};
-ghost use Rattle.submodule.specs.Names.{module_names};
+ghost use Rattle.submodule.specs.Names.{submodule_names_of_gitmodules};
 ghost use Rattle.submodule.specs.Overrides as overrides;
 ghost use Rattle.submodule.specs.Access as access;
 ghost use Rattle.submodule.specs.Answers as answers;
 ghost use Rattle.submodule.specs.Active as active;
-ghost use Rattle.submodule.specs.ActiveSeen.{ActiveGives};
+ghost use Rattle.submodule.specs.ActiveSeen.{ActiveResultAgrees};
 
 use crate::is_active_platform::IsActivePlatform;
-use crate::names::{Names, names_of};
-use crate::overrides::overrides_of;
-use crate::path::has_path;
+use crate::names::{Names, submodule_names_of_gitmodules};
+use crate::overrides::override_config_of_all_submodules;
+use crate::path::is_value_this_valid_path;
 use crate::path_table::PathTable;
 use crate::states::NamesAndActive;
 use crate::{init, is_active_platform};
@@ -36,15 +36,16 @@ pub struct File {
 impl Model for File {
     ghost use Rattle.std.specs.Prelude.{◌≡◌, IfSome};
     ghost use Rattle.git_config_lite.specs.Sections.{Configuration};
-    ghost use Rattle.submodule.specs.Names.{module_names};
-    ghost use Rattle.submodule.specs.NamedPaths.{IsTableOf};
+    ghost use Rattle.submodule.specs.Names.{submodule_names_of_gitmodules};
+    ghost use Rattle.submodule.specs.NamedPaths.{IsSortedPathTable};
 
     ghost Value = { Configuration };
 
     ghost view = { λ file. file.config };
 
-    ghost invariant = { λ file. (file.names.items ≡ module_names file.config.sections)
-        × IfSome file.table (λ table. IsTableOf table file.config.sections file.names.items) };
+    ghost invariant = { λ file. (file.names.items ≡ submodule_names_of_gitmodules
+        file.config.sections)
+        × IfSome file.table (λ table. IsSortedPathTable table file.config.sections file.names.items) };
 }
 
 impl File {
@@ -64,25 +65,27 @@ impl File {
         path: Option<PathText>,
         config: &config::File,
     ) -> Result<File, init::Error>
-        ensures { answers.FileGives result (overrides.modules_of path bytes.now config.now) }
+        ensures { answers.FileResultAgrees result (overrides.parse_gitmodules_with_overrides path
+            bytes.now config.now) }
     {
         let meta = Metadata {
             source: Source::Modules,
             path,
         };
         let modules = config::File::from_bytes(alloc, bytes, meta)?;
-        Ok(File::with_overrides(alloc, modules, config)?)
+        Ok(File::from_modules_with_overrides(alloc, modules, config)?)
     }
 
     /// A file of `.gitmodules` with the overrides of a configuration behind it.
-    fn with_overrides(
+    fn from_modules_with_overrides(
         alloc: Global,
         modules: config::File,
         config: &config::File,
     ) -> Result<File, OutOfMemory>
-        ensures { IfOk result (λ file. file ≡ overrides.with_overrides modules config.now) }
+        ensures { IfOk result (λ file. file ≡ overrides.modules_with_overrides_appended modules
+            config.now) }
     {
-        let names = names_of(alloc, &modules)?;
+        let names = submodule_names_of_gitmodules(alloc, &modules)?;
         let mut file = File {
             config: modules,
             names,
@@ -106,10 +109,11 @@ impl File {
         alloc: Global,
         config: &config::File,
     ) -> Result<(), OutOfMemory>
-        ensures appended { OnOk result (self.new ≡ overrides.with_overrides self.old config.now) }
+        ensures appended { OnOk result (self.new ≡ overrides.modules_with_overrides_appended
+            self.old config.now) }
         ensures refused { OnErr result (self.new ≡ self.old) }
     {
-        let overrides = overrides_of(alloc, config)?;
+        let overrides = override_config_of_all_submodules(alloc, config)?;
         self.table = None;
         self.config.append(alloc, overrides)?;
         self.table = PathTable::new(alloc, &self.config, &self.names).ok();
@@ -153,7 +157,7 @@ impl File {
     /// each once, in the order in which they first come. A submodule that only the configuration
     /// names is none.
     pub fn names(&self) -> Names<'_>
-        ensures names { result ≡ module_names self.now.sections }
+        ensures names { result ≡ submodule_names_of_gitmodules self.now.sections }
         ensures distinct { IsDistinct bytes_eq result }
     {
         Names::new(&self.names)
@@ -170,13 +174,18 @@ impl File {
             (λ name. option_copied name ≡ access.name_by_path relative_path.now self.now.sections) }
     {
         match &self.table {
-            Some(table) => table.name_of(alloc, relative_path, &self.config, &self.names),
-            None => self.first_name_of(alloc, relative_path),
+            Some(table) => table.find_name_by_valid_path(
+                alloc,
+                relative_path,
+                &self.config,
+                &self.names,
+            ),
+            None => self.first_name_with_path(alloc, relative_path),
         }
     }
 
     /// The same, by going over the names.
-    fn first_name_of(
+    fn first_name_with_path(
         &self,
         alloc: Global,
         relative_path: &[u8],
@@ -186,7 +195,7 @@ impl File {
     {
         for name in self.names() {
             let value = self.config.string(b"submodule", Some(name), b"path");
-            if has_path(alloc, relative_path, value)? {
+            if is_value_this_valid_path(alloc, relative_path, value)? {
                 return Ok(Some(name));
             }
         }
@@ -211,7 +220,8 @@ impl File {
         config: &config::File,
         defaults: Defaults,
     ) -> Result<IsActivePlatform, is_active_platform::Error>
-        ensures { ActiveGives result (active.platform defaults.ignore_case config.now.sections) }
+        ensures { ActiveResultAgrees result (active.active_specs_or_error_of_config
+            defaults.ignore_case config.now.sections) }
     {
         IsActivePlatform::new(alloc, config, defaults)
     }
@@ -228,8 +238,8 @@ impl File {
         config: &'a config::File,
         defaults: Defaults,
     ) -> Result<NamesAndActive<'a>, is_active_platform::Error>
-        ensures { ActiveGives result
-            (active.module_states defaults.ignore_case self.now.sections config.now.sections) }
+        ensures { ActiveResultAgrees result (active.submodules_with_activity defaults.ignore_case
+            self.now.sections config.now.sections) }
     {
         let platform = IsActivePlatform::new(alloc, config, defaults)?;
         Ok(NamesAndActive::new(self.names(), platform, config))

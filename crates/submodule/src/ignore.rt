@@ -1,6 +1,6 @@
 //! Which changes of a submodule a status leaves out.
 ghost use Rattle.std.specs.Prelude.{◌≡◌, ok_or};
-ghost use Rattle.submodule.specs.Ignores.{ignore_of};
+ghost use Rattle.submodule.specs.Ignores.{parse_ignore_word};
 
 /// Which changes of a submodule a status leaves out, as `submodule.NAME.ignore` of gitmodules(5).
 #[derive(Clone, Copy, Debug, Default, PartialEq, Eq, PartialOrd, Ord, Hash)]
@@ -20,7 +20,7 @@ pub enum Ignore {
 impl TryFrom<&[u8]> for Ignore {
     type Error = ();
 
-    ghost try_from_gives = { λ value result. result ≡ ok_or (ignore_of value.now) tt };
+    ghost try_from_gives = { λ value result. result ≡ ok_or (parse_ignore_word value.now) tt };
 
     fn try_from(value: &[u8]) -> Result<Ignore, ()> {
         if value == b"all".as_slice() {

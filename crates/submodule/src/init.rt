@@ -29,9 +29,9 @@ impl From<OutOfMemory> for Error {
 
 impl From<ParseError> for Error {
     ghost use Rattle.std.specs.Prelude.{◌≡◌};
-    ghost use Rattle.submodule.specs.InitErrors.{init_error};
+    ghost use Rattle.submodule.specs.InitErrors.{init_error_of_parse_error};
 
-    ghost from_gives = { λ refused e. e ≡ init_error refused };
+    ghost from_gives = { λ refused e. e ≡ init_error_of_parse_error refused };
 
     fn from(refused: ParseError) -> Error {
         match refused {

@@ -63,8 +63,14 @@ impl Model for IsActivePlatform {
 }
 
 /// The spec of a value of `submodule.active`, of which this is the number.
-fn spec_of(alloc: Global, number: usize, text: &[u8], defaults: Defaults) -> Result<Spec, Error>
-    ensures { seen.SpecGives number result (texts.spec_of defaults.ignore_case text.now) }
+fn parse_numbered_active_spec(
+    alloc: Global,
+    number: usize,
+    text: &[u8],
+    defaults: Defaults,
+) -> Result<Spec, Error>
+    ensures { seen.SpecResultAgrees number result (texts.parse_path_spec defaults.ignore_case
+        text.now) }
 {
     match Spec::parse(alloc, text, defaults) {
         Ok(spec) => Ok(spec),
@@ -77,14 +83,19 @@ fn spec_of(alloc: Global, number: usize, text: &[u8], defaults: Defaults) -> Res
 /// The specs of a configuration.
 /// See docs/DECISIONS.md#active-checked-whole.
 /// See docs/DIFFERENCES.md#gix-active-order.
-fn specs_of(alloc: Global, config: &config::File, defaults: Defaults) -> Result<Vec<Spec>, Error>
-    ensures { let values = active.active_values config.now.sections in
-        let given = active.specs_after defaults.ignore_case [] values in
-        MatchResult result (λ specs. given ≡ Ok specs.items) (λ e. seen.RefusalGives e given) }
+fn active_specs_of_config(
+    alloc: Global,
+    config: &config::File,
+    defaults: Defaults,
+) -> Result<Vec<Spec>, Error>
+    ensures { let values = active.submodule_active_values config.now.sections in
+        let given = active.parse_active_specs_after defaults.ignore_case [] values in
+        MatchResult result (λ specs. given ≡ Ok specs.items) (λ e. seen.ErrorAgreesUnlessOutOfMemory
+        e given) }
 {
     let mut specs = Vec::new(alloc);
     for text in config.strings(b"submodule", None, b"active") {
-        let spec = spec_of(alloc, specs.len() + 1, text, defaults)?;
+        let spec = parse_numbered_active_spec(alloc, specs.len() + 1, text, defaults)?;
         specs.push(spec)?;
     }
     Ok(specs)
@@ -93,7 +104,7 @@ fn specs_of(alloc: Global, config: &config::File, defaults: Defaults) -> Result<
 impl IsActivePlatform {
     /// The specs of `submodule.active`, if that has values.
     fn from_specs(specs: Vec<Spec>) -> IsActivePlatform
-        ensures { result ≡ active.some_specs specs.items }
+        ensures { result ≡ active.specs_unless_empty specs.items }
     {
         if specs.is_empty() {
             return IsActivePlatform { search: None };
@@ -109,20 +120,23 @@ impl IsActivePlatform {
         config: &config::File,
         defaults: Defaults,
     ) -> Result<IsActivePlatform, Error>
-        ensures { seen.ActiveGives result
-            (active.platform defaults.ignore_case config.now.sections) }
+        ensures { seen.ActiveResultAgrees result
+            (active.active_specs_or_error_of_config defaults.ignore_case config.now.sections) }
     {
-        let specs = specs_of(alloc, config, defaults)?;
+        let specs = active_specs_of_config(alloc, config, defaults)?;
         Ok(IsActivePlatform::from_specs(specs))
     }
 
     /// Whether a submodule is active if its own value says nothing.
     /// See docs/DIFFERENCES.md#module-active-by-name.
-    fn is_active_by_specs(&self, config: &config::File, name: &[u8]) -> bool
-        ensures { result ≡ active.active_by_specs self.now name.now config.now.sections }
+    fn is_active_by_specs_or_url(&self, config: &config::File, name: &[u8]) -> bool
+        ensures { result ≡ active.is_active_by_specs_or_url self.now name.now config.now.sections }
     {
         match &self.search {
-            Some(search) => is_included(search.pattern_matching_relative_path(name, Some(true))),
+            Some(search) => is_matched_and_not_excluded(search.pattern_matching_relative_path(
+                name,
+                Some(true),
+            )),
             None => config.string(b"submodule", Some(name), b"url").is_some(),
         }
     }
@@ -141,21 +155,21 @@ impl IsActivePlatform {
         config: &'c config::File,
         name: &[u8],
     ) -> Result<bool, ValueError<'c>>
-        ensures answer { seen.active_seen result
+        ensures answer { seen.active_result_with_error_text result
             ≡ active.is_active self.old config.now.sections name.now }
         ensures same { self.new ≡ self.old }
     {
         match config.boolean(b"submodule", Some(name), b"active") {
             Ok(Some(answer)) => Ok(answer),
-            Ok(None) => Ok(self.is_active_by_specs(config, name)),
+            Ok(None) => Ok(self.is_active_by_specs_or_url(config, name)),
             Err(error) => Err(error),
         }
     }
 }
 
 /// Whether a name is matched and not excluded.
-fn is_included(found: Option<pathspec::Match>) -> bool
-    ensures { result ≡ active.is_included found }
+fn is_matched_and_not_excluded(found: Option<pathspec::Match>) -> bool
+    ensures { result ≡ active.is_matched_and_not_excluded found }
 {
     match found {
         Some(found) => !found.is_excluded(),

@@ -3,7 +3,7 @@ ghost use Rattle.std.specs.Prelude.{◌≡◌, IfOk, option_copied, OnErr, OnOk}
 ghost use Rattle.std.specs.Iterator.{YieldsFirstRef, item_count};
 ghost use Rattle.submodule.specs.Names as names;
 
-use crate::update::is_modules;
+use crate::update::is_gitmodules_source;
 use git_config_lite as config;
 use git_config_lite::Section;
 use gitbase_core::{Bytes, OutOfMemory};
@@ -53,10 +53,10 @@ impl<'a> Iterator for Names<'a> {
 
 /// The name that a section tells, if it is one of `.gitmodules`.
 /// See docs/DIFFERENCES.md#module-odd-name.
-fn gitmodules_name(section: &Section) -> Option<&[u8]>
-    ensures { option_copied result ≡ names.gitmodules_name section.now }
+fn name_if_gitmodules_section(section: &Section) -> Option<&[u8]>
+    ensures { option_copied result ≡ names.name_if_gitmodules_section section.now }
 {
-    if is_modules(section.meta().source) {
+    if is_gitmodules_source(section.meta().source) {
         section.subsection_name()
     } else {
         None
@@ -75,18 +75,23 @@ struct Known {
 
 impl Model for Known {
     ghost use Rattle.std.specs.Prelude.{ℕ, List};
-    ghost use Rattle.submodule.specs.Names.{AreSame};
+    ghost use Rattle.submodule.specs.Names.{HaveSameTexts};
 
     ghost Value = { List (List ℕ) };
 
     ghost view = { λ known. known.names.items };
 
-    ghost invariant = { λ known. AreSame known.sorted.keys known.names.items };
+    ghost invariant = { λ known. HaveSameTexts known.sorted.keys known.names.items };
 }
 
 /// The names with one more, unless it is among them.
-fn with_name(alloc: Global, known: Known, name: Option<&[u8]>) -> Result<Known, OutOfMemory>
-    ensures { IfOk result (λ more. more ≡ names.with_name known (option_copied name.entry)) }
+fn names_with_name_added_once(
+    alloc: Global,
+    known: Known,
+    name: Option<&[u8]>,
+) -> Result<Known, OutOfMemory>
+    ensures { IfOk result (λ more. more ≡ names.names_with_name_added_once known
+        (option_copied name.entry)) }
 {
     let Some(name) = name else {
         return Ok(known);
@@ -105,15 +110,19 @@ fn with_name(alloc: Global, known: Known, name: Option<&[u8]>) -> Result<Known, 
 
 /// The names that `.gitmodules` tells.
 /// See docs/DECISIONS.md#names-of-modules.
-pub(crate) fn names_of(alloc: Global, config: &config::File) -> Result<Vec<Bytes>, OutOfMemory>
-    ensures { IfOk result (λ made. made.items ≡ names.module_names config.now.sections) }
+pub(crate) fn submodule_names_of_gitmodules(
+    alloc: Global,
+    config: &config::File,
+) -> Result<Vec<Bytes>, OutOfMemory>
+    ensures { IfOk result (λ made. made.items ≡ names.submodule_names_of_gitmodules
+        config.now.sections) }
 {
     let mut known = Known {
         names: Vec::new(alloc),
         sorted: BTreeSet::new(alloc),
     };
     for section in config.sections_by_name(b"submodule") {
-        known = with_name(alloc, known, gitmodules_name(section))?;
+        known = names_with_name_added_once(alloc, known, name_if_gitmodules_section(section))?;
     }
     let Known {
         names,

@@ -11,8 +11,8 @@ use std::alloc::Global;
 use std::collections::BTreeSet;
 
 /// What overrides belong to.
-fn override_source(source: Source) -> Source
-    ensures { result ≡ overrides.override_source source }
+fn source_with_modules_as_api(source: Source) -> Source
+    ensures { result ≡ overrides.source_with_modules_as_api source }
 {
     match source {
         Source::Modules => Source::Api,
@@ -20,7 +20,10 @@ fn override_source(source: Source) -> Source
     }
 }
 
-fn copied_path(alloc: Global, path: &Option<PathText>) -> Result<Option<PathText>, OutOfMemory>
+fn copy_optional_path(
+    alloc: Global,
+    path: &Option<PathText>,
+) -> Result<Option<PathText>, OutOfMemory>
     ensures { IfOk result (λ copy. copy ≡ path.now) }
 {
     match path {
@@ -30,23 +33,23 @@ fn copied_path(alloc: Global, path: &Option<PathText>) -> Result<Option<PathText
 }
 
 /// Where overrides are read.
-fn override_meta(alloc: Global, meta: &Metadata) -> Result<Metadata, OutOfMemory>
-    ensures { IfOk result (λ made. made ≡ overrides.override_meta meta.now) }
+fn metadata_of_overrides(alloc: Global, meta: &Metadata) -> Result<Metadata, OutOfMemory>
+    ensures { IfOk result (λ made. made ≡ overrides.metadata_of_overrides meta.now) }
 {
     Ok(Metadata {
-        source: override_source(meta.source),
-        path: copied_path(alloc, &meta.path)?,
+        source: source_with_modules_as_api(meta.source),
+        path: copy_optional_path(alloc, &meta.path)?,
     })
 }
 
 /// Names in the order of their bytes, with one more in its place, unless it is there.
-fn in_order(
+fn ordered_names_with_name(
     alloc: Global,
     mut names: BTreeSet<Bytes>,
     name: Option<&[u8]>,
 ) -> Result<BTreeSet<Bytes>, OutOfMemory>
-    ensures { IfOk result
-        (λ more. more.keys ≡ overrides.in_order names.keys (option_copied name.entry)) }
+    ensures { IfOk result (λ more. more.keys ≡ overrides.ordered_names_with_name names.keys
+        (option_copied name.entry)) }
 {
     let Some(name) = name else {
         return Ok(names);
@@ -56,32 +59,36 @@ fn in_order(
 }
 
 /// The names that a configuration tells, in the order of their bytes.
-fn ordered_names(alloc: Global, config: &config::File) -> Result<BTreeSet<Bytes>, OutOfMemory>
-    ensures { IfOk result (λ made. made.keys ≡ overrides.ordered_names config.now.sections) }
+fn ordered_submodule_names(
+    alloc: Global,
+    config: &config::File,
+) -> Result<BTreeSet<Bytes>, OutOfMemory>
+    ensures { IfOk result (λ made. made.keys ≡ overrides.ordered_submodule_names
+        config.now.sections) }
 {
     let mut names = BTreeSet::new(alloc);
     for section in config.sections_by_name(b"submodule") {
-        names = in_order(alloc, names, section.subsection_name())?;
+        names = ordered_names_with_name(alloc, names, section.subsection_name())?;
     }
     Ok(names)
 }
 
 /// Whether a submodule has a value of a key.
-fn has_key(config: &config::File, name: &[u8], key: &[u8]) -> bool
+fn submodule_has_key(config: &config::File, name: &[u8], key: &[u8]) -> bool
     ensures { result ≡ is_some (overrides.value name.now key.now config.now.sections) }
 {
     config.string(b"submodule", Some(name), key).is_some()
 }
 
 /// Whether a submodule has some key that overrides.
-fn is_overriding(config: &config::File, name: &[u8]) -> bool
-    ensures { result ≡ overrides.is_overriding config.now.sections name.now }
+fn has_overriding_key(config: &config::File, name: &[u8]) -> bool
+    ensures { result ≡ overrides.has_overriding_key config.now.sections name.now }
 {
-    has_key(config, name, b"branch")
-        || has_key(config, name, b"fetchRecurseSubmodules")
-        || has_key(config, name, b"ignore")
-        || has_key(config, name, b"update")
-        || has_key(config, name, b"url")
+    submodule_has_key(config, name, b"branch")
+        || submodule_has_key(config, name, b"fetchRecurseSubmodules")
+        || submodule_has_key(config, name, b"ignore")
+        || submodule_has_key(config, name, b"update")
+        || submodule_has_key(config, name, b"url")
 }
 
 /// Adds a key of a submodule with its last value, if it has one, to the one section that is there.
@@ -107,17 +114,16 @@ fn add(
 /// The override of a submodule, as a configuration of one section or none.
 /// See docs/DECISIONS.md#empty-override.
 /// See docs/DIFFERENCES.md#module-override-without-value.
-fn override_of(
+fn override_config_of_submodule(
     alloc: Global,
     config: &config::File,
     name: &[u8],
 ) -> Result<config::File, OutOfMemory>
-    ensures { IfOk result (λ made. made.sections
-        ≡ overrides.section_for (overrides.override_meta config.now.meta) config.now.sections
-        name.now) }
+    ensures { IfOk result (λ made. made.sections ≡ overrides.override_section_if_overriding
+        (overrides.metadata_of_overrides config.now.meta) config.now.sections name.now) }
 {
-    let mut made = config::File::new(alloc, override_meta(alloc, config.meta())?);
-    if !is_overriding(config, name) {
+    let mut made = config::File::new(alloc, metadata_of_overrides(alloc, config.meta())?);
+    if !has_overriding_key(config, name) {
         return Ok(made);
     }
     made.push_section(alloc, b"submodule", name)?;
@@ -130,16 +136,19 @@ fn override_of(
 }
 
 /// The overrides of a configuration.
-pub(crate) fn overrides_of(
+pub(crate) fn override_config_of_all_submodules(
     alloc: Global,
     config: &config::File,
 ) -> Result<config::File, OutOfMemory>
     ensures { IfOk result (λ made. made.sections ≡ overrides.overrides config.now) }
 {
-    let mut made = config::File::new(alloc, override_meta(alloc, config.meta())?);
-    let names = ordered_names(alloc, config)?;
+    let mut made = config::File::new(alloc, metadata_of_overrides(alloc, config.meta())?);
+    let names = ordered_submodule_names(alloc, config)?;
     for name in &names {
-        made.append(alloc, override_of(alloc, config, name.as_bytes())?)?;
+        made.append(
+            alloc,
+            override_config_of_submodule(alloc, config, name.as_bytes())?,
+        )?;
     }
     Ok(made)
 }

@@ -5,7 +5,7 @@ ghost use Rattle.submodule.specs.Access as access;
 ghost use Rattle.submodule.specs.Answers as answers;
 ghost use Rattle.submodule.specs.declared.path.Error.TheVariants as errors;
 
-use crate::shown::shown;
+use crate::shown::lossy_text_of_bytes;
 use gitbase_core::{Bytes, OutOfMemory, PathText, is_absolute};
 use std::alloc::Global;
 
@@ -13,13 +13,13 @@ use std::alloc::Global;
 #[derive(Debug, Drop, PartialEq, Eq, thiserror::Error)]
 pub enum Error {
     /// Its path is not set, or empty.
-    #[error("The submodule '{}' was missing its 'path' field or it was empty", shown(.submodule))]
+    #[error("The submodule '{}' was missing its 'path' field or it was empty", lossy_text_of_bytes(.submodule))]
     Missing {
         /// The name of the submodule.
         submodule: Bytes,
     },
     /// Its path begins with a slash.
-    #[error("The path '{}' of submodule '{}' needs to be relative", shown(.actual), shown(.submodule))]
+    #[error("The path '{}' of submodule '{}' needs to be relative", lossy_text_of_bytes(.actual), lossy_text_of_bytes(.submodule))]
     Absolute {
         /// The name of the submodule.
         submodule: Bytes,
@@ -27,7 +27,7 @@ pub enum Error {
         actual: Bytes,
     },
     /// Its path leads out of the work tree.
-    #[error("The path '{}' would lead outside of the repository worktree", shown(.actual))]
+    #[error("The path '{}' would lead outside of the repository worktree", lossy_text_of_bytes(.actual))]
     OutsideOfWorktree {
         /// The name of the submodule.
         submodule: Bytes,
@@ -58,7 +58,7 @@ fn missing(alloc: Global, name: &[u8]) -> Result<Error, OutOfMemory>
     })
 }
 
-fn absolute(alloc: Global, name: &[u8], path: &[u8]) -> Result<Error, OutOfMemory>
+fn absolute_path_error(alloc: Global, name: &[u8], path: &[u8]) -> Result<Error, OutOfMemory>
     ensures { IfOk result (λ e. e ≡ errors.Absolute name.now path.now) }
 {
     Ok(Error::Absolute {
@@ -77,7 +77,7 @@ fn outside(alloc: Global, name: &[u8], path: &[u8]) -> Result<Error, OutOfMemory
 }
 
 /// Whether a path leads to a place inside the work tree.
-fn is_inside(alloc: Global, path: &[u8]) -> Result<bool, OutOfMemory>
+fn is_inside_worktree(alloc: Global, path: &[u8]) -> Result<bool, OutOfMemory>
     ensures { IfOk result (λ inside. inside ≡ is_some (normalized path.now)) }
 {
     let path = PathText::from_bytes(alloc, path)?;
@@ -86,8 +86,8 @@ fn is_inside(alloc: Global, path: &[u8]) -> Result<bool, OutOfMemory>
 
 /// Whether a path may be that of a submodule: it is not empty, not absolute, and leads to a place
 /// inside the work tree. See docs/DIFFERENCES.md#module-bad-path.
-pub(crate) fn is_path(alloc: Global, path: &[u8]) -> Result<bool, OutOfMemory>
-    ensures { IfOk result (λ is. is ≡ access.is_path path.now) }
+pub(crate) fn is_valid_submodule_path(alloc: Global, path: &[u8]) -> Result<bool, OutOfMemory>
+    ensures { IfOk result (λ is. is ≡ access.is_valid_submodule_path path.now) }
 {
     if path.is_empty() {
         return Ok(false);
@@ -95,16 +95,17 @@ pub(crate) fn is_path(alloc: Global, path: &[u8]) -> Result<bool, OutOfMemory>
     if is_absolute(path) {
         return Ok(false);
     }
-    is_inside(alloc, path)
+    is_inside_worktree(alloc, path)
 }
 
 /// Whether a value is this path, and one that may be given.
-pub(crate) fn has_path(
+pub(crate) fn is_value_this_valid_path(
     alloc: Global,
     path: &[u8],
     value: Option<&[u8]>,
 ) -> Result<bool, OutOfMemory>
-    ensures { IfOk result (λ has. has ≡ access.has_path path.now (option_copied value.entry)) }
+    ensures { IfOk result (λ has. has ≡ access.is_value_this_valid_path path.now
+        (option_copied value.entry)) }
 {
     let Some(value) = value else {
         return Ok(false);
@@ -112,20 +113,21 @@ pub(crate) fn has_path(
     if value != path {
         return Ok(false);
     }
-    is_path(alloc, value)
+    is_valid_submodule_path(alloc, value)
 }
 
 /// The path that a value says.
-fn check_path_value<'a>(alloc: Global, name: &[u8], value: &'a [u8]) -> Result<&'a [u8], Error>
-    ensures { answers.PathGives result (access.path_by name.now (Some value.now)) }
+fn validate_path_value<'a>(alloc: Global, name: &[u8], value: &'a [u8]) -> Result<&'a [u8], Error>
+    ensures { answers.PathResultAgrees result (access.path_of_optional_value name.now
+        (Some value.now)) }
 {
     if value.is_empty() {
         return Err(missing(alloc, name)?);
     }
     if is_absolute(value) {
-        return Err(absolute(alloc, name, value)?);
+        return Err(absolute_path_error(alloc, name, value)?);
     }
-    if is_inside(alloc, value)? {
+    if is_inside_worktree(alloc, value)? {
         Ok(value)
     } else {
         Err(outside(alloc, name, value)?)
@@ -133,15 +135,16 @@ fn check_path_value<'a>(alloc: Global, name: &[u8], value: &'a [u8]) -> Result<&
 }
 
 /// The path that a value says, if there is one.
-pub(crate) fn path_of<'a>(
+pub(crate) fn path_of_optional_value<'a>(
     alloc: Global,
     name: &[u8],
     value: Option<&'a [u8]>,
 ) -> Result<&'a [u8], Error>
-    ensures { answers.PathGives result (access.path_by name.now (option_copied value.entry)) }
+    ensures { answers.PathResultAgrees result (access.path_of_optional_value name.now
+        (option_copied value.entry)) }
 {
     match value {
-        Some(value) => check_path_value(alloc, name, value),
+        Some(value) => validate_path_value(alloc, name, value),
         None => Err(missing(alloc, name)?),
     }
 }

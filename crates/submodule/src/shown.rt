@@ -3,6 +3,6 @@ use bstr::BStr;
 use gitbase_core::Bytes;
 
 /// Bytes as text, with U+FFFD for what is not UTF-8.
-pub fn shown(bytes: &Bytes) -> BStr<'_> {
+pub fn lossy_text_of_bytes(bytes: &Bytes) -> BStr<'_> {
     BStr::new(bytes.as_bytes())
 }

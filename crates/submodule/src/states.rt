@@ -2,7 +2,7 @@
 ghost use Rattle.std.specs.Prelude.{◌≡◌};
 ghost use Rattle.std.specs.Iterator.{YieldsFirstBy, item_count};
 ghost use Rattle.submodule.specs.Active as active;
-ghost use Rattle.submodule.specs.ActiveSeen.{state_seen};
+ghost use Rattle.submodule.specs.ActiveSeen.{name_and_active_of_references};
 
 use crate::is_active_platform::IsActivePlatform;
 use crate::names::Names;
@@ -48,7 +48,7 @@ impl<'a> NamesAndActive<'a> {
 impl<'a> Iterator for NamesAndActive<'a> {
     type Item = (&'a [u8], Result<bool, ValueError<'a>>);
 
-    ghost next_gives = { YieldsFirstBy state_seen (λ left. left) };
+    ghost next_gives = { YieldsFirstBy name_and_active_of_references (λ left. left) };
 
     ghost remaining = { item_count (λ left. left) };
 

@@ -7,15 +7,15 @@ ghost use Rattle.submodule.specs.Texts as texts;
 use bstr::ByteSlice;
 
 /// Whether a byte stands in a text.
-pub fn has(byte: u8, text: &[u8]) -> bool
-    ensures { result ≡ texts.has byte text.now }
+pub fn contains_byte(byte: u8, text: &[u8]) -> bool
+    ensures { result ≡ texts.contains_byte byte text.now }
 {
     text.iter().any(|other| *other == byte)
 }
 
 /// Where a byte stands first; the length of the text where it does not stand in it.
-pub fn place(byte: u8, text: &[u8]) -> usize
-    ensures value { result ≡ texts.place byte text.now }
+pub fn offset_of_first_occurrence(byte: u8, text: &[u8]) -> usize
+    ensures value { result ≡ texts.offset_of_first_occurrence byte text.now }
     ensures within { result ≤ length text.now }
 {
     match text.find_byte(byte) {
@@ -25,21 +25,21 @@ pub fn place(byte: u8, text: &[u8]) -> usize
 }
 
 /// What stands before the first such byte, or the whole text.
-pub fn before(byte: u8, text: &[u8]) -> &[u8]
-    ensures { result.now ≡ texts.before byte text.now }
+pub fn text_before_first_occurrence(byte: u8, text: &[u8]) -> &[u8]
+    ensures { result.now ≡ texts.text_before_first_occurrence byte text.now }
 {
-    text.split_at(place(byte, text)).0
+    text.split_at(offset_of_first_occurrence(byte, text)).0
 }
 
 /// The first such byte and what is behind it, or nothing.
-pub fn onward(byte: u8, text: &[u8]) -> &[u8]
-    ensures { result.now ≡ texts.onward byte text.now }
+pub fn text_from_first_occurrence(byte: u8, text: &[u8]) -> &[u8]
+    ensures { result.now ≡ texts.text_from_first_occurrence byte text.now }
 {
-    text.split_at(place(byte, text)).1
+    text.split_at(offset_of_first_occurrence(byte, text)).1
 }
 
 /// Where what is behind the last such byte begins; 0 where there is none.
-fn end_place(byte: u8, text: &[u8]) -> usize
+fn offset_after_last_occurrence(byte: u8, text: &[u8]) -> usize
     ensures { result + suffix_len (λ b. not (is_byte byte b)) text.now ≡ length text.now }
 {
     match text.rfind_byte(byte) {
@@ -49,21 +49,22 @@ fn end_place(byte: u8, text: &[u8]) -> usize
 }
 
 /// What stands behind the last such byte, or the whole text.
-pub fn behind_last(byte: u8, text: &[u8]) -> &[u8]
-    ensures { result.now ≡ texts.behind_last byte text.now }
+pub fn text_after_last_occurrence(byte: u8, text: &[u8]) -> &[u8]
+    ensures { result.now ≡ texts.text_after_last_occurrence byte text.now }
 {
-    text.split_at(end_place(byte, text)).1
+    text.split_at(offset_after_last_occurrence(byte, text)).1
 }
 
 /// What stands before the last such byte, or nothing.
-pub fn ahead_of_last(byte: u8, text: &[u8]) -> &[u8]
-    ensures { result.now ≡ texts.ahead_of_last byte text.now }
+pub fn text_before_last_occurrence(byte: u8, text: &[u8]) -> &[u8]
+    ensures { result.now ≡ texts.text_before_last_occurrence byte text.now }
 {
-    text.split_at(end_place(byte, text).saturating_sub(1)).0
+    text.split_at(offset_after_last_occurrence(byte, text).saturating_sub(1))
+        .0
 }
 
 /// What is behind the first byte.
-pub fn behind_first(text: &[u8]) -> &[u8]
+pub fn text_without_first_byte(text: &[u8]) -> &[u8]
     ensures { result.now ≡ drop 1 text.now }
 {
     match text {

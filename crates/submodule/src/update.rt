@@ -1,14 +1,14 @@
 //! How a submodule is brought up to date.
 ghost use Rattle.std.specs.Prelude.{◌≡◌, option_map, IfOk};
-ghost use Rattle.git_config_lite.specs.Seen.{text_and_source_of};
+ghost use Rattle.git_config_lite.specs.Seen.{text_and_source_from_reference};
 ghost use Rattle.submodule.specs.Updates as updates;
-ghost use Rattle.submodule.specs.Gives.{UpdateGives};
+ghost use Rattle.submodule.specs.Gives.{UpdateParseAgrees};
 ghost use Rattle.submodule.specs.Names as names;
 ghost use Rattle.submodule.specs.Access as access;
 ghost use Rattle.submodule.specs.Answers as answers;
 ghost use Rattle.submodule.specs.declared.update.Error.TheVariants as refusals;
 
-use crate::shown::shown;
+use crate::shown::lossy_text_of_bytes;
 use git_config_lite::Source;
 use gitbase_core::{Bytes, OutOfMemory};
 use std::alloc::Global;
@@ -56,7 +56,7 @@ impl From<OutOfMemory> for UpdateParseError {
 #[derive(Debug, Drop, PartialEq, Eq, thiserror::Error)]
 pub enum Error {
     /// Its value is none of the words.
-    #[error("The 'update' field of submodule '{}' was invalid: '{}'", shown(.submodule), shown(.actual))]
+    #[error("The 'update' field of submodule '{}' was invalid: '{}'", lossy_text_of_bytes(.submodule), lossy_text_of_bytes(.actual))]
     Invalid {
         /// The name of the submodule.
         submodule: Bytes,
@@ -64,7 +64,7 @@ pub enum Error {
         actual: Bytes,
     },
     /// `.gitmodules` asks for a command.
-    #[error("The 'update' field of submodule '{}' tried to set command '{}' to be shared", shown(.submodule), shown(.actual))]
+    #[error("The 'update' field of submodule '{}' tried to set command '{}' to be shared", lossy_text_of_bytes(.submodule), lossy_text_of_bytes(.actual))]
     CommandForbiddenInModulesConfiguration {
         /// The name of the submodule.
         submodule: Bytes,
@@ -96,7 +96,7 @@ impl Update {
     /// - `Invalid` exactly for any other text.
     /// - `OutOfMemory` for want of memory.
     pub fn try_from(alloc: Global, value: &[u8]) -> Result<Update, UpdateParseError>
-        ensures { UpdateGives result (updates.update_of value.now) }
+        ensures { UpdateParseAgrees result (updates.parse_update value.now) }
     {
         if value == b"checkout".as_slice() {
             Ok(Update::Checkout)
@@ -114,7 +114,7 @@ impl Update {
 
 /// A command behind a `!`.
 fn command(alloc: Global, value: &[u8]) -> Result<Update, UpdateParseError>
-    ensures { UpdateGives result (updates.command_of value.now) }
+    ensures { UpdateParseAgrees result (updates.parse_update_command value.now) }
 {
     match value {
         [b'!', text @ ..] => Ok(Update::Command(Bytes::from_slice(alloc, text)?)),
@@ -143,20 +143,26 @@ fn forbidden(alloc: Global, name: &[u8], command: Bytes) -> Result<Error, OutOfM
 
 /// Whether a section is one of `.gitmodules`.
 /// See docs/DIFFERENCES.md#gix-modules-tag.
-pub(crate) fn is_modules(source: Source) -> bool
-    ensures { result ≡ names.is_modules source }
+pub(crate) fn is_gitmodules_source(source: Source) -> bool
+    ensures { result ≡ names.is_gitmodules_source source }
 {
     matches!(source, Source::Modules)
 }
 
 /// An update that a value says, unless it is a command of `.gitmodules`.
 /// See docs/DECISIONS.md#forbidden-command.
-fn allowed(alloc: Global, name: &[u8], source: Source, update: Update) -> Result<Update, Error>
-    ensures { answers.UpdateOfGives result (access.allowed name.now source update) }
+fn update_unless_gitmodules_command(
+    alloc: Global,
+    name: &[u8],
+    source: Source,
+    update: Update,
+) -> Result<Update, Error>
+    ensures { answers.UpdateFieldResultAgrees result (access.update_unless_gitmodules_command
+        name.now source update) }
 {
     match update {
         Update::Command(command) => {
-            if is_modules(source) {
+            if is_gitmodules_source(source) {
                 Err(forbidden(alloc, name, command)?)
             } else {
                 Ok(Update::Command(command))
@@ -174,24 +180,24 @@ fn parse_update_value(
     value: &[u8],
     source: Source,
 ) -> Result<Update, Error>
-    ensures { answers.UpdateOfGives result
-        (access.update_from name.now value.now source (updates.update_of value.now)) }
+    ensures { answers.UpdateFieldResultAgrees result (access.update_allowed_or_error name.now
+        value.now source (updates.parse_update value.now)) }
 {
     match Update::try_from(alloc, value) {
-        Ok(update) => allowed(alloc, name, source, update),
+        Ok(update) => update_unless_gitmodules_command(alloc, name, source, update),
         Err(UpdateParseError::Invalid) => Err(invalid(alloc, name, value)?),
         Err(UpdateParseError::OutOfMemory) => Err(Error::OutOfMemory),
     }
 }
 
 /// The update that a value says, if there is one.
-pub(crate) fn update_of(
+pub(crate) fn update_of_optional_value(
     alloc: Global,
     name: &[u8],
     found: Option<(&[u8], Source)>,
 ) -> Result<Option<Update>, Error>
-    ensures { answers.UpdateOfGives result
-        (access.update_by name.now (option_map text_and_source_of found.entry)) }
+    ensures { answers.UpdateFieldResultAgrees result (access.update_of_optional_value name.now
+        (option_map text_and_source_from_reference found.entry)) }
 {
     match found {
         Some((value, source)) => Ok(Some(parse_update_value(alloc, name, value, source)?)),

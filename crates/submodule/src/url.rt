@@ -1,14 +1,14 @@
 //! The url of a submodule.
 ghost use Rattle.std.specs.Prelude.{◌≡◌, option_copied, IfOk};
-ghost use Rattle.submodule.specs.Urls.{url_of};
-ghost use Rattle.submodule.specs.Gives.{UrlGives};
+ghost use Rattle.submodule.specs.Urls.{parse_url};
+ghost use Rattle.submodule.specs.Gives.{UrlParseAgrees};
 ghost use Rattle.submodule.specs.Seen as seen;
 ghost use Rattle.submodule.specs.Access as access;
 ghost use Rattle.submodule.specs.Answers as answers;
 ghost use Rattle.submodule.specs.declared.url.Error.TheVariants as refusals;
 
-use crate::shown::shown;
-use crate::url_parts::{UrlParts, parts_of};
+use crate::shown::lossy_text_of_bytes;
+use crate::url_parts::{UrlParts, parse_url_parts};
 use gitbase_core::{Bytes, OutOfMemory};
 use std::alloc::Global;
 
@@ -60,13 +60,13 @@ impl From<OutOfMemory> for UrlError {
 #[derive(Debug, Drop, PartialEq, Eq, thiserror::Error)]
 pub enum Error {
     /// Its url is not set, or empty.
-    #[error("The submodule '{}' was missing its 'url' field or it was empty", shown(.submodule))]
+    #[error("The submodule '{}' was missing its 'url' field or it was empty", lossy_text_of_bytes(.submodule))]
     Missing {
         /// The name of the submodule.
         submodule: Bytes,
     },
     /// Its url is none.
-    #[error("The url of submodule '{}' could not be parsed", shown(.submodule))]
+    #[error("The url of submodule '{}' could not be parsed", lossy_text_of_bytes(.submodule))]
     Parse {
         /// The name of the submodule.
         submodule: Bytes,
@@ -103,15 +103,15 @@ impl Url {
     /// - `Port` exactly where, else, the port is no number from 0 to 65535; an empty port is none.
     /// - `OutOfMemory` for want of memory.
     pub fn parse(alloc: Global, text: &[u8]) -> Result<Url, UrlError>
-        ensures { UrlGives result (url_of text.now) }
+        ensures { UrlParseAgrees result (parse_url text.now) }
     {
-        let parts = parts_of(text)?;
-        Ok(copied(alloc, parts)?)
+        let parts = parse_url_parts(text)?;
+        Ok(copy_url_parts(alloc, parts)?)
     }
 }
 
 /// A copy of a text, where there is one.
-fn copied_text(alloc: Global, text: Option<&[u8]>) -> Result<Option<Bytes>, OutOfMemory>
+fn copy_optional_text(alloc: Global, text: Option<&[u8]>) -> Result<Option<Bytes>, OutOfMemory>
     ensures { IfOk result (λ copy. copy ≡ option_copied text.entry) }
 {
     match text {
@@ -121,14 +121,14 @@ fn copied_text(alloc: Global, text: Option<&[u8]>) -> Result<Option<Bytes>, OutO
 }
 
 /// A url of its own.
-fn copied(alloc: Global, parts: UrlParts<'_>) -> Result<Url, OutOfMemory>
+fn copy_url_parts(alloc: Global, parts: UrlParts<'_>) -> Result<Url, OutOfMemory>
     ensures { IfOk result (λ url. url ≡ seen.url_of_parts parts.entry) }
 {
     Ok(Url {
         scheme: Bytes::from_slice(alloc, parts.scheme)?,
-        user: copied_text(alloc, parts.user)?,
-        password: copied_text(alloc, parts.password)?,
-        host: copied_text(alloc, parts.host)?,
+        user: copy_optional_text(alloc, parts.user)?,
+        password: copy_optional_text(alloc, parts.password)?,
+        host: copy_optional_text(alloc, parts.host)?,
         port: parts.port,
         path: Bytes::from_slice(alloc, parts.path)?,
     })
@@ -142,7 +142,11 @@ fn missing(alloc: Global, name: &[u8]) -> Result<Error, OutOfMemory>
     })
 }
 
-fn refused(alloc: Global, name: &[u8], source: UrlError) -> Result<Error, OutOfMemory>
+fn url_parse_error_of_submodule(
+    alloc: Global,
+    name: &[u8],
+    source: UrlError,
+) -> Result<Error, OutOfMemory>
     ensures { IfOk result (λ e. e ≡ refusals.Parse name.now source) }
 {
     Ok(Error::Parse {
@@ -153,22 +157,32 @@ fn refused(alloc: Global, name: &[u8], source: UrlError) -> Result<Error, OutOfM
 
 /// The url that a value says.
 fn parse_url_value(alloc: Global, name: &[u8], value: &[u8]) -> Result<Url, Error>
-    ensures { answers.UrlOfGives result (access.url_by name.now (Some value.now)) }
+    ensures { answers.UrlFieldResultAgrees result (access.url_of_optional_value name.now
+        (Some value.now)) }
 {
     if let [] = value {
         return Err(missing(alloc, name)?);
     }
     match Url::parse(alloc, value) {
         Ok(url) => Ok(url),
-        Err(UrlError::EmptyHost) => Err(refused(alloc, name, UrlError::EmptyHost)?),
-        Err(UrlError::Port) => Err(refused(alloc, name, UrlError::Port)?),
+        Err(UrlError::EmptyHost) => Err(url_parse_error_of_submodule(
+            alloc,
+            name,
+            UrlError::EmptyHost,
+        )?),
+        Err(UrlError::Port) => Err(url_parse_error_of_submodule(alloc, name, UrlError::Port)?),
         Err(UrlError::OutOfMemory) => Err(Error::OutOfMemory),
     }
 }
 
 /// The url that a value says, if there is one.
-pub(crate) fn url_of(alloc: Global, name: &[u8], value: Option<&[u8]>) -> Result<Url, Error>
-    ensures { answers.UrlOfGives result (access.url_by name.now (option_copied value.entry)) }
+pub(crate) fn url_of_optional_value(
+    alloc: Global,
+    name: &[u8],
+    value: Option<&[u8]>,
+) -> Result<Url, Error>
+    ensures { answers.UrlFieldResultAgrees result (access.url_of_optional_value name.now
+        (option_copied value.entry)) }
 {
     match value {
         Some(value) => parse_url_value(alloc, name, value),

@@ -1,11 +1,15 @@
 //! The parts of a url, within its text.
 ghost use Rattle.std.specs.Prelude.{◌≡◌, ◌≤◌, ◌<◌, not, length, position, option_copied, IfSome};
-ghost use Rattle.git_config_lite.specs.Texts.{begins, is_letter};
+ghost use Rattle.git_config_lite.specs.Texts.{first_byte_passes, is_ascii_letter};
 ghost use Rattle.submodule.specs.Urls as urls;
 ghost use Rattle.submodule.specs.Seen as seen;
 
-use crate::port::port;
-use crate::text::{ahead_of_last, before, behind_first, behind_last, has, onward, place};
+use crate::port::parse_port;
+use crate::text::{
+    contains_byte, offset_of_first_occurrence, text_after_last_occurrence,
+    text_before_first_occurrence, text_before_last_occurrence, text_from_first_occurrence,
+    text_without_first_byte,
+};
 use crate::url::UrlError;
 
 /// The parts of a url, as [`crate::Url`] has them.
@@ -27,63 +31,63 @@ pub struct HostAndPort<'a> {
 }
 
 /// What stands before the last `@`, if there is one.
-fn login(authority: &[u8]) -> Option<&[u8]>
-    ensures { option_copied result ≡ urls.login authority.now }
+fn login_of_authority(authority: &[u8]) -> Option<&[u8]>
+    ensures { option_copied result ≡ urls.login_of_authority authority.now }
 {
-    if has(b'@', authority) {
-        Some(ahead_of_last(b'@', authority))
+    if contains_byte(b'@', authority) {
+        Some(text_before_last_occurrence(b'@', authority))
     } else {
         None
     }
 }
 
 /// The user of a login.
-fn user_of(login: Option<&[u8]>) -> Option<&[u8]>
-    ensures { option_copied result ≡ urls.user_of (option_copied login.entry) }
+fn user_of_login(login: Option<&[u8]>) -> Option<&[u8]>
+    ensures { option_copied result ≡ urls.user_of_login (option_copied login.entry) }
 {
     match login {
-        Some(login) => Some(before(b':', login)),
+        Some(login) => Some(text_before_first_occurrence(b':', login)),
         None => None,
     }
 }
 
 /// What stands behind the first `:`, if there is one.
-fn behind_colon(text: &[u8]) -> Option<&[u8]>
-    ensures { option_copied result ≡ urls.text_after_byte 58 text.now }
+fn text_after_first_colon(text: &[u8]) -> Option<&[u8]>
+    ensures { option_copied result ≡ urls.text_after_first_occurrence 58 text.now }
 {
-    if has(b':', text) {
-        Some(behind_first(onward(b':', text)))
+    if contains_byte(b':', text) {
+        Some(text_without_first_byte(text_from_first_occurrence(b':', text)))
     } else {
         None
     }
 }
 
 /// The password of a login.
-fn password_of(login: Option<&[u8]>) -> Option<&[u8]>
-    ensures { option_copied result ≡ urls.password_of (option_copied login.entry) }
+fn password_of_login(login: Option<&[u8]>) -> Option<&[u8]>
+    ensures { option_copied result ≡ urls.password_of_login (option_copied login.entry) }
 {
     match login {
-        Some(login) => behind_colon(login),
+        Some(login) => text_after_first_colon(login),
         None => None,
     }
 }
 
 /// The port behind a host in brackets.
-fn port_behind(rest: &[u8]) -> &[u8]
-    ensures { result.now ≡ urls.port_behind rest.now }
+fn port_text_after_bracket(rest: &[u8]) -> &[u8]
+    ensures { result.now ≡ urls.port_text_after_bracket rest.now }
 {
-    if has(b':', rest) {
-        behind_last(b':', rest)
+    if contains_byte(b':', rest) {
+        text_after_last_occurrence(b':', rest)
     } else {
         b""
     }
 }
 
 /// A text up to its first `]`, and what is behind that; none where there is no `]`.
-fn split_after_bracket(part: &[u8]) -> Option<(&[u8], &[u8])>
-    ensures { seen.pair result ≡ urls.split_after_bracket part.now }
+fn split_after_closing_bracket(part: &[u8]) -> Option<(&[u8], &[u8])>
+    ensures { seen.optional_pair_of_references result ≡ urls.split_after_closing_bracket part.now }
 {
-    let at = place(b']', part);
+    let at = offset_of_first_occurrence(b']', part);
     if at < part.len() {
         Some(part.split_at(at + 1))
     } else {
@@ -94,13 +98,13 @@ fn split_after_bracket(part: &[u8]) -> Option<(&[u8], &[u8])>
 /// A host in brackets.
 /// See docs/DIFFERENCES.md#url-ssh-brackets.
 /// See docs/DIFFERENCES.md#url-open-bracket.
-fn bracketed(part: &[u8]) -> HostAndPort<'_>
-    ensures { seen.host_place result ≡ urls.bracketed part.now }
+fn host_and_port_with_brackets(part: &[u8]) -> HostAndPort<'_>
+    ensures { seen.host_and_port_text_of_parts result ≡ urls.host_and_port_with_brackets part.now }
 {
-    match split_after_bracket(part) {
+    match split_after_closing_bracket(part) {
         Some((host, rest)) => HostAndPort {
             host,
-            port: port_behind(rest),
+            port: port_text_after_bracket(rest),
         },
         None => HostAndPort {
             host: part,
@@ -110,13 +114,14 @@ fn bracketed(part: &[u8]) -> HostAndPort<'_>
 }
 
 /// A host without brackets.
-fn bare(part: &[u8]) -> HostAndPort<'_>
-    ensures { seen.host_place result ≡ urls.bare part.now }
+fn host_and_port_without_brackets(part: &[u8]) -> HostAndPort<'_>
+    ensures { seen.host_and_port_text_of_parts result ≡ urls.host_and_port_without_brackets
+        part.now }
 {
-    if has(b':', part) {
+    if contains_byte(b':', part) {
         HostAndPort {
-            host: ahead_of_last(b':', part),
-            port: behind_last(b':', part),
+            host: text_before_last_occurrence(b':', part),
+            port: text_after_last_occurrence(b':', part),
         }
     } else {
         HostAndPort {
@@ -126,12 +131,12 @@ fn bare(part: &[u8]) -> HostAndPort<'_>
     }
 }
 
-fn host_and_port(part: &[u8]) -> HostAndPort<'_>
-    ensures { seen.host_place result ≡ urls.host_and_port part.now }
+fn split_host_and_port(part: &[u8]) -> HostAndPort<'_>
+    ensures { seen.host_and_port_text_of_parts result ≡ urls.split_host_and_port part.now }
 {
     match part {
-        [b'[', ..] => bracketed(part),
-        _ => bare(part),
+        [b'[', ..] => host_and_port_with_brackets(part),
+        _ => host_and_port_without_brackets(part),
     }
 }
 
@@ -139,8 +144,8 @@ fn host_and_port(part: &[u8]) -> HostAndPort<'_>
 /// See docs/DECISIONS.md#scheme-by-bytes.
 /// See docs/DIFFERENCES.md#url-scheme-case.
 /// See docs/DIFFERENCES.md#url-git-ssh.
-fn needs_host(scheme: &[u8]) -> bool
-    ensures { result ≡ urls.needs_host scheme.now }
+fn scheme_needs_host(scheme: &[u8]) -> bool
+    ensures { result ≡ urls.scheme_needs_host scheme.now }
 {
     scheme == b"http".as_slice()
         || scheme == b"https".as_slice()
@@ -149,11 +154,11 @@ fn needs_host(scheme: &[u8]) -> bool
 }
 
 /// Whether a host is empty that may not be.
-fn lacks_host(scheme: &[u8], host: &[u8]) -> bool
-    ensures { result ≡ urls.lacks_host scheme.now host.now }
+fn lacks_required_host(scheme: &[u8], host: &[u8]) -> bool
+    ensures { result ≡ urls.lacks_required_host scheme.now host.now }
 {
     match host {
-        [] => needs_host(scheme),
+        [] => scheme_needs_host(scheme),
         _ => false,
     }
 }
@@ -161,8 +166,8 @@ fn lacks_host(scheme: &[u8], host: &[u8]) -> bool
 /// The host of a url: an empty one is none.
 /// See docs/DECISIONS.md#empty-host.
 /// See docs/DIFFERENCES.md#url-empty-host.
-fn host_of(host: &[u8]) -> Option<&[u8]>
-    ensures { option_copied result ≡ urls.host_of host.now }
+fn host_unless_empty(host: &[u8]) -> Option<&[u8]>
+    ensures { option_copied result ≡ urls.host_unless_empty host.now }
 {
     match host {
         [] => None,
@@ -173,24 +178,24 @@ fn host_of(host: &[u8]) -> Option<&[u8]>
 /// A url by its scheme, its login, its host with the port, and its path.
 /// See docs/DECISIONS.md#host-before-port.
 /// See docs/DIFFERENCES.md#url-dash-host.
-fn with_host<'a>(
+fn url_of_scheme_login_host_and_path<'a>(
     scheme: &'a [u8],
     login: Option<&'a [u8]>,
     place: HostAndPort<'a>,
     path: &'a [u8],
 ) -> Result<UrlParts<'a>, UrlError>
-    ensures { seen.parsed_url result ≡ urls.with_host scheme.now
-        (option_copied login.entry) (seen.host_place place.entry) path.now }
+    ensures { seen.url_of_parts_result result ≡ urls.url_of_scheme_login_host_and_path scheme.now
+        (option_copied login.entry) (seen.host_and_port_text_of_parts place.entry) path.now }
 {
-    if lacks_host(scheme, place.host) {
+    if lacks_required_host(scheme, place.host) {
         return Err(UrlError::EmptyHost);
     }
-    let port = port(place.port)?;
+    let port = parse_port(place.port)?;
     Ok(UrlParts {
         scheme,
-        user: user_of(login),
-        password: password_of(login),
-        host: host_of(place.host),
+        user: user_of_login(login),
+        password: password_of_login(login),
+        host: host_unless_empty(place.host),
         port,
         path,
     })
@@ -200,15 +205,15 @@ fn with_host<'a>(
 /// See docs/DIFFERENCES.md#url-home.
 /// See docs/DIFFERENCES.md#url-percent.
 /// See docs/DIFFERENCES.md#url-no-path.
-fn absolute<'a>(scheme: &'a [u8], rest: &'a [u8]) -> Result<UrlParts<'a>, UrlError>
-    ensures { seen.parsed_url result ≡ urls.absolute scheme.now rest.now }
+fn parse_url_after_scheme<'a>(scheme: &'a [u8], rest: &'a [u8]) -> Result<UrlParts<'a>, UrlError>
+    ensures { seen.url_of_parts_result result ≡ urls.parse_url_after_scheme scheme.now rest.now }
 {
-    let authority = before(b'/', rest);
-    with_host(
+    let authority = text_before_first_occurrence(b'/', rest);
+    url_of_scheme_login_host_and_path(
         scheme,
-        login(authority),
-        host_and_port(behind_last(b'@', authority)),
-        onward(b'/', rest),
+        login_of_authority(authority),
+        split_host_and_port(text_after_last_occurrence(b'@', authority)),
+        text_from_first_occurrence(b'/', rest),
     )
 }
 
@@ -216,14 +221,18 @@ fn absolute<'a>(scheme: &'a [u8], rest: &'a [u8]) -> Result<UrlParts<'a>, UrlErr
 /// See docs/DIFFERENCES.md#url-tilde.
 /// See docs/DIFFERENCES.md#url-dash-path.
 /// See docs/DIFFERENCES.md#url-two-colons.
-fn over_ssh<'a>(authority: &'a [u8], path: &'a [u8]) -> Result<UrlParts<'a>, UrlError>
-    ensures { seen.parsed_url result ≡ urls.over_ssh authority.now path.now }
+fn ssh_url_of_authority_and_path<'a>(
+    authority: &'a [u8],
+    path: &'a [u8],
+) -> Result<UrlParts<'a>, UrlError>
+    ensures { seen.url_of_parts_result result ≡ urls.ssh_url_of_authority_and_path authority.now
+        path.now }
 {
     let place = HostAndPort {
-        host: behind_last(b'@', authority),
+        host: text_after_last_occurrence(b'@', authority),
         port: b"",
     };
-    with_host(b"ssh", login(authority), place, path)
+    url_of_scheme_login_host_and_path(b"ssh", login_of_authority(authority), place, path)
 }
 
 fn local(path: &[u8]) -> UrlParts<'_>
@@ -246,7 +255,7 @@ fn is_scheme_byte(byte: u8) -> bool
 }
 
 /// The place of the first byte that may not stand in a scheme.
-fn scheme_end(text: &[u8]) -> Option<usize>
+fn offset_of_first_non_scheme_byte(text: &[u8]) -> Option<usize>
     ensures place { result ≡ position (λ b. not (urls.is_scheme_byte b)) text.now }
     ensures within { IfSome result (λ at. at < length text.now) }
 {
@@ -254,18 +263,18 @@ fn scheme_end(text: &[u8]) -> Option<usize>
 }
 
 /// How many bytes at the start may stand in a scheme.
-fn scheme_length(text: &[u8]) -> usize
-    ensures value { result ≡ urls.scheme_length text.now }
+fn length_of_leading_scheme(text: &[u8]) -> usize
+    ensures value { result ≡ urls.length_of_leading_scheme text.now }
     ensures within { result ≤ length text.now }
 {
-    match scheme_end(text) {
+    match offset_of_first_non_scheme_byte(text) {
         Some(at) => at,
         None => text.len(),
     }
 }
 
 fn begins_with_letter(text: &[u8]) -> bool
-    ensures { result ≡ begins is_letter text.now }
+    ensures { result ≡ first_byte_passes is_ascii_letter text.now }
 {
     match text {
         [first, ..] => matches!(*first, b'A'..=b'Z' | b'a'..=b'z'),
@@ -275,13 +284,13 @@ fn begins_with_letter(text: &[u8]) -> bool
 
 /// A scheme, and what is behind its `://`; none where the text begins with no scheme.
 /// See docs/DIFFERENCES.md#url-no-scheme.
-fn with_scheme(text: &[u8]) -> Option<(&[u8], &[u8])>
-    ensures { seen.pair result ≡ urls.with_scheme text.now }
+fn split_scheme_and_rest(text: &[u8]) -> Option<(&[u8], &[u8])>
+    ensures { seen.optional_pair_of_references result ≡ urls.split_scheme_and_rest text.now }
 {
     if !begins_with_letter(text) {
         return None;
     }
-    let (scheme, after) = text.split_at(scheme_length(text));
+    let (scheme, after) = text.split_at(length_of_leading_scheme(text));
     match after {
         [b':', b'/', b'/', rest @ ..] => Some((scheme, rest)),
         _ => None,
@@ -293,26 +302,29 @@ fn with_scheme(text: &[u8]) -> Option<(&[u8], &[u8])>
 /// See docs/DIFFERENCES.md#url-short-brackets.
 /// See docs/DIFFERENCES.md#url-colon.
 /// See docs/DIFFERENCES.md#url-local-bracket.
-fn with_colon(text: &[u8]) -> Option<(&[u8], &[u8])>
-    ensures { seen.pair result ≡ urls.with_colon text.now }
+fn split_ssh_authority_and_path(text: &[u8]) -> Option<(&[u8], &[u8])>
+    ensures { seen.optional_pair_of_references result ≡ urls.split_ssh_authority_and_path text.now }
 {
-    let colon = place(b':', text);
-    if colon > 0 && colon < place(b'/', text) {
-        Some((before(b':', text), behind_first(onward(b':', text))))
+    let colon = offset_of_first_occurrence(b':', text);
+    if colon > 0 && colon < offset_of_first_occurrence(b'/', text) {
+        Some((
+            text_before_first_occurrence(b':', text),
+            text_without_first_byte(text_from_first_occurrence(b':', text)),
+        ))
     } else {
         None
     }
 }
 
 /// The parts of a url.
-pub fn parts_of(text: &[u8]) -> Result<UrlParts<'_>, UrlError>
-    ensures { seen.parsed_url result ≡ urls.url_of text.now }
+pub fn parse_url_parts(text: &[u8]) -> Result<UrlParts<'_>, UrlError>
+    ensures { seen.url_of_parts_result result ≡ urls.parse_url text.now }
 {
-    if let Some((scheme, rest)) = with_scheme(text) {
-        return absolute(scheme, rest);
+    if let Some((scheme, rest)) = split_scheme_and_rest(text) {
+        return parse_url_after_scheme(scheme, rest);
     }
-    match with_colon(text) {
-        Some((authority, path)) => over_ssh(authority, path),
+    match split_ssh_authority_and_path(text) {
+        Some((authority, path)) => ssh_url_of_authority_and_path(authority, path),
         None => Ok(local(text)),
     }
 }

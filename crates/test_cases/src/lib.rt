@@ -8,6 +8,9 @@ mod nodes;
 mod rows;
 mod trees;
 
-pub use nodes::{is_git_put, is_put};
-pub use rows::{digit, held, lines_of, number, split_at_byte, split_at_mark, text_of};
-pub use trees::{is_taken, tree_of};
+pub use nodes::{try_add_git_directory, try_add_node_of_kind};
+pub use rows::{
+    held, lines_of_field_steps, parse_saturating_decimal, replace_marks_by_line_feeds,
+    split_at_byte, split_at_mark, value_of_first_digit,
+};
+pub use trees::{tree_from_steps, try_apply_tree_step};

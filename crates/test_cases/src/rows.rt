@@ -8,7 +8,7 @@ use bstr::ByteSlice;
 use std::alloc::Global;
 
 /// Where a byte stands first in a row; the length of the row where it does not stand in it.
-fn place(row: &[u8], byte: u8) -> usize
+fn offset_of_first_byte_or_length(row: &[u8], byte: u8) -> usize
     ensures value { result ≡ position_or_len (is_byte byte) row.now }
     ensures within { result ≤ length row.now }
 {
@@ -19,7 +19,7 @@ fn place(row: &[u8], byte: u8) -> usize
 }
 
 /// What is behind the first byte.
-fn behind_first(row: &[u8]) -> &[u8]
+fn row_without_first_byte(row: &[u8]) -> &[u8]
     ensures { result.now ≡ drop 1 row.now }
 {
     match row {
@@ -31,18 +31,18 @@ fn behind_first(row: &[u8]) -> &[u8]
 /// What stands before the first byte of this kind, and behind it: the whole row and nothing where
 /// there is none.
 pub fn split_at_byte(row: &[u8], byte: u8) -> (&[u8], &[u8])
-    ensures before { result.0.now ≡ cuts.before byte row.now }
-    ensures behind { result.1.now ≡ cuts.behind byte row.now }
+    ensures before { result.0.now ≡ cuts.row_before_byte byte row.now }
+    ensures behind { result.1.now ≡ cuts.row_after_byte byte row.now }
 {
-    let (before, rest) = row.split_at(place(row, byte));
-    (before, behind_first(rest))
+    let (before, rest) = row.split_at(offset_of_first_byte_or_length(row, byte));
+    (before, row_without_first_byte(rest))
 }
 
 /// What stands before the first of these marks, and behind it: the whole row and nothing where
 /// there is none.
 pub fn split_at_mark<'a>(row: &'a [u8], mark: &[u8]) -> (&'a [u8], &'a [u8])
-    ensures before { result.0.now ≡ cuts.before_mark mark.now row.now }
-    ensures behind { result.1.now ≡ cuts.behind_mark mark.now row.now }
+    ensures before { result.0.now ≡ cuts.row_before_mark mark.now row.now }
+    ensures behind { result.1.now ≡ cuts.row_after_mark mark.now row.now }
 {
     match row.split_once_str(mark) {
         Some((before, behind)) => (before, behind),
@@ -61,7 +61,7 @@ pub fn held(field: &[u8]) -> &[u8] {
 
 /// The text whose lines are the steps of a field, none where it holds nothing. None for want of
 /// memory.
-pub fn text_of(alloc: Global, field: &[u8]) -> Option<Vec<u8>> {
+pub fn lines_of_field_steps(alloc: Global, field: &[u8]) -> Option<Vec<u8>> {
     let mut text = Vec::new(alloc);
     let steps = held(field);
     if steps.is_empty() {
@@ -76,19 +76,19 @@ pub fn text_of(alloc: Global, field: &[u8]) -> Option<Vec<u8>> {
 }
 
 /// A byte of a text: an LF in the place of the mark.
-fn meant(byte: u8, mark: u8) -> u8
-    ensures { result ≡ cuts.meant mark byte }
+fn line_feed_if_mark(byte: u8, mark: u8) -> u8
+    ensures { result ≡ cuts.line_feed_if_mark mark byte }
 {
     if byte == mark { b'\n' } else { byte }
 }
 
 /// A text with an LF in the place of each mark. None for want of memory.
-pub fn lines_of(alloc: Global, text: &[u8], mark: u8) -> Option<Vec<u8>>
+pub fn replace_marks_by_line_feeds(alloc: Global, text: &[u8], mark: u8) -> Option<Vec<u8>>
     ensures { IfSome result (λ lines. lines.items ≡ cuts.lines mark text.now) }
 {
     let mut lines = Vec::new(alloc);
     for byte in text {
-        if lines.push(meant(*byte, mark)).is_err() {
+        if lines.push(line_feed_if_mark(*byte, mark)).is_err() {
             return None;
         }
     }
@@ -96,7 +96,7 @@ pub fn lines_of(alloc: Global, text: &[u8], mark: u8) -> Option<Vec<u8>>
 }
 
 /// The number of some digits, up to the end of the type.
-pub fn number(digits: &[u8]) -> usize {
+pub fn parse_saturating_decimal(digits: &[u8]) -> usize {
     let mut number = 0usize;
     for byte in digits {
         let digit = usize::from(byte.saturating_sub(b'0'));
@@ -106,7 +106,7 @@ pub fn number(digits: &[u8]) -> usize {
 }
 
 /// The number of the first digit; 0 where there is none.
-pub fn digit(word: &[u8]) -> u8 {
+pub fn value_of_first_digit(word: &[u8]) -> u8 {
     match word.first() {
         Some(byte) => byte.saturating_sub(b'0'),
         None => 0,

@@ -5,15 +5,15 @@ use Rattle.worktree_fs.specs.declared.worktree.Worktree.{Ghosts as WorktreeOf}
 use Rattle.worktree_fs.specs.Owners.{OwnershipByPath}
 use Rattle.worktree_fs.specs.Tree.{Names}
 use Rattle.git_places.proofs.Carried.{as_refused}
-use Rattle.git_setup.specs.Finds.{FindsWith}
+use Rattle.git_setup.specs.Finds.{FindsOverToldTreeAndOwners}
 use Rattle.git_setup.specs.declared.error.GitRefusal.{GitRefusal}
 use Rattle.git_setup.specs.declared.error.GitRefusal.TheVariants as git
 use Rattle.git_setup.specs.declared.found.Found.{Found}
 use Rattle.tizhagor.specs.declared.refusal.HereRefusal.{HereRefusal}
-use Rattle.tizhagor.specs.Finds.{FindsHereWith}
-use Rattle.tizhagor.specs.Refusals.{as_git, fault, of_git, IsOfFinding}
+use Rattle.tizhagor.specs.Finds.{FindsHereResultOverTreeAndOwners}
+use Rattle.tizhagor.specs.Refusals.{git_result_with_here_refusal, fault, here_refusal_of_git_refusal, MayComeBeforeSetupIsFound}
 
-is_fault : (e : GitRefusal) → of_git e ≡ fault → e ≡ git.Fault
+is_fault : (e : GitRefusal) → here_refusal_of_git_refusal e ≡ fault → e ≡ git.Fault
 is_fault (git.Elsewhere name) is = absurd cc
 is_fault (git.Places e) is = absurd cc
 is_fault (git.Foreign path) is = absurd cc
@@ -32,14 +32,14 @@ is_fault git.Fault is = refl
 is_fault git.OutOfMemory is = absurd cc
 
 pub finds_any : {W O A : Type 0} (w : WorktreeOf W) (o : OwnersOf O) (w0 w1 : W) (o0 o1 : O) (found : Names → OwnershipByPath → Result A GitRefusal) (answer : Result A GitRefusal)
-    → FindsWith w o w0 w1 o0 o1 found answer → FindsHereWith w o w0 w1 o0 o1 (λ t owned. as_git (found t owned)) (as_git answer)
-finds_any w o w0 w1 o0 o1 found answer h = as_refused w o w0 w1 o0 o1 of_git git.Fault git.OutOfMemory is_fault found answer h
+    → FindsOverToldTreeAndOwners w o w0 w1 o0 o1 found answer → FindsHereResultOverTreeAndOwners w o w0 w1 o0 o1 (λ t owned. git_result_with_here_refusal (found t owned)) (git_result_with_here_refusal answer)
+finds_any w o w0 w1 o0 o1 found answer h = as_refused w o w0 w1 o0 o1 here_refusal_of_git_refusal git.Fault git.OutOfMemory is_fault found answer h
 
 pub finds_as : {W O : Type 0} (w : WorktreeOf W) (o : OwnersOf O) (w0 w1 : W) (o0 o1 : O) (found : Names → OwnershipByPath → Result Found GitRefusal) (answer : Result Found GitRefusal)
-    → FindsWith w o w0 w1 o0 o1 found answer → FindsHereWith w o w0 w1 o0 o1 (λ t owned. as_git (found t owned)) (as_git answer)
-finds_as w o w0 w1 o0 o1 found answer h = as_refused w o w0 w1 o0 o1 of_git git.Fault git.OutOfMemory is_fault found answer h
+    → FindsOverToldTreeAndOwners w o w0 w1 o0 o1 found answer → FindsHereResultOverTreeAndOwners w o w0 w1 o0 o1 (λ t owned. git_result_with_here_refusal (found t owned)) (git_result_with_here_refusal answer)
+finds_as w o w0 w1 o0 o1 found answer h = as_refused w o w0 w1 o0 o1 here_refusal_of_git_refusal git.Fault git.OutOfMemory is_fault found answer h
 
-of_git-is : (e : GitRefusal) → IsOfFinding (of_git e)
+of_git-is : (e : GitRefusal) → MayComeBeforeSetupIsFound (here_refusal_of_git_refusal e)
 of_git-is (git.Elsewhere name) = tt
 of_git-is (git.Places e) = tt
 of_git-is (git.Foreign path) = tt
@@ -57,10 +57,10 @@ of_git-is (git.SubmoduleCase path) = tt
 of_git-is git.Fault = tt
 of_git-is git.OutOfMemory = tt
 
-pub any_git-is : {A : Type 0} (answer : Result A GitRefusal) → IfErr (as_git answer) IsOfFinding
+pub any_git-is : {A : Type 0} (answer : Result A GitRefusal) → IfErr (git_result_with_here_refusal answer) MayComeBeforeSetupIsFound
 any_git-is (Ok here) = tt
 any_git-is (Err e) = of_git-is e
 
-pub as_git-is : (answer : Result Found GitRefusal) → IfErr (as_git answer) IsOfFinding
+pub as_git-is : (answer : Result Found GitRefusal) → IfErr (git_result_with_here_refusal answer) MayComeBeforeSetupIsFound
 as_git-is (Ok here) = tt
 as_git-is (Err e) = of_git-is e

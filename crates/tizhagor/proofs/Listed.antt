@@ -3,17 +3,17 @@ use Rattle.std.proofs.Common.{◌≡◌, ◌⊎◌, inl, ℕ, Bool, true, false,
 use Rattle.std.specs.Bool.{MatchBool}
 use Rattle.git_setup.specs.declared.found.Found.{Found}
 use Rattle.command_line.specs.declared.command.FilesAsked.{FilesAsked}
-use Rattle.ls_files.specs.Choices.{walks}
+use Rattle.ls_files.specs.Choices.{needs_worktree_walk}
 use Rattle.ls_files.specs.declared.listed.Listed.{Listed}
 use Rattle.worktree_fs.specs.declared.interrupt.Interrupt.{Ghosts as InterruptOf}
 use Rattle.worktree_fs.specs.declared.worktree.Worktree.{Ghosts as WorktreeOf}
-use Rattle.worktree_fs.specs.Causes.{Increased, NotIncreased}
+use Rattle.worktree_fs.specs.Causes.{CountIncreasedOrSaturated, CountNotIncreased}
 use Rattle.worktree_fs.specs.Tree.{Names}
 use Rattle.worktree_report.specs.declared.refusal.Refusal.{Refusal}
 use Rattle.worktree_report.specs.declared.refusal.Refusal.TheVariants as refusals
-use Rattle.tizhagor.specs.Listings.{IsListable, Lists, listed_for, setup_for}
-use Rattle.tizhagor.specs.ProgramLines.{program_status}
-use Rattle.tizhagor.specs.Texts.{RefusesReport}
+use Rattle.tizhagor.specs.Listings.{IsSetupValidForLsFiles, AnswersLsFilesOfFound, ls_files_output_over_tree, ls_files_setup_for_found}
+use Rattle.tizhagor.specs.ProgramLines.{status_of_program_refusal}
+use Rattle.tizhagor.specs.Texts.{RefusesReportOverTree}
 use Rattle.tizhagor.proofs.ByCall as calls
 
 -- ---- a report is made, or none is
@@ -35,33 +35,33 @@ memory_is_no_interrupt wants is = absurd (let both : refusals.OutOfMemory ≡ re
 
 module _ {W I : Type 0} (w : WorktreeOf W) (i : InterruptOf I) (w0 w1 : W) (i0 i1 : I) (here : Found) (wants : FilesAsked) where
   -- it is the one that is asked for
-  pub listing_is : (made : Listed) → Lists w i w0 w1 i0 i1 wants here (Ok made) → (t : Names) → w.told w0 ≡ Some t → listed_for (w.precomposes w0) t here wants ≡ Some made
-  listing_is made a t told = chosen_by_kind (walks wants.listing) a (λ walked. walked.gives t told) (λ index. ap Some (sym index.gives))
+  pub listing_is : (made : Listed) → AnswersLsFilesOfFound w i w0 w1 i0 i1 wants here (Ok made) → (t : Names) → w.told w0 ≡ Some t → ls_files_output_over_tree (w.precomposes w0) t here wants ≡ Some made
+  listing_is made a t told = chosen_by_kind (needs_worktree_walk wants.listing) a (λ walked. walked.gives t told) (λ index. ap Some (sym index.gives))
 
   -- and comes without a fault
-  pub unfaulted : (made : Listed) → Lists w i w0 w1 i0 i1 wants here (Ok made) → w.faults w1 ≡ w.faults w0
-  unfaulted made a = by_kind (walks wants.listing) a (λ walked. let quiet = walked.unfaulted in let faults = walked.worktree.faults in omega (arith, quiet, faults)) (λ index. ap w.faults index.worktree)
+  pub unfaulted : (made : Listed) → AnswersLsFilesOfFound w i w0 w1 i0 i1 wants here (Ok made) → w.faults w1 ≡ w.faults w0
+  unfaulted made a = by_kind (needs_worktree_walk wants.listing) a (λ walked. let quiet = walked.unfaulted in let faults = walked.worktree.faults in omega (arith, quiet, faults)) (λ index. ap w.faults index.worktree)
 
   -- the tree stays told
-  pub tree : (made : Listed) → Lists w i w0 w1 i0 i1 wants here (Ok made) → w.told w1 ≡ w.told w0
-  tree made a = by_kind (walks wants.listing) a (λ walked. walked.worktree.tree) (λ index. ap w.told index.worktree)
+  pub tree : (made : Listed) → AnswersLsFilesOfFound w i w0 w1 i0 i1 wants here (Ok made) → w.told w1 ≡ w.told w0
+  tree made a = by_kind (needs_worktree_walk wants.listing) a (λ walked. walked.worktree.tree) (λ index. ap w.told index.worktree)
 
   -- an interrupt was raised
-  pub interrupt_cause : (refusal : Refusal) → Lists w i w0 w1 i0 i1 wants here (Err refusal) → refusal ≡ refusals.Interrupted → Increased (i.raised i0) (i.raised i1)
+  pub interrupt_cause : (refusal : Refusal) → AnswersLsFilesOfFound w i w0 w1 i0 i1 wants here (Err refusal) → refusal ≡ refusals.Interrupted → CountIncreasedOrSaturated (i.raised i0) (i.raised i1)
   interrupt_cause refusal a is =
-      by_kind (walks wants.listing) a (λ walked. calls.text-interrupted w i w0 w1 i0 i1 here.root here.setup (setup_for wants here) 0 refusal walked.refused is)
+      by_kind (needs_worktree_walk wants.listing) a (λ walked. calls.text-interrupted w i w0 w1 i0 i1 here.root here.setup (ls_files_setup_for_found wants here) 0 refusal walked.refused is)
       (λ index. memory_is_no_interrupt index.refused is)
 
   -- for what can be had only memory may be wanted
-  pub complete : (refusal : Refusal) → Lists w i w0 w1 i0 i1 wants here (Err refusal) → (t : Names) → w.told w0 ≡ Some t → NotIncreased (w.faults w0) (w.faults w1) → NotIncreased (i.raised i0) (i.raised i1)
-      → IsListable (w.precomposes w0) t here wants → refusal ≡ refusals.OutOfMemory
+  pub complete : (refusal : Refusal) → AnswersLsFilesOfFound w i w0 w1 i0 i1 wants here (Err refusal) → (t : Names) → w.told w0 ≡ Some t → CountNotIncreased (w.faults w0) (w.faults w1) → CountNotIncreased (i.raised i0) (i.raised i1)
+      → IsSetupValidForLsFiles (w.precomposes w0) t here wants → refusal ≡ refusals.OutOfMemory
   complete refusal a t told quiet calm ready =
-      both_by_kind (walks wants.listing) a ready (λ walked valid. calls.text-complete w i w0 w1 i0 i1 here.root here.setup (setup_for wants here) 0 refusal walked.refused t told quiet calm valid)
+      both_by_kind (needs_worktree_walk wants.listing) a ready (λ walked valid. calls.text-complete w i w0 w1 i0 i1 here.root here.setup (ls_files_setup_for_found wants here) 0 refusal walked.refused t told quiet calm valid)
       (λ index nothing. index.refused)
 
   -- what is refused over a tree, but for an interrupt
-  pub refused : (refusal : Refusal) → Lists w i w0 w1 i0 i1 wants here (Err refusal) → (t : Names) → w.told w0 ≡ Some t → NotIncreased (w.faults w0) (w.faults w1) → program_status refusal ≡ 128
-      → (refusal ≡ refusals.OutOfMemory) ⊎ RefusesReport (w.precomposes w0) t here.root (setup_for wants here) refusal
+  pub refused : (refusal : Refusal) → AnswersLsFilesOfFound w i w0 w1 i0 i1 wants here (Err refusal) → (t : Names) → w.told w0 ≡ Some t → CountNotIncreased (w.faults w0) (w.faults w1) → status_of_program_refusal refusal ≡ 128
+      → (refusal ≡ refusals.OutOfMemory) ⊎ RefusesReportOverTree (w.precomposes w0) t here.root (ls_files_setup_for_found wants here) refusal
   refused refusal a t told quiet is =
-      by_kind (walks wants.listing) a (λ walked. calls.text-refused w i w0 w1 i0 i1 here.root here.setup (setup_for wants here) 0 refusal walked.refused t told quiet is)
+      by_kind (needs_worktree_walk wants.listing) a (λ walked. calls.text-refused w i w0 w1 i0 i1 here.root here.setup (ls_files_setup_for_found wants here) 0 refusal walked.refused t told quiet is)
       (λ index. inl index.refused)

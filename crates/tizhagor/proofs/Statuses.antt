@@ -3,22 +3,22 @@ use Rattle.std.proofs.Common.{◌≡◌, ◌≤◌, ◌<◌, inl, inr, ℕ, List
 use Rattle.worktree_fs.specs.declared.sink.Sink.{Ghosts as SinkOf}
 use Rattle.worktree_report.specs.declared.refusal.Refusal.{Refusal}
 use Rattle.worktree_report.specs.declared.refusal.Refusal.TheVariants as refusals
-use Rattle.command_line.specs.Requests.{Asking, Command as Commands, asks, is_misuse}
+use Rattle.command_line.specs.Requests.{RequestOrMisuse, Command as Commands, asks, is_misuse}
 use Rattle.command_line.specs.declared.misuse.Wrong.{Wrong}
 use Rattle.command_line.specs.declared.verb.Topic.{Topic}
 use Rattle.git_setup.specs.declared.found.Found.{Found}
 use Rattle.tizhagor.specs.declared.refusal.HereRefusal.{HereRefusal}
 use Rattle.tizhagor.specs.declared.refusal.HereRefusal.TheVariants as errors
 use Rattle.tizhagor.specs.declared.reply.Reply.{Reply}
-use Rattle.tizhagor.specs.Ends.{EndsHere, IsReplied, IsTold, IsToldOf}
-use Rattle.tizhagor.specs.Parts.{memory_line}
-use Rattle.tizhagor.specs.ProgramLines.{program_status}
-use Rattle.tizhagor.specs.Refusals.{IsOfFinding, memory, status_of}
-use Rattle.tizhagor.specs.Replies.{answer_status, status_in}
+use Rattle.tizhagor.specs.Ends.{EndsWithStatusAndStreams, WritesReplyWhole, SaysRefusalOrMemoryLine, SaysLineWithStatus}
+use Rattle.tizhagor.specs.Parts.{out_of_memory_line}
+use Rattle.tizhagor.specs.ProgramLines.{status_of_program_refusal}
+use Rattle.tizhagor.specs.Refusals.{MayComeBeforeSetupIsFound, memory, status_of}
+use Rattle.tizhagor.specs.Replies.{status_of_yes_or_no, status_of_reply}
 
 -- ---- statuses
 
-program_high : (r : Refusal) → 128 ≤ program_status r
+program_high : (r : Refusal) → 128 ≤ status_of_program_refusal r
 program_high refusals.Interrupted = omega arith
 program_high refusals.Usage = omega arith
 program_high (refusals.Setup line) = omega arith
@@ -42,14 +42,14 @@ is_high (errors.Unchecked reason) = omega arith
 is_high (errors.Cleaning wrong) = omega arith
 is_high (errors.Program r) = program_high r
 
-pub is_low : (reply : Reply) → status_in reply ≤ 1
+pub is_low : (reply : Reply) → status_of_reply reply ≤ 1
 is_low reply = go reply.is_no
   where
-    go : (is_no : Bool) → answer_status is_no ≤ 1
+    go : (is_no : Bool) → status_of_yes_or_no is_no ≤ 1
     go true = omega arith
     go false = omega arith
 
-pub program_not_misuse : (r : Refusal) → program_status r ≡ 129 → ⊥
+pub program_not_misuse : (r : Refusal) → status_of_program_refusal r ≡ 129 → ⊥
 program_not_misuse refusals.Interrupted is = omega arith
 program_not_misuse refusals.Usage is = omega arith
 program_not_misuse (refusals.Setup line) is = omega arith
@@ -60,7 +60,7 @@ program_not_misuse refusals.Output is = omega arith
 program_not_misuse refusals.OutOfMemory is = omega arith
 
 -- while a work tree is looked for no word is found wrong, and no interrupt is asked
-pub finding_not_misuse : (e : HereRefusal) → IsOfFinding e → status_of e ≡ 129 → ⊥
+pub finding_not_misuse : (e : HereRefusal) → MayComeBeforeSetupIsFound e → status_of e ≡ 129 → ⊥
 finding_not_misuse (errors.Words misuse) of is = absurd of
 finding_not_misuse (errors.Absent directory) of is = omega arith
 finding_not_misuse (errors.NotADirectory directory) of is = omega arith
@@ -74,7 +74,7 @@ finding_not_misuse (errors.Unchecked reason) of is = omega arith
 finding_not_misuse (errors.Cleaning wrong) of is = omega arith
 finding_not_misuse (errors.Program r) of is = program_not_misuse r is
 
-pub interrupted_is : (r : Refusal) → program_status r ≡ 130 → r ≡ refusals.Interrupted
+pub interrupted_is : (r : Refusal) → status_of_program_refusal r ≡ 130 → r ≡ refusals.Interrupted
 interrupted_is refusals.Interrupted is = refl
 interrupted_is refusals.Usage is = absurd (omega arith)
 interrupted_is (refusals.Setup line) is = absurd (omega arith)
@@ -84,7 +84,7 @@ interrupted_is refusals.Fault is = absurd (omega arith)
 interrupted_is refusals.Output is = absurd (omega arith)
 interrupted_is refusals.OutOfMemory is = absurd (omega arith)
 
-pub finding_not_interrupted : (e : HereRefusal) → IsOfFinding e → status_of e ≡ 130 → ⊥
+pub finding_not_interrupted : (e : HereRefusal) → MayComeBeforeSetupIsFound e → status_of e ≡ 130 → ⊥
 finding_not_interrupted (errors.Words misuse) of is = absurd of
 finding_not_interrupted (errors.Absent directory) of is = omega arith
 finding_not_interrupted (errors.NotADirectory directory) of is = omega arith
@@ -125,15 +125,15 @@ same_refusal e = cc
 pub not_found : {a : Found} {b : HereRefusal} → ◌≡◌ {A = Result Found HereRefusal} (Ok a) (Err b) → ⊥
 not_found is = absurd cc
 
-pub no_asking : {directory : Option (List ℕ)} {command : Commands} {topic : Topic} {wrong : Wrong} {word : List ℕ} → ◌≡◌ {A = Asking} (asks directory command) (is_misuse topic wrong word) → ⊥
+pub no_asking : {directory : Option (List ℕ)} {command : Commands} {topic : Topic} {wrong : Wrong} {word : List ℕ} → ◌≡◌ {A = RequestOrMisuse} (asks directory command) (is_misuse topic wrong word) → ⊥
 no_asking is = absurd cc
 
 -- ---- how it ends
 
 module _ {S E : Type 0} (s : SinkOf S) (e : SinkOf E) (s0 s1 : S) (e0 e1 : E) (first : List ℕ) (status : ℕ) where
   -- with 0 and 1 there is a reply, and it is written
-  pub ends_low : (answer : Result Reply HereRefusal) → EndsHere s e s0 s1 e0 e1 first answer status → status ≤ 1
-      → (reply : Reply) × (answer ≡ Ok reply) × IsReplied s e s0 s1 e0 e1 reply status
+  pub ends_low : (answer : Result Reply HereRefusal) → EndsWithStatusAndStreams s e s0 s1 e0 e1 first answer status → status ≤ 1
+      → (reply : Reply) × (answer ≡ Ok reply) × WritesReplyWhole s e s0 s1 e0 e1 reply status
   ends_low (Ok reply) ends few = elim ends.by [ inl whole ↦ (reply, refl, whole) | inr cut ↦ absurd (let is = cut.status_is in omega (arith, is, few)) ]
   ends_low (Err refusal) ends few =
       elim ends.by.1 [
@@ -142,7 +142,7 @@ module _ {S E : Type 0} (s : SinkOf S) (e : SinkOf E) (s0 s1 : S) (e0 e1 : E) (f
       ]
 
   -- a status above 128 is that of a refusal
-  pub ends_above : (answer : Result Reply HereRefusal) → EndsHere s e s0 s1 e0 e1 first answer status → (n : ℕ) → status ≡ n → 128 < n
+  pub ends_above : (answer : Result Reply HereRefusal) → EndsWithStatusAndStreams s e s0 s1 e0 e1 first answer status → (n : ℕ) → status ≡ n → 128 < n
       → (refusal : HereRefusal) × (answer ≡ Err refusal) × (status_of refusal ≡ n)
   ends_above (Ok reply) ends n is high =
       elim ends.by [
@@ -153,5 +153,5 @@ module _ {S E : Type 0} (s : SinkOf S) (e : SinkOf E) (s0 s1 : S) (e0 e1 : E) (f
       elim ends.by.1 [ inl told ↦ (refusal, refl, sym told.status_is ∙ is) | inr untold ↦ absurd (let same = untold.status_is in omega (arith, same, is, high)) ]
 
   -- want of memory is told
-  pub wants_memory : (refusal : HereRefusal) → refusal ≡ memory → IsTold e e0 e1 first refusal status → IsToldOf e e0 e1 memory_line 128 status
-  wants_memory refusal is told = elim (subst (λ (x : HereRefusal). IsTold e e0 e1 first x status) is told) [ inl known ↦ record { status_is = known.status_is; said = known.said } | inr untold ↦ untold ]
+  pub wants_memory : (refusal : HereRefusal) → refusal ≡ memory → SaysRefusalOrMemoryLine e e0 e1 first refusal status → SaysLineWithStatus e e0 e1 out_of_memory_line 128 status
+  wants_memory refusal is told = elim (subst (λ (x : HereRefusal). SaysRefusalOrMemoryLine e e0 e1 first x status) is told) [ inl known ↦ record { status_is = known.status_is; said = known.said } | inr untold ↦ untold ]

@@ -8,30 +8,30 @@ use Rattle.std.specs.Prelude.{◌++◌, false, ◌&&◌, ◌||◌}
 use Rattle.command_line.specs.declared.command.FilesAsked.{FilesAsked}
 use Rattle.ls_files.specs.declared.options.Listing.{Listing}
 use Rattle.tizhagor.specs.declared.reply.Reply.{Reply}
-use Rattle.tizhagor.specs.TreeWords.{TreeWord, listing_of}
-use Rattle.tizhagor.specs.StatWords.{StatWord, changes_of, differences_of, states_of}
+use Rattle.tizhagor.specs.TreeWords.{WorkTreeCommand, listing_of}
+use Rattle.tizhagor.specs.StatWords.{StatCommand, changes_of, differences_of, states_of}
 
 -- What a walk finds, alone. With `-i` what the index has stays asked for, since it is then refused as such.
-abbrev pub walked_part : Listing → Listing
-walked_part l = record l { cached = l.cached && l.ignored; stages = false; unmerged = false }
+abbrev pub ls_files_options_for_walk_alone : Listing → Listing
+ls_files_options_for_walk_alone l = record l { cached = l.cached && l.ignored; stages = false; unmerged = false }
 
-abbrev pub walked : FilesAsked → FilesAsked
-walked wants = record wants { listing = walked_part wants.listing }
+abbrev pub ls_files_request_of_walk_alone : FilesAsked → FilesAsked
+ls_files_request_of_walk_alone wants = record wants { listing = ls_files_options_for_walk_alone wants.listing }
 
-abbrev pub walked_word : FilesAsked → TreeWord
-walked_word wants = listing_of (walked wants)
+abbrev pub ls_files_command_of_walk_alone : FilesAsked → WorkTreeCommand
+ls_files_command_of_walk_alone wants = listing_of (ls_files_request_of_walk_alone wants)
 
 -- the first reply, and the second behind it
-abbrev pub joined : Reply → Reply → Reply
-joined first second =
+abbrev pub join_replies : Reply → Reply → Reply
+join_replies first second =
     record { out = first.out ++ second.out; err = first.err ++ second.err; is_no = first.is_no || second.is_no }
 
 -- the first reply, and the second in front of it
-abbrev pub in_front : Reply → Reply → Reply
-in_front first second = joined second first
+abbrev pub second_reply_before_first : Reply → Reply → Reply
+second_reply_before_first first second = join_replies second first
 
 -- how the reply of what is told by stats stands beside the first one: behind it, but that of `state` in front of it
-abbrev pub join_of : StatWord → Reply → Reply → Reply
-join_of (differences_of comparing) = joined
-join_of (changes_of wants standings) = joined
-join_of (states_of writing) = in_front
+abbrev pub reply_join_of_stat_command : StatCommand → Reply → Reply → Reply
+reply_join_of_stat_command (differences_of comparing) = join_replies
+reply_join_of_stat_command (changes_of wants standings) = join_replies
+reply_join_of_stat_command (states_of writing) = second_reply_before_first

@@ -1,21 +1,21 @@
 -- What `ls-files -d` and `-m` list of a work tree.
 use Rattle.std.specs.Prelude.{ℕ, List, Bool, map, Option, Some, None, Result, Ok, Err}
 use Rattle.gitbase_core.specs.Steps.{and_then}
-use Rattle.command_line.specs.Comparings.{default_comparing}
+use Rattle.command_line.specs.Comparings.{default_diff_files_request}
 use Rattle.command_line.specs.declared.command.FilesAsked.{FilesAsked}
-use Rattle.diff_files.specs.Stats.{Told}
+use Rattle.diff_files.specs.Stats.{StatsByPath}
 use Rattle.diff_files.specs.declared.comparison.Comparison.{Comparison}
 use Rattle.ls_files.specs.declared.changed_error.ChangedError.{ChangedError}
 use Rattle.ls_files.specs.declared.changed_error.ChangedError.TheVariants as differences
 use Rattle.diff_files.specs.declared.error.Unsupported.{Unsupported}
-use Rattle.git_places.specs.Variables.{Variable}
+use Rattle.git_places.specs.Variables.{EnvironmentVariable}
 use Rattle.git_setup.specs.FromDirectory as setups
 use Rattle.git_setup.specs.declared.asked.Asked.{Asked}
 use Rattle.git_setup.specs.declared.compared.Compared.{Compared}
 use Rattle.git_setup.specs.declared.from_directory.ComparedFrom.{ComparedFrom}
 use Rattle.git_setup.specs.declared.settings.Settings.{Settings}
-use Rattle.ls_files.specs.Changed.{changed_in}
-use Rattle.ls_files.specs.Wrong.{wrong_beside}
+use Rattle.ls_files.specs.Changed.{output_of_changes_or_unsupported}
+use Rattle.ls_files.specs.Wrong.{refusal_of_options_for_changes}
 use Rattle.ls_files.specs.declared.listed.Listed.{Listed}
 use Rattle.ls_files.specs.declared.options.Listing.{Listing}
 use Rattle.ls_files.specs.declared.options.NamedSpec.{NamedSpec}
@@ -28,71 +28,71 @@ use Rattle.tizhagor.specs.declared.compare.Placed.{Placed}
 use Rattle.tizhagor.specs.declared.refusal.HereRefusal.{HereRefusal}
 use Rattle.tizhagor.specs.declared.refusal.HereRefusal.TheVariants as errors
 use Rattle.tizhagor.specs.declared.reply.Reply.{Reply}
-use Rattle.tizhagor.specs.Comparing.{comparison_of, index_time, placed_in}
-use Rattle.tizhagor.specs.Listings.{listing_said, listing_with, named_of, reply_of}
-use Rattle.tizhagor.specs.Refusals.{as_git, fault, memory}
+use Rattle.tizhagor.specs.Comparing.{comparison_of_request_and_settings, index_mtime_of_git_dir, find_work_tree_and_repository_places}
+use Rattle.tizhagor.specs.Listings.{ls_files_options_of_request, ls_files_options_with_quote_path, named_spec_of_asked_spec, reply_of_listed_files}
+use Rattle.tizhagor.specs.Refusals.{git_result_with_here_refusal, fault, memory}
 
 -- ---- what is read
 
-abbrev pub compared_in : Names → Placed → Asked → Result ComparedFrom HereRefusal
-compared_in t placed asked = as_git (setups.compared_from t placed.places placed.around asked.prefers_current asked.paths.items)
+abbrev pub inputs_for_listing_changes_in_tree : Names → Placed → Asked → Result ComparedFrom HereRefusal
+inputs_for_listing_changes_in_tree t placed asked = git_result_with_here_refusal (setups.read_comparison_setup_from_directory t placed.places placed.around asked.prefers_current asked.paths.items)
 
-abbrev pub wrong_or : ComparedFrom → Option WrongListing → Result ComparedFrom HereRefusal
-wrong_or compared None = Ok compared
-wrong_or compared (Some why) = Err (errors.Listing why)
+abbrev pub inputs_or_wrong_listing_refusal : ComparedFrom → Option WrongListing → Result ComparedFrom HereRefusal
+inputs_or_wrong_listing_refusal compared None = Ok compared
+inputs_or_wrong_listing_refusal compared (Some why) = Err (errors.Listing why)
 
 -- what is read, unless there is no such listing
-abbrev pub unless_wrong : FilesAsked → ComparedFrom → Result ComparedFrom HereRefusal
-unless_wrong wants compared = wrong_or compared (wrong_beside (listing_said wants))
+abbrev pub require_valid_listing_of_changes : FilesAsked → ComparedFrom → Result ComparedFrom HereRefusal
+require_valid_listing_of_changes wants compared = inputs_or_wrong_listing_refusal compared (refusal_of_options_for_changes (ls_files_options_of_request wants))
 
-unfoldable pub listable_in : Names → Placed → Asked → FilesAsked → Result ComparedFrom HereRefusal
-listable_in t placed asked wants = and_then (unless_wrong wants) (compared_in t placed asked)
+unfoldable pub checked_inputs_for_listing_changes : Names → Placed → Asked → FilesAsked → Result ComparedFrom HereRefusal
+checked_inputs_for_listing_changes t placed asked wants = and_then (require_valid_listing_of_changes wants) (inputs_for_listing_changes_in_tree t placed asked)
 
 -- ---- what is asked of it
 
 -- both are compared as `diff-files` without options compares them; how it prints says nothing here
-abbrev pub comparison_by : Settings → ℕ → Comparison
-comparison_by settings time = comparison_of default_comparing settings time
+abbrev pub default_comparison_of_settings : Settings → ℕ → Comparison
+default_comparison_of_settings settings time = comparison_of_request_and_settings default_diff_files_request settings time
 
 -- the configuration says how bytes above 0x7f are written
-abbrev pub listing_by : FilesAsked → Settings → Listing
-listing_by wants settings = listing_with (listing_said wants) settings.quote_path
+abbrev pub ls_files_options_with_config_quoting : FilesAsked → Settings → Listing
+ls_files_options_with_config_quoting wants settings = ls_files_options_with_quote_path (ls_files_options_of_request wants) settings.quote_path
 
 -- ---- what is said
 
-abbrev pub of_changed : ChangedError → HereRefusal
-of_changed (differences.Unsupported form) = errors.Listing (wrong.Unsupported form)
-of_changed differences.Fault = fault
-of_changed differences.OutOfMemory = memory
+abbrev pub here_refusal_of_changed_error : ChangedError → HereRefusal
+here_refusal_of_changed_error (differences.Unsupported form) = errors.Listing (wrong.Unsupported form)
+here_refusal_of_changed_error differences.Fault = fault
+here_refusal_of_changed_error differences.OutOfMemory = memory
 
-abbrev pub as_reply : Result Listed ChangedError → Result Reply HereRefusal
-as_reply (Ok made) = Ok (reply_of made)
-as_reply (Err e) = Err (of_changed e)
+abbrev pub reply_of_deleted_and_modified : Result Listed ChangedError → Result Reply HereRefusal
+reply_of_deleted_and_modified (Ok made) = Ok (reply_of_listed_files made)
+reply_of_deleted_and_modified (Err e) = Err (here_refusal_of_changed_error e)
 
-abbrev pub as_said : Result Listed Unsupported → Result Reply HereRefusal
-as_said (Ok made) = Ok (reply_of made)
-as_said (Err form) = Err (errors.Listing (wrong.Unsupported form))
+abbrev pub reply_of_listed_changes_or_unsupported : Result Listed Unsupported → Result Reply HereRefusal
+reply_of_listed_changes_or_unsupported (Ok made) = Ok (reply_of_listed_files made)
+reply_of_listed_changes_or_unsupported (Err form) = Err (errors.Listing (wrong.Unsupported form))
 
 -- what is listed of a work tree and its index, where that was written at a time, in a directory and with each path spec
-unfoldable pub listed_by : Names → Told → FilesAsked → Standings → Compared → List ℕ → List NamedSpec → ℕ → Result Reply HereRefusal
-listed_by t told wants standings compared prefix named time =
-    as_said
-    (changed_in (record { tree = t; stats = told }) compared.root compared.index compared.details (comparison_by compared.settings time) standings
-    (listing_by wants compared.settings) prefix named compared.specs)
+unfoldable pub changed_files_reply_of_comparison : Names → StatsByPath → FilesAsked → Standings → Compared → List ℕ → List NamedSpec → ℕ → Result Reply HereRefusal
+changed_files_reply_of_comparison t told wants standings compared prefix named time =
+    reply_of_listed_changes_or_unsupported
+    (output_of_changes_or_unsupported (record { tree = t; stats = told }) compared.root compared.index compared.details (default_comparison_of_settings compared.settings time) standings
+    (ls_files_options_with_config_quoting wants compared.settings) prefix named compared.specs)
 
-abbrev pub listed_from : Names → Told → FilesAsked → Standings → ComparedFrom → ℕ → Result Reply HereRefusal
-listed_from t told wants standings from time =
-    listed_by t told wants standings from.compared from.prefix (map named_of from.each) time
+abbrev pub changed_files_reply_from_directory : Names → StatsByPath → FilesAsked → Standings → ComparedFrom → ℕ → Result Reply HereRefusal
+changed_files_reply_from_directory t told wants standings from time =
+    changed_files_reply_of_comparison t told wants standings from.compared from.prefix (map named_spec_of_asked_spec from.each) time
 
-abbrev pub listed_read : Names → Told → Placed → Asked → FilesAsked → Standings → ℕ → Result Reply HereRefusal
-listed_read t told placed asked wants standings time =
-    and_then (λ (compared : ComparedFrom). listed_from t told wants standings compared time) (listable_in t placed asked wants)
+abbrev pub changed_files_reply_at_index_time : Names → StatsByPath → Placed → Asked → FilesAsked → Standings → ℕ → Result Reply HereRefusal
+changed_files_reply_at_index_time t told placed asked wants standings time =
+    and_then (λ (compared : ComparedFrom). changed_files_reply_from_directory t told wants standings compared time) (checked_inputs_for_listing_changes t placed asked wants)
 
-abbrev pub listed_at : Names → Told → Placed → Asked → FilesAsked → Standings → Result Reply HereRefusal
-listed_at t told placed asked wants standings =
-    and_then (λ (time : ℕ). listed_read t told placed asked wants standings time) (index_time t told placed.places.git)
+abbrev pub changed_files_reply_of_placed : Names → StatsByPath → Placed → Asked → FilesAsked → Standings → Result Reply HereRefusal
+changed_files_reply_of_placed t told placed asked wants standings =
+    and_then (λ (time : ℕ). changed_files_reply_at_index_time t told placed asked wants standings time) (index_mtime_of_git_dir t told placed.places.git)
 
 -- what is said of the work tree around a directory, or the first refusal
-abbrev pub listed_in : Names → OwnershipByPath → Told → List ℕ → List Variable → Option (List ℕ) → Asked → FilesAsked → Standings → Result Reply HereRefusal
-listed_in t owned told current variables directory asked wants standings =
-    and_then (λ (placed : Placed). listed_at t told placed asked wants standings) (placed_in t owned current variables directory)
+abbrev pub changed_files_reply_around_directory : Names → OwnershipByPath → StatsByPath → List ℕ → List EnvironmentVariable → Option (List ℕ) → Asked → FilesAsked → Standings → Result Reply HereRefusal
+changed_files_reply_around_directory t owned told current variables directory asked wants standings =
+    and_then (λ (placed : Placed). changed_files_reply_of_placed t told placed asked wants standings) (find_work_tree_and_repository_places t owned current variables directory)

@@ -1,24 +1,24 @@
 -- What `clean` names of a work tree that is found.
 use Rattle.std.specs.Prelude.{ℕ, List, [], Bool, true, false, ◌||◌, codes, Option, Some, None, Result, Ok, Err, if◌then◌else◌}
 use Rattle.gitbase_core.specs.Steps.{and_then}
-use Rattle.git_clean.specs.Cleaned.{TellsCleaning, cleaned_in}
-use Rattle.git_clean.specs.Walking.{options_for_cleaning_walk}
-use Rattle.git_clean.specs.Wrong.{wrong_in}
+use Rattle.git_clean.specs.Cleaned.{AnswersCleanDryRun, dry_run_text_over_tree}
+use Rattle.git_clean.specs.Walking.{walk_options_for_cleaning}
+use Rattle.git_clean.specs.Wrong.{reason_cleaning_unsupported}
 use Rattle.git_clean.specs.declared.options.Cleaning.{Cleaning}
 use Rattle.git_clean.specs.declared.wrong.WrongCleaning.{WrongCleaning}
-use Rattle.git_config_lite.specs.Lookups.{boolean}
+use Rattle.git_config_lite.specs.Lookups.{last_boolean_value}
 use Rattle.git_config_lite.specs.Sections.{Section}
-use Rattle.git_places.specs.Variables.{Variable}
+use Rattle.git_places.specs.Variables.{EnvironmentVariable}
 use Rattle.git_setup.specs.declared.asked.Asked.{Asked}
 use Rattle.git_setup.specs.declared.found.Found.{Found}
-use Rattle.command_line.specs.Cleanings.{is_forced, is_forced_twice}
+use Rattle.command_line.specs.Cleanings.{is_force_given_counting_config, is_force_given_twice_counting_config}
 use Rattle.command_line.specs.declared.clean_options.Force.{Force}
 use Rattle.command_line.specs.declared.command.CleanAsked.{CleanAsked}
 use Rattle.worktree_fs.specs.declared.interrupt.Interrupt.{Ghosts as InterruptOf}
 use Rattle.worktree_fs.specs.declared.worktree.Worktree.{Ghosts as WorktreeOf}
 use Rattle.worktree_fs.specs.Owners.{OwnershipByPath}
 use Rattle.worktree_fs.specs.Tree.{Names}
-use Rattle.worktree_report.specs.Asked.{read_in, IsValidAt}
+use Rattle.worktree_report.specs.Asked.{sources_of_tree_and_setup, IsSetupValidAtRoot}
 use Rattle.worktree_report.specs.declared.refusal.Refusal.{Refusal}
 use Rattle.worktree_report.specs.declared.setup.Setup.{Setup}
 use Rattle.tizhagor.specs.declared.require_force.Required.{Required}
@@ -27,20 +27,20 @@ use Rattle.tizhagor.specs.declared.require_force.WrongClean.{WrongClean}
 use Rattle.tizhagor.specs.declared.require_force.WrongClean.TheVariants as wrongs
 use Rattle.tizhagor.specs.declared.refusal.HereRefusal.{HereRefusal}
 use Rattle.tizhagor.specs.declared.refusal.HereRefusal.TheVariants as errors
-use Rattle.tizhagor.specs.Asking.{around_in}
-use Rattle.tizhagor.specs.Listings.{all_named}
-use Rattle.tizhagor.specs.Patterns.{is_any, rules_of}
+use Rattle.tizhagor.specs.Asking.{found_around_current_directory}
+use Rattle.tizhagor.specs.Listings.{named_specs_of_found}
+use Rattle.tizhagor.specs.Patterns.{is_nonempty_list, rules_text_of_patterns}
 
 -- ---- what the configuration says of `-f`
 
 -- `clean.requireForce` by its value, if it has one
-abbrev pub required_as : Result (Option Bool) (List ℕ) → Required
-required_as (Ok None) = required.Unsaid
-required_as (Ok (Some is)) = if is then required.Yes else required.No
-required_as (Err text) = required.Unread
+abbrev pub require_force_of_boolean : Result (Option Bool) (List ℕ) → Required
+require_force_of_boolean (Ok None) = required.Unsaid
+require_force_of_boolean (Ok (Some is)) = if is then required.Yes else required.No
+require_force_of_boolean (Err text) = required.Unread
 
-abbrev pub required_in : List Section → Required
-required_in sections = required_as (boolean (codes "clean") None (codes "requireforce") sections)
+abbrev pub read_require_force : List Section → Required
+read_require_force sections = require_force_of_boolean (last_boolean_value (codes "clean") None (codes "requireforce") sections)
 
 -- where it is false that counts for one `-f`
 abbrev pub is_require_force_false : Required → Bool
@@ -49,80 +49,80 @@ is_require_force_false required.Yes = false
 is_require_force_false required.No = true
 is_require_force_false required.Unread = false
 
-abbrev pub is_require_force_off : Found → Bool
-is_require_force_off here = is_require_force_false (required_in here.config.sections)
+abbrev pub has_require_force_false : Found → Bool
+has_require_force_false here = is_require_force_false (read_require_force here.config.sections)
 
 -- git refuses to remove, and to say what it would remove
-abbrev pub unforced : Bool → Force → Required → Option WrongClean
-unforced is_dry force required.Unread = Some wrongs.Unread
-unforced is_dry force required.Unsaid = if is_dry || is_forced force false then None else Some wrongs.Unforced
-unforced is_dry force required.Yes = if is_dry || is_forced force false then None else Some wrongs.UnforcedAsSaid
-unforced is_dry force required.No = if is_dry || is_forced force true then None else Some wrongs.UnforcedAsSaid
+abbrev pub reason_force_is_missing : Bool → Force → Required → Option WrongClean
+reason_force_is_missing is_dry force required.Unread = Some wrongs.Unread
+reason_force_is_missing is_dry force required.Unsaid = if is_dry || is_force_given_counting_config force false then None else Some wrongs.Unforced
+reason_force_is_missing is_dry force required.Yes = if is_dry || is_force_given_counting_config force false then None else Some wrongs.UnforcedAsSaid
+reason_force_is_missing is_dry force required.No = if is_dry || is_force_given_counting_config force true then None else Some wrongs.UnforcedAsSaid
 
-abbrev pub unforced_here : CleanAsked → Found → Option WrongClean
-unforced_here wants here = unforced wants.cleaning.dry_run wants.force (required_in here.config.sections)
+abbrev pub reason_force_is_missing_in_found : CleanAsked → Found → Option WrongClean
+reason_force_is_missing_in_found wants here = reason_force_is_missing wants.cleaning.dry_run wants.force (read_require_force here.config.sections)
 
 -- ---- what is asked of a cleaning
 
-abbrev pub with_patterns : Cleaning → Bool → Cleaning
-with_patterns cleaning patterns = record cleaning { patterns = patterns }
+abbrev pub clean_options_with_pattern_flag : Cleaning → Bool → Cleaning
+clean_options_with_pattern_flag cleaning patterns = record cleaning { patterns = patterns }
 
 -- whether there are patterns is said by these
-abbrev pub cleaning_said : CleanAsked → Cleaning
-cleaning_said wants = with_patterns wants.cleaning (is_any wants.patterns.items)
+abbrev pub clean_options_of_request : CleanAsked → Cleaning
+clean_options_of_request wants = clean_options_with_pattern_flag wants.cleaning (is_nonempty_list wants.patterns.items)
 
 -- ---- what is found for a cleaning
 
 -- the options with which a work tree is found
-abbrev pub clean_asked : CleanAsked → Asked → Asked
-clean_asked wants asked = record asked { options = options_for_cleaning_walk (cleaning_said wants) asked.options }
+abbrev pub request_with_walk_options_for_clean : CleanAsked → Asked → Asked
+request_with_walk_options_for_clean wants asked = record asked { options = walk_options_for_cleaning (clean_options_of_request wants) asked.options }
 
-abbrev pub of_wrong : Option WrongCleaning → Option WrongClean
-of_wrong None = None
-of_wrong (Some wrong) = Some (wrongs.Wrong wrong)
+abbrev pub wrong_clean_of_wrong_cleaning : Option WrongCleaning → Option WrongClean
+wrong_clean_of_wrong_cleaning None = None
+wrong_clean_of_wrong_cleaning (Some wrong) = Some (wrongs.Wrong wrong)
 
-abbrev pub first_wrong : Option WrongClean → Option WrongClean → Option WrongClean
-first_wrong None other = other
-first_wrong (Some wrong) other = Some wrong
+abbrev pub first_reason_clean_is_wrong : Option WrongClean → Option WrongClean → Option WrongClean
+first_reason_clean_is_wrong None other = other
+first_reason_clean_is_wrong (Some wrong) other = Some wrong
 
 -- what is found, or the first reason why there is no such cleaning of it
-abbrev pub wrong_or : Found → Option WrongClean → Result Found HereRefusal
-wrong_or here None = Ok here
-wrong_or here (Some wrong) = Err (errors.Cleaning wrong)
+abbrev pub found_or_wrong_clean : Found → Option WrongClean → Result Found HereRefusal
+found_or_wrong_clean here None = Ok here
+found_or_wrong_clean here (Some wrong) = Err (errors.Cleaning wrong)
 
-abbrev pub unless_unclean : CleanAsked → Found → Result Found HereRefusal
-unless_unclean wants here = wrong_or here (first_wrong (unforced_here wants here) (of_wrong (wrong_in (cleaning_said wants) here.setup)))
+abbrev pub require_valid_clean_request : CleanAsked → Found → Result Found HereRefusal
+require_valid_clean_request wants here = found_or_wrong_clean here (first_reason_clean_is_wrong (reason_force_is_missing_in_found wants here) (wrong_clean_of_wrong_cleaning (reason_cleaning_unsupported (clean_options_of_request wants) here.setup)))
 
 -- The work tree around a directory and its setup, or the first refusal: as for any command, and then of the cleaning.
-abbrev pub cleanable_in : Names → OwnershipByPath → List ℕ → List Variable → Option (List ℕ) → CleanAsked → Asked → Result Found HereRefusal
-cleanable_in t owned current variables directory wants asked =
-    and_then (unless_unclean wants) (around_in t owned current variables directory (clean_asked wants asked))
+abbrev pub found_checked_for_clean : Names → OwnershipByPath → List ℕ → List EnvironmentVariable → Option (List ℕ) → CleanAsked → Asked → Result Found HereRefusal
+found_checked_for_clean t owned current variables directory wants asked =
+    and_then (require_valid_clean_request wants) (found_around_current_directory t owned current variables directory (request_with_walk_options_for_clean wants asked))
 
 -- ---- what is named by it
 
 -- repositories too, by how often `-f` stands; and the configuration says how bytes above 0x7f are written
-abbrev pub cleaning_with : Cleaning → Bool → Bool → Cleaning
-cleaning_with cleaning repositories quote_path = record cleaning { repositories = repositories; quote_path = quote_path }
+abbrev pub clean_options_with_configuration : Cleaning → Bool → Bool → Cleaning
+clean_options_with_configuration cleaning repositories quote_path = record cleaning { repositories = repositories; quote_path = quote_path }
 
-abbrev pub cleaning_for : CleanAsked → Found → Cleaning
-cleaning_for wants here = cleaning_with (cleaning_said wants) (is_forced_twice wants.force (is_require_force_off here)) here.quote_path
+abbrev pub clean_options_for_found : CleanAsked → Found → Cleaning
+clean_options_for_found wants here = clean_options_with_configuration (clean_options_of_request wants) (is_force_given_twice_counting_config wants.force (has_require_force_false here)) here.quote_path
 
 -- the setup with the patterns before all other rules, and the whole of the work tree to look at
-abbrev pub setup_with : List ℕ → Setup → Setup
-setup_with rules setup = record setup { root = Some (codes "."); overrides = rules }
+abbrev pub whole_tree_setup_with_rules : List ℕ → Setup → Setup
+whole_tree_setup_with_rules rules setup = record setup { root = Some (codes "."); overrides = rules }
 
-abbrev pub setup_for : CleanAsked → Found → Setup
-setup_for wants here = setup_with (rules_of wants.patterns.items) here.setup
+abbrev pub clean_setup_for_found : CleanAsked → Found → Setup
+clean_setup_for_found wants here = whole_tree_setup_with_rules (rules_text_of_patterns wants.patterns.items) here.setup
 
 -- over a tree, by a report of the work tree
-abbrev pub cleaned_for : Bool → Names → Found → CleanAsked → Option (List ℕ)
-cleaned_for composes t here wants = cleaned_in composes t here.root (setup_for wants here) (cleaning_for wants here) here.prefix (all_named here)
+abbrev pub clean_dry_run_text_of_found : Bool → Names → Found → CleanAsked → Option (List ℕ)
+clean_dry_run_text_of_found composes t here wants = dry_run_text_over_tree composes t here.root (clean_setup_for_found wants here) (clean_options_for_found wants here) here.prefix (named_specs_of_found here)
 
 -- it can be had
-abbrev pub IsCleanable : Bool → Names → Found → CleanAsked → Type 0
-IsCleanable composes t here wants = IsValidAt composes (read_in t (setup_for wants here)) here.root (setup_for wants here)
+abbrev pub IsSetupValidForClean : Bool → Names → Found → CleanAsked → Type 0
+IsSetupValidForClean composes t here wants = IsSetupValidAtRoot composes (sources_of_tree_and_setup t (clean_setup_for_found wants here)) here.root (clean_setup_for_found wants here)
 
 -- what making it says, where a worktree was `w0` and is `w1`, and an interrupt was `i0` and is `i1`
-abbrev pub Cleans : {W I : Type 0} → WorktreeOf W → InterruptOf I → W → W → I → I → CleanAsked → Found → Result (List ℕ) Refusal → Type 0
-Cleans w i w0 w1 i0 i1 wants here answer =
-    TellsCleaning w i (w.precomposes w0) w0 w1 i0 i1 here.root (setup_for wants here) (cleaning_for wants here) here.prefix (all_named here) answer
+abbrev pub AnswersCleanDryRunOfFound : {W I : Type 0} → WorktreeOf W → InterruptOf I → W → W → I → I → CleanAsked → Found → Result (List ℕ) Refusal → Type 0
+AnswersCleanDryRunOfFound w i w0 w1 i0 i1 wants here answer =
+    AnswersCleanDryRun w i (w.precomposes w0) w0 w1 i0 i1 here.root (clean_setup_for_found wants here) (clean_options_for_found wants here) here.prefix (named_specs_of_found here) answer

@@ -3,24 +3,24 @@ use Rattle.std.specs.Prelude.{ℕ, List, true, Option, Some, None, Result, Ok, E
 use Rattle.gitbase_core.specs.Path.{is_empty}
 use Rattle.worktree_fs.specs.declared.answers.NodeKind.{NodeKind}
 use Rattle.worktree_fs.specs.declared.answers.NodeKind.TheVariants as kinds
-use Rattle.worktree_fs.specs.Answers.{kind_of}
+use Rattle.worktree_fs.specs.Answers.{kind_of_lookup}
 use Rattle.worktree_fs.specs.Changes.{real_path}
 use Rattle.worktree_fs.specs.Tree.{Names, look}
 use Rattle.tizhagor.specs.declared.refusal.HereRefusal.{HereRefusal}
 use Rattle.tizhagor.specs.declared.refusal.HereRefusal.TheVariants as errors
 
 -- by what is at its path without links
-abbrev pub directory_by : List ℕ → List ℕ → Option NodeKind → Result (List ℕ) HereRefusal
-directory_by name real None = Err (errors.Absent name)
-directory_by name real (Some kinds.File) = Err (errors.NotADirectory name)
-directory_by name real (Some kinds.Symlink) = Err (errors.NotADirectory name)
-directory_by name real (Some kinds.Directory) = Ok real
-directory_by name real (Some kinds.Untrackable) = Err (errors.NotADirectory name)
+abbrev pub require_directory_kind : List ℕ → List ℕ → Option NodeKind → Result (List ℕ) HereRefusal
+require_directory_kind name real None = Err (errors.Absent name)
+require_directory_kind name real (Some kinds.File) = Err (errors.NotADirectory name)
+require_directory_kind name real (Some kinds.Symlink) = Err (errors.NotADirectory name)
+require_directory_kind name real (Some kinds.Directory) = Ok real
+require_directory_kind name real (Some kinds.Untrackable) = Err (errors.NotADirectory name)
 
-abbrev pub directory_at : Names → List ℕ → Option (List ℕ) → Result (List ℕ) HereRefusal
-directory_at t name None = Err (errors.Absent name)
-directory_at t name (Some real) = directory_by name real (kind_of (look t real true))
+abbrev pub require_directory_at_optional_path : Names → List ℕ → Option (List ℕ) → Result (List ℕ) HereRefusal
+require_directory_at_optional_path t name None = Err (errors.Absent name)
+require_directory_at_optional_path t name (Some real) = require_directory_kind name real (kind_of_lookup (look t real true))
 
 -- The directory that a name leads to from the current one, without links; an empty name leads nowhere else.
-abbrev pub directory_named : Names → List ℕ → List ℕ → Result (List ℕ) HereRefusal
-directory_named t current name = if is_empty name then Ok current else directory_at t name (real_path t name current)
+abbrev pub resolve_named_directory : Names → List ℕ → List ℕ → Result (List ℕ) HereRefusal
+resolve_named_directory t current name = if is_empty name then Ok current else require_directory_at_optional_path t name (real_path t name current)

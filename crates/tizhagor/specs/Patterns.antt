@@ -4,18 +4,18 @@ use Rattle.std.specs.List.{flat_map, starts_with}
 use Rattle.git_setup.specs.BelowTop.{exempt_top_from_star_rules}
 
 -- there are some
-abbrev pub is_any : List (List ℕ) → Bool
-is_any [] = false
-is_any (pattern ∷ patterns) = true
+abbrev pub is_nonempty_list : List (List ℕ) → Bool
+is_nonempty_list [] = false
+is_nonempty_list (pattern ∷ patterns) = true
 
 -- a pattern as a line of a rules file: a `#` in front is a byte like any other
-abbrev pub pattern_line : List ℕ → List ℕ
-pattern_line pattern = if starts_with nat_eq pattern (codes "#") then 92 ∷ pattern else pattern
+abbrev pub pattern_with_escaped_hash : List ℕ → List ℕ
+pattern_with_escaped_hash pattern = if starts_with nat_eq pattern (codes "#") then 92 ∷ pattern else pattern
 
 -- each behind a line feed
-abbrev pub rule_line : List ℕ → List ℕ
-rule_line pattern = 10 ∷ pattern_line pattern
+abbrev pub rule_line_of_pattern : List ℕ → List ℕ
+rule_line_of_pattern pattern = 10 ∷ pattern_with_escaped_hash pattern
 
 -- as they leave the top of the work tree alone
-abbrev pub rules_of : List (List ℕ) → List ℕ
-rules_of patterns = exempt_top_from_star_rules (flat_map rule_line patterns)
+abbrev pub rules_text_of_patterns : List (List ℕ) → List ℕ
+rules_text_of_patterns patterns = exempt_top_from_star_rules (flat_map rule_line_of_pattern patterns)

@@ -1,47 +1,47 @@
 //! The top call.
 ghost use Rattle.std.specs.Prelude.{[], ◌≡◌, ◌≤◌, ◌⊎◌, true, Some, IfOk, IfErr};
-ghost use Rattle.worktree_fs.specs.Causes.{Increased, NotIncreased};
+ghost use Rattle.worktree_fs.specs.Causes.{CountIncreasedOrSaturated, CountNotIncreased};
 ghost use Rattle.worktree_fs.specs.Owners.{OwnershipByPath};
 ghost use Rattle.worktree_fs.specs.Tree.{Names};
-ghost use Rattle.diff_files.specs.Stats.{Told};
+ghost use Rattle.diff_files.specs.Stats.{StatsByPath};
 ghost use Rattle.std.specs.Prelude.{Result as ResultOf};
 ghost use Rattle.tizhagor.specs.Answers as answers;
-ghost use Rattle.tizhagor.specs.Asking.{asked_for};
+ghost use Rattle.tizhagor.specs.Asking.{request_with_call_options};
 ghost use Rattle.tizhagor.specs.BothHere as both;
 ghost use Rattle.tizhagor.specs.ComparedHere as compared;
-ghost use Rattle.tizhagor.specs.Ends.{EndsHere, IsFatal, IsReplied, IsTold, IsToldOf, RunsHere};
+ghost use Rattle.tizhagor.specs.Ends.{EndsWithStatusAndStreams, SaysRefusalWithProperty, WritesReplyWhole, SaysRefusalOrMemoryLine, SaysLineWithStatus, RunsToAnswerAndEnds};
 ghost use Rattle.tizhagor.specs.Output as output;
-ghost use Rattle.tizhagor.specs.Parts.{memory_line};
+ghost use Rattle.tizhagor.specs.Parts.{out_of_memory_line};
 ghost use Rattle.tizhagor.specs.Refusals.{memory};
-ghost use Rattle.tizhagor.specs.Replies.{SaysPlainly, plain};
+ghost use Rattle.tizhagor.specs.Replies.{HoldsOfOutputOfPlainReply, plain_reply};
 ghost use Rattle.tizhagor.specs.declared.reply.Reply.{Reply as ReplyOf};
 
-use crate::both::both_here;
-use crate::by_stat::state_here;
+use crate::both::list_walked_and_changed_files;
+use crate::by_stat::answer_state_by_stat;
 use crate::call::Call;
-use crate::changed::changed_here;
-use crate::check::check_here;
-use crate::clean::clean_here;
-use crate::compare::{ChangeLines, compare_here};
+use crate::changed::answer_ls_files_changed;
+use crate::check::answer_check_ignore;
+use crate::clean::answer_clean;
+use crate::compare::{ChangeLines, answer_diff_files_or_state_lines};
 use crate::directory::Here;
-use crate::excluded_here::excluded_here;
+use crate::excluded_here::answer_ls_files_ignored_index;
 use crate::fault::NamesFault;
-use crate::files::files_here;
-use crate::finish::finish_here;
-use crate::found::asked_for;
+use crate::files::answer_ls_files;
+use crate::finish::finish_with_answer;
+use crate::found::request_with_call_options;
 use crate::refusal::HereRefusal;
-use crate::reply::{Reply, plainly};
-use crate::texts::text_here;
-use crate::written::{Writing, written};
+use crate::reply::{Reply, plain_reply_or_here_refusal};
+use crate::texts::find_setup_and_make_call_text;
+use crate::written::{Writing, result_with_formatted_text};
 use command_line::{
-    CheckAsked, CleanAsked, Command, Comparing, FilesAsked, Topic, help_of, request_of, styled,
-    version,
+    CheckAsked, CleanAsked, Command, Comparing, FilesAsked, Topic, help_text_of_topic,
+    parse_request_words, style_for_output, version_line,
 };
 use diff_files::Stats;
 use git_places::Variable;
 use git_setup::Asked;
 use gitbase_core::Bytes;
-use ls_files::{Standings, lists_excluded, walks};
+use ls_files::{Standings, lists_only_ignored_index_entries, needs_worktree_walk};
 use std::alloc::Global;
 use worktree_fs::{Interrupt, Owners, Sink};
 use worktree_report::CountsFaults;
@@ -59,7 +59,7 @@ pub struct Called<'a> {
 }
 
 /// The bytes for a call, or why there are none.
-fn bytes_for<W: CountsFaults, O: Owners, I: Interrupt>(
+fn find_setup_and_make_call_bytes<W: CountsFaults, O: Owners, I: Interrupt>(
     alloc: Global,
     worktree: &mut W,
     owners: &mut O,
@@ -69,18 +69,20 @@ fn bytes_for<W: CountsFaults, O: Owners, I: Interrupt>(
     asked: Asked,
     writing: Writing,
 ) -> Result<Bytes, HereRefusal>
-    ensures { answers.AnswersCall W.Worktree I.Interrupt O.Owners worktree.old worktree.new
-        interrupt.old interrupt.new owners.old owners.new
-        (answers.found_at (answers.placed here.now.current.now here.now.variables.now true [])
-        here.now.directory.now (asked_for call asked)) call writing result }
+    ensures { answers.AnswersCallBytes W.Worktree I.Interrupt O.Owners worktree.old worktree.new
+        interrupt.old interrupt.new owners.old owners.new (answers.found_in_call_environment
+        (answers.call_environment_of_fields here.now.current.now here.now.variables.now true [])
+        here.now.directory.now (request_with_call_options call asked)) call writing result }
 {
-    let asked = asked_for(call, asked);
-    let answer = text_here(alloc, worktree, owners, interrupt, here, call, &asked);
-    written(alloc, writing, answer)
+    let asked = request_with_call_options(call, asked);
+    let answer = find_setup_and_make_call_text(
+        alloc, worktree, owners, interrupt, here, call, &asked,
+    );
+    result_with_formatted_text(alloc, writing, answer)
 }
 
 /// What is said of a call, or why nothing is.
-fn reply_for<W: CountsFaults, O: Owners, I: Interrupt>(
+fn find_setup_and_make_call_reply<W: CountsFaults, O: Owners, I: Interrupt>(
     alloc: Global,
     worktree: &mut W,
     owners: &mut O,
@@ -90,19 +92,20 @@ fn reply_for<W: CountsFaults, O: Owners, I: Interrupt>(
     asked: Asked,
     writing: Writing,
 ) -> Result<Reply, HereRefusal>
-    ensures { SaysPlainly (answers.AnswersCall W.Worktree I.Interrupt O.Owners worktree.old
-        worktree.new interrupt.old interrupt.new owners.old owners.new
-        (answers.found_at (answers.placed here.now.current.now here.now.variables.now true [])
-        here.now.directory.now (asked_for call asked)) call writing) result }
+    ensures { HoldsOfOutputOfPlainReply (answers.AnswersCallBytes W.Worktree I.Interrupt O.Owners
+        worktree.old worktree.new interrupt.old interrupt.new owners.old owners.new
+        (answers.found_in_call_environment (answers.call_environment_of_fields here.now.current.now
+        here.now.variables.now true []) here.now.directory.now (request_with_call_options call
+        asked)) call writing) result }
 {
-    let answer = bytes_for(
+    let answer = find_setup_and_make_call_bytes(
         alloc, worktree, owners, interrupt, here, call, asked, writing,
     );
-    plainly(alloc, answer)
+    plain_reply_or_here_refusal(alloc, answer)
 }
 
 /// A text that is always the same.
-fn text_offered(alloc: Global, text: &[u8]) -> Result<Bytes, HereRefusal>
+fn copy_fixed_text(alloc: Global, text: &[u8]) -> Result<Bytes, HereRefusal>
     ensures gives { IfOk result (λ bytes. bytes ≡ text.now) }
     ensures refused { IfErr result (λ e. e ≡ memory) }
 {
@@ -110,12 +113,12 @@ fn text_offered(alloc: Global, text: &[u8]) -> Result<Bytes, HereRefusal>
 }
 
 /// The same as what a command says.
-fn offered(alloc: Global, text: &[u8]) -> Result<Reply, HereRefusal>
-    ensures gives { IfOk result (λ reply. reply ≡ plain text.now) }
+fn reply_with_fixed_text(alloc: Global, text: &[u8]) -> Result<Reply, HereRefusal>
+    ensures gives { IfOk result (λ reply. reply ≡ plain_reply text.now) }
     ensures refused { IfErr result (λ e. e ≡ memory) }
 {
-    let answer = text_offered(alloc, text);
-    plainly(alloc, answer)
+    let answer = copy_fixed_text(alloc, text);
+    plain_reply_or_here_refusal(alloc, answer)
 }
 
 /// What a command demands. The variants go by how it is answered.
@@ -142,12 +145,12 @@ pub enum Demand {
 }
 
 /// What a command demands, where the output takes colours or not.
-fn demand_of(command: Command, takes_colors: bool) -> Demand
-    ensures { answers.task_for result ≡ answers.task_of takes_colors command }
+fn demand_of_command(command: Command, takes_colors: bool) -> Demand
+    ensures { answers.task_of_demand result ≡ answers.task_of_command takes_colors command }
 {
     match command {
         Command::Report { asked, form } => {
-            let writing = Writing::Lines(styled(form, takes_colors));
+            let writing = Writing::Lines(style_for_output(form, takes_colors));
             Demand::Call(Call::Report, asked, writing)
         }
         Command::Plan {
@@ -165,7 +168,7 @@ fn demand_of(command: Command, takes_colors: bool) -> Demand
             form,
             by_stat,
         } => {
-            let writing = Writing::Lines(styled(form, takes_colors));
+            let writing = Writing::Lines(style_for_output(form, takes_colors));
             if by_stat {
                 return Demand::State(asked, writing);
             }
@@ -186,7 +189,7 @@ fn demand_of(command: Command, takes_colors: bool) -> Demand
 }
 
 /// What is said of a demand, or why nothing is.
-fn reply_by<W: CountsFaults, O: Owners, D: Stats, I: Interrupt>(
+fn answer_demand<W: CountsFaults, O: Owners, D: Stats, I: Interrupt>(
     alloc: Global,
     worktree: &mut W,
     owners: &mut O,
@@ -196,54 +199,55 @@ fn reply_by<W: CountsFaults, O: Owners, D: Stats, I: Interrupt>(
     called: &Called<'_>,
     demand: Demand,
 ) -> Result<Reply, HereRefusal>
-    ensures { compared.AnswersAny W.Worktree I.Interrupt O.Owners D.Stats worktree.old worktree.new
-        interrupt.old interrupt.new owners.old owners.new stats.old stats.new
-        (answers.placed here.now.current.now here.now.variables.now called.now.takes_colors
-        called.now.input.now) here.now.directory.now result (answers.task_for demand) }
+    ensures { compared.AnswersAnyTask W.Worktree I.Interrupt O.Owners D.Stats worktree.old
+        worktree.new interrupt.old interrupt.new owners.old owners.new stats.old stats.new
+        (answers.call_environment_of_fields here.now.current.now here.now.variables.now
+        called.now.takes_colors called.now.input.now) here.now.directory.now result
+        (answers.task_of_demand demand) }
 {
     match demand {
-        Demand::Call(call, asked, writing) => reply_for(
+        Demand::Call(call, asked, writing) => find_setup_and_make_call_reply(
             alloc, worktree, owners, interrupt, here, call, asked, writing,
         ),
-        Demand::State(asked, writing) => state_here(
+        Demand::State(asked, writing) => answer_state_by_stat(
             alloc, worktree, owners, stats, interrupt, here, &asked, writing,
         ),
         Demand::Files(asked, files) => {
-            if lists_excluded(&files.listing) {
-                excluded_here(alloc, worktree, owners, here, &files, &asked)
+            if lists_only_ignored_index_entries(&files.listing) {
+                answer_ls_files_ignored_index(alloc, worktree, owners, here, &files, &asked)
             } else {
-                files_here(alloc, worktree, owners, interrupt, here, &files, &asked)
+                answer_ls_files(alloc, worktree, owners, interrupt, here, &files, &asked)
             }
         }
         Demand::Changed(asked, files, standings) => {
-            if walks(&files.listing) {
-                both_here(
+            if needs_worktree_walk(&files.listing) {
+                list_walked_and_changed_files(
                     alloc, worktree, owners, stats, interrupt, here, &asked, files, standings,
                 )
             } else {
-                changed_here(
+                answer_ls_files_changed(
                     alloc, worktree, owners, stats, here, &asked, &files, standings,
                 )
             }
         }
         Demand::Clean(asked, clean) => {
-            clean_here(alloc, worktree, owners, interrupt, here, &clean, asked)
+            answer_clean(alloc, worktree, owners, interrupt, here, &clean, asked)
         }
         Demand::Check(asked, checking) => {
             let input = called.input;
-            check_here(alloc, worktree, owners, here, &asked, &checking, input)
+            answer_check_ignore(alloc, worktree, owners, here, &asked, &checking, input)
         }
         Demand::Compare(asked, comparing) => {
             let lines = ChangeLines::Differences(comparing);
-            compare_here(alloc, worktree, owners, stats, here, &asked, lines)
+            answer_diff_files_or_state_lines(alloc, worktree, owners, stats, here, &asked, lines)
         }
-        Demand::Help(topic) => offered(alloc, help_of(topic)),
-        Demand::Version => offered(alloc, version()),
+        Demand::Help(topic) => reply_with_fixed_text(alloc, help_text_of_topic(topic)),
+        Demand::Version => reply_with_fixed_text(alloc, version_line()),
     }
 }
 
 /// What is said of a command, or why nothing is.
-fn reply_of<W: CountsFaults, O: Owners, D: Stats, I: Interrupt>(
+fn answer_command<W: CountsFaults, O: Owners, D: Stats, I: Interrupt>(
     alloc: Global,
     worktree: &mut W,
     owners: &mut O,
@@ -253,24 +257,24 @@ fn reply_of<W: CountsFaults, O: Owners, D: Stats, I: Interrupt>(
     directory: &Option<Bytes>,
     command: Command,
 ) -> Result<Reply, HereRefusal>
-    ensures { compared.AnswersAny W.Worktree I.Interrupt O.Owners D.Stats worktree.old worktree.new
-        interrupt.old interrupt.new owners.old owners.new stats.old stats.new
-        (answers.place_of called.now) directory.now result
-        (answers.task_of called.now.takes_colors command) }
+    ensures { compared.AnswersAnyTask W.Worktree I.Interrupt O.Owners D.Stats worktree.old
+        worktree.new interrupt.old interrupt.new owners.old owners.new stats.old stats.new
+        (answers.call_environment_of_called called.now) directory.now result
+        (answers.task_of_command called.now.takes_colors command) }
 {
     let here = &Here {
         current: called.current,
         variables: called.variables,
         directory,
     };
-    let demand = demand_of(command, called.takes_colors);
-    reply_by(
+    let demand = demand_of_command(command, called.takes_colors);
+    answer_demand(
         alloc, worktree, owners, stats, interrupt, here, called, demand,
     )
 }
 
 /// What is said of what the words ask for, or why nothing is.
-fn reply_asked<W: CountsFaults, O: Owners, D: Stats, I: Interrupt>(
+fn parse_and_answer_words<W: CountsFaults, O: Owners, D: Stats, I: Interrupt>(
     alloc: Global,
     worktree: &mut W,
     owners: &mut O,
@@ -278,13 +282,13 @@ fn reply_asked<W: CountsFaults, O: Owners, D: Stats, I: Interrupt>(
     interrupt: &mut I,
     called: &Called<'_>,
 ) -> Result<Reply, HereRefusal>
-    ensures { both.AnswersAll W.Worktree I.Interrupt O.Owners D.Stats worktree.old worktree.new
-        interrupt.old interrupt.new owners.old owners.new stats.old stats.new
-        (answers.place_of called.now) called.now.words.now result }
+    ensures { both.AnswersWordsOfAnyCommand W.Worktree I.Interrupt O.Owners D.Stats worktree.old
+        worktree.new interrupt.old interrupt.new owners.old owners.new stats.old stats.new
+        (answers.call_environment_of_called called.now) called.now.words.now result }
 {
-    let request = request_of(alloc, called.words)?;
+    let request = parse_request_words(alloc, called.words)?;
     let directory = request.directory;
-    reply_of(
+    answer_command(
         alloc,
         worktree,
         owners,
@@ -299,11 +303,11 @@ fn reply_asked<W: CountsFaults, O: Owners, D: Stats, I: Interrupt>(
 /// Answers the words of a command line: writes what they ask for to `out`, or says to `err` why
 /// there is nothing of that, and answers the status that the program is to end with. Only
 /// `check-ignore` with `--stdin` asks for the standard input, as
-/// [`input_for`](crate::input::input_for) says.
+/// [`read_input_if_words_ask`](crate::input::read_input_if_words_ask) says.
 ///
 /// The words are `[-C DIR] report|plan|modules|state|ls-files|clean|diff-files|check-ignore
-/// [OPTION..] [--] [PATH..]`, `--help` or `--version`, as [`request_of`] reads them. The work tree
-/// is the one around the directory, and the setup the one that its repository gives, as
+/// [OPTION..] [--] [PATH..]`, `--help` or `--version`, as [`parse_request_words`] reads them. The
+/// work tree is the one around the directory, and the setup the one that its repository gives, as
 /// [`git_setup::setup_here`] finds them.
 ///
 /// | status | where |
@@ -326,7 +330,7 @@ fn reply_asked<W: CountsFaults, O: Owners, D: Stats, I: Interrupt>(
 /// `-k`. `modules`, `diff-files` and `check-ignore` never ask it.
 ///
 /// See docs/DECISIONS.md#status-of-an-interrupt.
-pub fn answer_here<W: NamesFault, O: Owners, D: Stats, I: Interrupt, S: Sink, E: Sink>(
+pub fn answer_words_to_streams<W: NamesFault, O: Owners, D: Stats, I: Interrupt, S: Sink, E: Sink>(
     alloc: Global,
     called: &Called<'_>,
     worktree: &mut W,
@@ -338,14 +342,16 @@ pub fn answer_here<W: NamesFault, O: Owners, D: Stats, I: Interrupt, S: Sink, E:
 ) -> u8
     // What the words ask for came to an answer: bytes, or a refusal with its cause. The status,
     // `out` and `err` are as that answer has it, and what stays is said of each.
-    ensures runs { RunsHere S.Sink E.Sink out.old out.new err.old err.new
-        (W.first_fault worktree.new) (both.AnswersAll W.Worktree I.Interrupt O.Owners D.Stats
-        worktree.old worktree.new interrupt.old interrupt.new owners.old owners.new
-        stats.old stats.new (answers.place_of called.now) called.now.words.now) result }
+    ensures runs { RunsToAnswerAndEnds S.Sink E.Sink out.old out.new err.old err.new
+        (W.first_fault worktree.new) (both.AnswersWordsOfAnyCommand W.Worktree I.Interrupt O.Owners
+        D.Stats worktree.old worktree.new interrupt.old interrupt.new owners.old owners.new
+        stats.old stats.new (answers.call_environment_of_called called.now) called.now.words.now)
+        result }
 
     // Status 0 or 1, but for a report: no fault was counted.
-    ensures unfaulted { result ≤ 1 → output.IsUnfaultedHere (answers.place_of called.now)
-        called.now.words.now (W.faults worktree.old) (W.faults worktree.new) }
+    ensures unfaulted { result ≤ 1 → output.CountsNoFaultForWords
+        (answers.call_environment_of_called called.now) called.now.words.now (W.faults worktree.old)
+        (W.faults worktree.new) }
 
     // Status 0 or 1: the owners failed at nothing.
     ensures owners_unfaulted { result ≤ 1 → O.faults owners.new ≡ O.faults owners.old }
@@ -359,84 +365,79 @@ pub fn answer_here<W: NamesFault, O: Owners, D: Stats, I: Interrupt, S: Sink, E:
     // a setup text means the setup that was found, the text of a command is the one by that.
     ensures output { (t : Names) (owned : OwnershipByPath)
         → W.told worktree.old ≡ Some t → O.told owners.old ≡ Some owned → result ≤ 1
-        → (reply : ReplyOf) × (output.IsOutputHere (W.precomposes worktree.old) t owned
-        (answers.place_of called.now) called.now.words.now
+        → (reply : ReplyOf) × (output.IsReplyOfWords (W.precomposes worktree.old) t owned
+        (answers.call_environment_of_called called.now) called.now.words.now
         (W.faults worktree.old) (W.faults worktree.new) reply
-        ⊎ (compared.IsCompared t owned (D.told stats.old)
-        (answers.place_of called.now) called.now.words.now reply
-        ⊎ both.IsBoth (W.precomposes worktree.old) t owned (D.told stats.old)
-        (answers.place_of called.now) called.now.words.now reply))
-        × IsReplied S.Sink E.Sink out.old out.new err.old err.new reply result }
+        ⊎ (compared.IsReplyOfStatWords t owned (D.told stats.old)
+        (answers.call_environment_of_called called.now) called.now.words.now reply
+        ⊎ both.IsWalkStatReplyOfWords (W.precomposes worktree.old) t owned (D.told stats.old)
+        (answers.call_environment_of_called called.now) called.now.words.now reply))
+        × WritesReplyWhole S.Sink E.Sink out.old out.new err.old err.new reply result }
 
     // Status 129: a word is wrong. And where one is, that is the status, unless memory was wanted,
     // which is told.
-    ensures misuse { result ≡ 129 → answers.IsMisuse called.now.words.now }
-    ensures usage { answers.IsMisuse called.now.words.now
-        → (result ≡ 129) ⊎ IsToldOf E.Sink err.old err.new memory_line 128 result }
+    ensures misuse { result ≡ 129 → answers.WordsAreMisuse called.now.words.now }
+    ensures usage { answers.WordsAreMisuse called.now.words.now
+        → (result ≡ 129) ⊎ SaysLineWithStatus E.Sink err.old err.new out_of_memory_line 128 result }
 
     // Status 128, over a told tree and told owners with no fault counted and no output refused:
     // want of memory is told, or what is refused over them: no work tree and no setup is found
     // there, or a report by them is refused, or what tells of submodules is misread.
-    ensures fatal { (t : Names) (owned : OwnershipByPath)
-        → W.told worktree.old ≡ Some t → O.told owners.old ≡ Some owned → result ≡ 128
-        → NotIncreased (W.faults worktree.old) (W.faults worktree.new)
-        → NotIncreased (O.faults owners.old) (O.faults owners.new)
-        → NotIncreased (S.refusals out.old) (S.refusals out.new)
-        → IsToldOf E.Sink err.old err.new memory_line 128 result
-        ⊎ IsFatal E.Sink err.old err.new (W.first_fault worktree.new)
-        (λ refusal. output.RefusesHere (W.precomposes worktree.old) t owned
-        (answers.place_of called.now) called.now.words.now refusal
-        ⊎ (compared.RefusesCompared t owned (D.told stats.old) (D.faults stats.old)
-        (D.faults stats.new) (answers.place_of called.now) called.now.words.now refusal
-        ⊎ both.RefusesSecond (W.precomposes worktree.old) t owned (D.told stats.old)
-        (D.faults stats.old) (D.faults stats.new)
-        (answers.place_of called.now) called.now.words.now refusal)) }
+    ensures fatal { (t : Names) (owned : OwnershipByPath) → W.told worktree.old ≡ Some t
+        → O.told owners.old ≡ Some owned → result ≡ 128 → CountNotIncreased (W.faults worktree.old)
+        (W.faults worktree.new) → CountNotIncreased (O.faults owners.old) (O.faults owners.new)
+        → CountNotIncreased (S.refusals out.old) (S.refusals out.new) → SaysLineWithStatus E.Sink
+        err.old err.new out_of_memory_line 128 result ⊎ SaysRefusalWithProperty E.Sink err.old
+        err.new (W.first_fault worktree.new) (λ refusal. output.RefusesWordsOverTree
+        (W.precomposes worktree.old) t owned (answers.call_environment_of_called called.now)
+        called.now.words.now refusal ⊎ (compared.RefusesStatWords t owned (D.told stats.old)
+        (D.faults stats.old) (D.faults stats.new) (answers.call_environment_of_called called.now)
+        called.now.words.now refusal ⊎ both.RefusesStatPartAfterWalk (W.precomposes worktree.old) t
+        owned (D.told stats.old) (D.faults stats.old) (D.faults stats.new)
+        (answers.call_environment_of_called called.now) called.now.words.now refusal)) }
 
     // And the other way: where no work tree and no setup is found over them, and no fault was
     // counted, the line says why, or that memory was wanted, with its status.
-    ensures refused { (t : Names) (owned : OwnershipByPath) (e : HereRefusal)
-        → W.told worktree.old ≡ Some t → O.told owners.old ≡ Some owned
-        → output.IsNotFoundHere t owned (answers.place_of called.now) called.now.words.now e
-        → NotIncreased (W.faults worktree.old) (W.faults worktree.new)
-        → NotIncreased (O.faults owners.old) (O.faults owners.new)
-        → IsTold E.Sink err.old err.new (W.first_fault worktree.new) e result }
+    ensures refused { (t : Names) (owned : OwnershipByPath) (e : HereRefusal) → W.told worktree.old
+        ≡ Some t → O.told owners.old ≡ Some owned → output.IsWorkTreeNotFoundForWords t owned
+        (answers.call_environment_of_called called.now) called.now.words.now e
+        → CountNotIncreased (W.faults worktree.old) (W.faults worktree.new) → CountNotIncreased
+        (O.faults owners.old) (O.faults owners.new) → SaysRefusalOrMemoryLine E.Sink err.old err.new
+        (W.first_fault worktree.new) e result }
 
     // Status 130: the interrupt was raised.
     ensures interrupted { result ≡ 130
-        → Increased (I.raised interrupt.old) (I.raised interrupt.new) }
+        → CountIncreasedOrSaturated (I.raised interrupt.old) (I.raised interrupt.new) }
 
     // Valid input, over a told tree and told owners and with nothing counted: 0 or 1, or want of
     // memory is told.
     ensures complete { (t : Names) (owned : OwnershipByPath)
         → W.told worktree.old ≡ Some t → O.told owners.old ≡ Some owned
-        → output.IsValidHere (W.precomposes worktree.old) t owned
-        (answers.place_of called.now) called.now.words.now
-        → NotIncreased (W.faults worktree.old) (W.faults worktree.new)
-        → NotIncreased (O.faults owners.old) (O.faults owners.new)
-        → NotIncreased (I.raised interrupt.old) (I.raised interrupt.new)
-        → NotIncreased (S.refusals out.old) (S.refusals out.new)
-        → (result ≤ 1) ⊎ IsToldOf E.Sink err.old err.new memory_line 128 result }
+        → output.AreWordsAnswerableOverTree (W.precomposes worktree.old) t owned
+        (answers.call_environment_of_called called.now) called.now.words.now
+        → CountNotIncreased (W.faults worktree.old) (W.faults worktree.new)
+        → CountNotIncreased (O.faults owners.old) (O.faults owners.new)
+        → CountNotIncreased (I.raised interrupt.old) (I.raised interrupt.new)
+        → CountNotIncreased (S.refusals out.old) (S.refusals out.new)
+        → (result ≤ 1) ⊎ SaysLineWithStatus E.Sink err.old err.new out_of_memory_line 128 result }
 
     // What is told by stats, over a told tree, told owners and told stats, with no fault counted:
     // it ends as what is found over them does, with its reply or with the line of its refusal; or
     // want of memory is told. So does what is told by a walk and by stats, where the walk can be
     // had and no interrupt was raised.
-    ensures compared { (t : Names) (owned : OwnershipByPath) (told : Told)
-        (wanted : ResultOf ReplyOf HereRefusal)
-        → W.told worktree.old ≡ Some t → O.told owners.old ≡ Some owned
-        → D.told stats.old ≡ Some told
-        → compared.ComparesTo t owned told (answers.place_of called.now) called.now.words.now
-        wanted
-        ⊎ (NotIncreased (I.raised interrupt.old) (I.raised interrupt.new)
-        × both.IsBothTo (W.precomposes worktree.old) t owned told
-        (answers.place_of called.now) called.now.words.now wanted)
-        → NotIncreased (W.faults worktree.old) (W.faults worktree.new)
-        → NotIncreased (O.faults owners.old) (O.faults owners.new)
-        → NotIncreased (D.faults stats.old) (D.faults stats.new)
-        → IsToldOf E.Sink err.old err.new memory_line 128 result
-        ⊎ EndsHere S.Sink E.Sink out.old out.new err.old err.new (W.first_fault worktree.new)
-        wanted result }
+    ensures compared { (t : Names) (owned : OwnershipByPath) (told : StatsByPath)
+        (wanted : ResultOf ReplyOf HereRefusal) → W.told worktree.old ≡ Some t → O.told owners.old
+        ≡ Some owned → D.told stats.old ≡ Some told → compared.StatWordsHaveResult t owned told
+        (answers.call_environment_of_called called.now) called.now.words.now wanted ⊎
+        (CountNotIncreased (I.raised interrupt.old) (I.raised interrupt.new)
+        × both.WalkAndStatWordsHaveResult (W.precomposes worktree.old) t owned told
+        (answers.call_environment_of_called called.now) called.now.words.now wanted)
+        → CountNotIncreased (W.faults worktree.old) (W.faults worktree.new) → CountNotIncreased
+        (O.faults owners.old) (O.faults owners.new) → CountNotIncreased (D.faults stats.old)
+        (D.faults stats.new) → SaysLineWithStatus E.Sink err.old err.new out_of_memory_line 128
+        result ⊎ EndsWithStatusAndStreams S.Sink E.Sink out.old out.new err.old err.new
+        (W.first_fault worktree.new) wanted result }
 {
-    let answer = reply_asked(alloc, worktree, owners, stats, interrupt, called);
-    finish_here(alloc, answer, worktree.first_fault(), out, err)
+    let answer = parse_and_answer_words(alloc, worktree, owners, stats, interrupt, called);
+    finish_with_answer(alloc, answer, worktree.first_fault(), out, err)
 }

@@ -3,13 +3,13 @@
 ghost use Rattle.std.specs.Prelude.{◌≡◌, IfOk};
 ghost use Rattle.tizhagor.specs.Answers as answers;
 ghost use Rattle.tizhagor.specs.Both as words;
-ghost use Rattle.tizhagor.specs.BothAnswers.{AnswersBoth, IsJoined};
-ghost use Rattle.tizhagor.specs.Changing.{listed_in};
-ghost use Rattle.tizhagor.specs.Listings.{listable_in};
+ghost use Rattle.tizhagor.specs.BothAnswers.{AnswersTreeAndStatCommand, IsJoinedReply};
+ghost use Rattle.tizhagor.specs.Changing.{changed_files_reply_around_directory};
+ghost use Rattle.tizhagor.specs.Listings.{found_checked_for_ls_files};
 
-use crate::changed::changed_here;
+use crate::changed::answer_ls_files_changed;
 use crate::directory::Here;
-use crate::files::files_here;
+use crate::files::answer_ls_files;
 use crate::refusal::HereRefusal;
 use crate::reply::Reply;
 use command_line::FilesAsked;
@@ -23,8 +23,8 @@ use worktree_report::CountsFaults;
 
 /// What a walk finds, alone. With `-i` what the index has stays asked for, since it is then refused
 /// as such.
-fn walked_part(listing: &Listing) -> Listing
-    ensures { result ≡ words.walked_part listing.now }
+fn ls_files_options_for_walk_alone(listing: &Listing) -> Listing
+    ensures { result ≡ words.ls_files_options_for_walk_alone listing.now }
 {
     let mut listing = *listing;
     listing.cached = listing.cached & listing.ignored;
@@ -34,8 +34,8 @@ fn walked_part(listing: &Listing) -> Listing
 }
 
 /// The first reply, and the second behind it.
-pub fn joined(alloc: Global, first: Reply, second: &Reply) -> Result<Reply, OutOfMemory>
-    ensures { IfOk result (λ reply. reply ≡ words.joined first second.now) }
+pub fn join_replies(alloc: Global, first: Reply, second: &Reply) -> Result<Reply, OutOfMemory>
+    ensures { IfOk result (λ reply. reply ≡ words.join_replies first second.now) }
 {
     let Reply {
         mut out,
@@ -49,15 +49,15 @@ pub fn joined(alloc: Global, first: Reply, second: &Reply) -> Result<Reply, OutO
 }
 
 /// The same, or why there is no second one.
-fn joined_with(
+fn join_replies_unless_second_refused(
     alloc: Global,
     first: Reply,
     second: Result<Reply, HereRefusal>,
 ) -> Result<Reply, HereRefusal>
-    ensures { IsJoined words.joined first second result }
+    ensures { IsJoinedReply words.join_replies first second result }
 {
     let second = second?;
-    Ok(joined(alloc, first, &second)?)
+    Ok(join_replies(alloc, first, &second)?)
 }
 
 /// What `ls-files` with `-d` or `-m` and with `-o` or `-k` says of the work tree around the
@@ -67,9 +67,9 @@ fn joined_with(
 ///
 /// # Errors
 ///
-/// As [`files_here`] says of what a walk finds, and then as [`changed_here`] says; or
-/// `Program(OutOfMemory)`.
-pub fn both_here<W: CountsFaults, O: Owners, D: Stats, I: Interrupt>(
+/// As [`answer_ls_files`] says of what a walk finds, and then as [`answer_ls_files_changed`] says;
+/// or `Program(OutOfMemory)`.
+pub fn list_walked_and_changed_files<W: CountsFaults, O: Owners, D: Stats, I: Interrupt>(
     alloc: Global,
     worktree: &mut W,
     owners: &mut O,
@@ -80,20 +80,21 @@ pub fn both_here<W: CountsFaults, O: Owners, D: Stats, I: Interrupt>(
     wants: FilesAsked,
     standings: Standings,
 ) -> Result<Reply, HereRefusal>
-    ensures { AnswersBoth W.Worktree I.Interrupt O.Owners D.Stats worktree.old worktree.new
-        interrupt.old interrupt.new owners.old owners.new stats.old stats.new
-        (λ t owned. listable_in t owned here.now.current.now here.now.variables.now
-        here.now.directory.now (words.walked wants) asked.now) (words.walked_word wants)
-        words.joined (λ t owned told. listed_in t owned told here.now.current.now
+    ensures { AnswersTreeAndStatCommand W.Worktree I.Interrupt O.Owners D.Stats worktree.old
+        worktree.new interrupt.old interrupt.new owners.old owners.new stats.old stats.new
+        (λ t owned. found_checked_for_ls_files t owned here.now.current.now here.now.variables.now
+        here.now.directory.now (words.ls_files_request_of_walk_alone wants) asked.now)
+        (words.ls_files_command_of_walk_alone wants) words.join_replies
+        (λ t owned told. changed_files_reply_around_directory t owned told here.now.current.now
         here.now.variables.now here.now.directory.now asked.now wants standings) result }
 {
     let listing = wants.listing;
     let mut wants = wants;
-    wants.listing = walked_part(&listing);
-    let first = files_here(alloc, worktree, owners, interrupt, here, &wants, asked)?;
+    wants.listing = ls_files_options_for_walk_alone(&listing);
+    let first = answer_ls_files(alloc, worktree, owners, interrupt, here, &wants, asked)?;
     wants.listing = listing;
-    let second = changed_here(
+    let second = answer_ls_files_changed(
         alloc, worktree, owners, stats, here, asked, &wants, standings,
     );
-    joined_with(alloc, first, second)
+    join_replies_unless_second_refused(alloc, first, second)
 }

@@ -1,15 +1,15 @@
 //! What `state` with `--by-stat` says of the work tree around a directory.
 ghost use Rattle.std.specs.Prelude.{◌≡◌};
-ghost use Rattle.tizhagor.specs.Asking.{here_in};
+ghost use Rattle.tizhagor.specs.Asking.{found_around_asked_directory};
 ghost use Rattle.tizhagor.specs.Both as words;
-ghost use Rattle.tizhagor.specs.BothAnswers.{AnswersBoth, IsJoined};
-ghost use Rattle.tizhagor.specs.Comparing.{replied_in};
+ghost use Rattle.tizhagor.specs.BothAnswers.{AnswersTreeAndStatCommand, IsJoinedReply};
+ghost use Rattle.tizhagor.specs.Comparing.{comparison_reply_around_directory};
 ghost use Rattle.tizhagor.specs.TreeWords as tree;
 
-use crate::both::joined;
-use crate::compare::{ChangeLines, compare_here};
+use crate::both::join_replies;
+use crate::compare::{ChangeLines, answer_diff_files_or_state_lines};
 use crate::directory::Here;
-use crate::quiet_report::report_here;
+use crate::quiet_report::answer_report_without_faults;
 use crate::refusal::HereRefusal;
 use crate::reply::Reply;
 use crate::written::Writing;
@@ -20,15 +20,15 @@ use worktree_fs::{Interrupt, Owners};
 use worktree_report::CountsFaults;
 
 /// The report, and the states in front of it, or why there are none.
-fn in_front(
+fn put_states_before_report(
     alloc: Global,
     report: &Reply,
     states: Result<Reply, HereRefusal>,
 ) -> Result<Reply, HereRefusal>
-    ensures { IsJoined words.in_front report.now states result }
+    ensures { IsJoinedReply words.second_reply_before_first report.now states result }
 {
     let states = states?;
-    Ok(joined(alloc, states, report)?)
+    Ok(join_replies(alloc, states, report)?)
 }
 
 /// What `state` with `--by-stat` says of the work tree around the directory that is asked for, or
@@ -37,9 +37,9 @@ fn in_front(
 ///
 /// # Errors
 ///
-/// As [`report_here`] says of the report, and then as [`compare_here`] says; or
-/// `Program(OutOfMemory)`.
-pub fn state_here<W: CountsFaults, O: Owners, D: Stats, I: Interrupt>(
+/// As [`answer_report_without_faults`] says of the report, and then as
+/// [`answer_diff_files_or_state_lines`] says; or `Program(OutOfMemory)`.
+pub fn answer_state_by_stat<W: CountsFaults, O: Owners, D: Stats, I: Interrupt>(
     alloc: Global,
     worktree: &mut W,
     owners: &mut O,
@@ -49,15 +49,20 @@ pub fn state_here<W: CountsFaults, O: Owners, D: Stats, I: Interrupt>(
     asked: &Asked,
     writing: Writing,
 ) -> Result<Reply, HereRefusal>
-    ensures { AnswersBoth W.Worktree I.Interrupt O.Owners D.Stats worktree.old worktree.new
-        interrupt.old interrupt.new owners.old owners.new stats.old stats.new
-        (λ t owned. here_in t owned here.now.current.now here.now.variables.now
-        here.now.directory.now asked.now) (tree.report_of writing) words.in_front (λ t owned told.
-        replied_in t owned told here.now.current.now here.now.variables.now here.now.directory.now
-        asked.now (ChangeLines.States writing)) result }
+    ensures { AnswersTreeAndStatCommand W.Worktree I.Interrupt O.Owners D.Stats worktree.old
+        worktree.new interrupt.old interrupt.new owners.old owners.new stats.old stats.new
+        (λ t owned. found_around_asked_directory t owned here.now.current.now here.now.variables.now
+        here.now.directory.now asked.now) (tree.report_of writing) words.second_reply_before_first
+        (λ t owned told. comparison_reply_around_directory t owned told here.now.current.now
+        here.now.variables.now here.now.directory.now asked.now (ChangeLines.States writing))
+        result }
 {
-    let report = report_here(alloc, worktree, owners, interrupt, here, asked, writing)?;
+    let report = answer_report_without_faults(
+        alloc, worktree, owners, interrupt, here, asked, writing,
+    )?;
     let lines = ChangeLines::States(writing);
-    let states = compare_here(alloc, worktree, owners, stats, here, asked, lines);
-    in_front(alloc, &report, states)
+    let states = answer_diff_files_or_state_lines(
+        alloc, worktree, owners, stats, here, asked, lines,
+    );
+    put_states_before_report(alloc, &report, states)
 }

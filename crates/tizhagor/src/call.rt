@@ -23,8 +23,8 @@ pub enum Call {
     State,
 }
 
-fn prepared(options: &SetupOptions, finding: Finding) -> SetupOptions
-    ensures { result ≡ words.options_for (Call.Plan What.Untracked finding) options.now }
+fn options_prepared_for_plan(options: &SetupOptions, finding: Finding) -> SetupOptions
+    ensures { result ≡ words.setup_options_for_call (Call.Plan What.Untracked finding) options.now }
 {
     let mut options = *options;
     prepare(&mut options, finding);
@@ -32,7 +32,7 @@ fn prepared(options: &SetupOptions, finding: Finding) -> SetupOptions
 }
 
 fn options_with_submodules(options: &SetupOptions) -> SetupOptions
-    ensures { result ≡ words.options_for Call.Modules options.now }
+    ensures { result ≡ words.setup_options_for_call Call.Modules options.now }
 {
     let mut options = *options;
     options.submodules = true;
@@ -41,12 +41,12 @@ fn options_with_submodules(options: &SetupOptions) -> SetupOptions
 
 /// The options with which a work tree is found: a plan prepares them, and submodules are asked for
 /// where what becomes of them is. See docs/DECISIONS.md#options-before-the-setup.
-pub fn options_for(call: Call, options: &SetupOptions) -> SetupOptions
-    ensures { result ≡ words.options_for call options.now }
+pub fn setup_options_for_call(call: Call, options: &SetupOptions) -> SetupOptions
+    ensures { result ≡ words.setup_options_for_call call options.now }
 {
     match call {
         Call::Report | Call::State => *options,
-        Call::Plan { what: _, finding } => prepared(options, finding),
+        Call::Plan { what: _, finding } => options_prepared_for_plan(options, finding),
         Call::Modules => options_with_submodules(options),
     }
 }

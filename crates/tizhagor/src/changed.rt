@@ -1,38 +1,43 @@
 //! What `ls-files -d` and `-m` list of the work tree around a directory.
 ghost use Rattle.std.specs.Prelude.{◌≡◌, map, IfErr};
 ghost use Rattle.tizhagor.specs.Changing as words;
-ghost use Rattle.tizhagor.specs.Compares.{Beside, Compares};
-ghost use Rattle.tizhagor.specs.Finds.{FindsHere};
-ghost use Rattle.tizhagor.specs.Refusals.{IsOfFinding};
+ghost use Rattle.tizhagor.specs.Compares.{FindsOverTreeAndStats, FindsOverTreeOwnersAndStats};
+ghost use Rattle.tizhagor.specs.Finds.{FindsHereResultOverToldTree};
+ghost use Rattle.tizhagor.specs.Refusals.{MayComeBeforeSetupIsFound};
 
-use crate::compare::{Placed, comparison_of, placed_here, time_of_index};
+use crate::compare::{
+    Placed, comparison_of_request_and_settings, find_work_tree_and_repository_places,
+    read_index_mtime,
+};
 use crate::directory::Here;
-use crate::files::{all_named, listing_said, listing_with};
+use crate::files::{
+    ls_files_options_of_request, ls_files_options_with_quote_path, named_specs_of_asked_specs,
+};
 use crate::refusal::HereRefusal;
 use crate::reply::Reply;
-use command_line::{FilesAsked, default_comparing};
+use command_line::{FilesAsked, default_diff_files_request};
 use diff_files::{Comparison, Stats};
-use git_setup::{Asked, Compared, ComparedFrom, Settings, compared_from};
+use git_setup::{Asked, Compared, ComparedFrom, Settings, read_comparison_setup_from_directory};
 use ls_files::{
-    ChangeQuery, ChangedError, Listed, Listing, NamedSpec, Standings, WrongListing, list_changed,
-    wrong_beside,
+    ChangeQuery, ChangedError, Listed, Listing, NamedSpec, Standings, WrongListing,
+    list_deleted_and_modified, refusal_of_options_for_changes,
 };
 use std::alloc::Global;
 use worktree_fs::{Owners, Worktree};
 use worktree_report::Refusal;
 
 /// The work tree at a place and its index, with the path specs that are asked for.
-fn compared_here<W: Worktree>(
+fn read_inputs_for_listing_changes<W: Worktree>(
     alloc: Global,
     worktree: &mut W,
     placed: &Placed,
     asked: &Asked,
 ) -> Result<ComparedFrom, HereRefusal>
-    ensures finds { FindsHere W.Worktree worktree.old worktree.new
-        (λ t. words.compared_in t placed.now asked.now) result }
-    ensures of { IfErr result IsOfFinding }
+    ensures finds { FindsHereResultOverToldTree W.Worktree worktree.old worktree.new
+        (λ t. words.inputs_for_listing_changes_in_tree t placed.now asked.now) result }
+    ensures of { IfErr result MayComeBeforeSetupIsFound }
 {
-    Ok(compared_from(
+    Ok(read_comparison_setup_from_directory(
         alloc,
         worktree,
         &placed.places,
@@ -43,50 +48,53 @@ fn compared_here<W: Worktree>(
 }
 
 /// The same, unless there is no such listing.
-fn unless_wrong(wants: &FilesAsked, compared: ComparedFrom) -> Result<ComparedFrom, HereRefusal>
-    ensures gives { result ≡ words.unless_wrong wants.now compared }
-    ensures of { IfErr result IsOfFinding }
+fn require_valid_listing_of_changes(
+    wants: &FilesAsked,
+    compared: ComparedFrom,
+) -> Result<ComparedFrom, HereRefusal>
+    ensures gives { result ≡ words.require_valid_listing_of_changes wants.now compared }
+    ensures of { IfErr result MayComeBeforeSetupIsFound }
 {
-    match wrong_beside(&listing_said(wants)) {
+    match refusal_of_options_for_changes(&ls_files_options_of_request(wants)) {
         Some(wrong) => Err(HereRefusal::Listing(wrong)),
         None => Ok(compared),
     }
 }
 
 /// The same of the work tree at a place.
-#[tactic(auto, unfolding(crate::specs::Changing::listable_in))]
-fn listable_here<W: Worktree>(
+#[tactic(auto, unfolding(crate::specs::Changing::checked_inputs_for_listing_changes))]
+fn read_and_check_inputs_for_changes<W: Worktree>(
     alloc: Global,
     worktree: &mut W,
     placed: &Placed,
     asked: &Asked,
     wants: &FilesAsked,
 ) -> Result<ComparedFrom, HereRefusal>
-    ensures finds { FindsHere W.Worktree worktree.old worktree.new
-        (λ t. words.listable_in t placed.now asked.now wants.now) result }
-    ensures of { IfErr result IsOfFinding }
+    ensures finds { FindsHereResultOverToldTree W.Worktree worktree.old worktree.new
+        (λ t. words.checked_inputs_for_listing_changes t placed.now asked.now wants.now) result }
+    ensures of { IfErr result MayComeBeforeSetupIsFound }
 {
-    let compared = compared_here(alloc, worktree, placed, asked)?;
-    unless_wrong(wants, compared)
+    let compared = read_inputs_for_listing_changes(alloc, worktree, placed, asked)?;
+    require_valid_listing_of_changes(wants, compared)
 }
 
 /// How both are compared, by what the configuration and the files say.
-fn comparison_by(settings: &Settings, index_time: u32) -> Comparison
-    ensures { result ≡ words.comparison_by settings.now index_time }
+fn default_comparison_of_settings(settings: &Settings, index_time: u32) -> Comparison
+    ensures { result ≡ words.default_comparison_of_settings settings.now index_time }
 {
-    comparison_of(&default_comparing(), settings, index_time)
+    comparison_of_request_and_settings(&default_diff_files_request(), settings, index_time)
 }
 
 /// What is listed, with what the configuration says.
-fn listing_by(wants: &FilesAsked, settings: &Settings) -> Listing
-    ensures { result ≡ words.listing_by wants.now settings.now }
+fn ls_files_options_with_config_quoting(wants: &FilesAsked, settings: &Settings) -> Listing
+    ensures { result ≡ words.ls_files_options_with_config_quoting wants.now settings.now }
 {
-    listing_with(&listing_said(wants), settings.quote_path)
+    ls_files_options_with_quote_path(&ls_files_options_of_request(wants), settings.quote_path)
 }
 
 /// The refusal that stands for one of a listing of what changed.
-fn of_changed(refused: ChangedError) -> HereRefusal
-    ensures { result ≡ words.of_changed refused }
+fn here_refusal_of_changed_error(refused: ChangedError) -> HereRefusal
+    ensures { result ≡ words.here_refusal_of_changed_error refused }
 {
     match refused {
         ChangedError::Unsupported(form) => HereRefusal::Listing(WrongListing::Unsupported(form)),
@@ -96,8 +104,8 @@ fn of_changed(refused: ChangedError) -> HereRefusal
 }
 
 /// What is said of a listing.
-fn as_reply(answer: Result<Listed, ChangedError>) -> Result<Reply, HereRefusal>
-    ensures { result ≡ words.as_reply answer }
+fn reply_of_deleted_and_modified(answer: Result<Listed, ChangedError>) -> Result<Reply, HereRefusal>
+    ensures { result ≡ words.reply_of_deleted_and_modified answer }
 {
     match answer {
         Ok(made) => {
@@ -108,7 +116,7 @@ fn as_reply(answer: Result<Listed, ChangedError>) -> Result<Reply, HereRefusal>
                 is_no,
             })
         }
-        Err(refused) => Err(of_changed(refused)),
+        Err(refused) => Err(here_refusal_of_changed_error(refused)),
     }
 }
 
@@ -122,7 +130,7 @@ struct ChangedAsked<'a> {
 }
 
 /// What is listed of a work tree and its index, in the directory `prefix`, with path specs.
-fn list_by<W: Worktree, D: Stats>(
+fn list_changed_as_reply<W: Worktree, D: Stats>(
     alloc: Global,
     worktree: &mut W,
     stats: &mut D,
@@ -131,13 +139,13 @@ fn list_by<W: Worktree, D: Stats>(
     named: &[NamedSpec],
     asked: &ChangedAsked<'_>,
 ) -> Result<Reply, HereRefusal>
-    ensures finds { Beside W.Worktree D.Stats worktree.old worktree.new stats.old stats.new
-        (λ t told. words.listed_by t told asked.now.wants.now asked.now.standings compared.now
-        prefix.now named.now asked.now.index_time) result }
-    ensures of { IfErr result IsOfFinding }
+    ensures finds { FindsOverTreeAndStats W.Worktree D.Stats worktree.old worktree.new stats.old
+        stats.new (λ t told. words.changed_files_reply_of_comparison t told asked.now.wants.now
+        asked.now.standings compared.now prefix.now named.now asked.now.index_time) result }
+    ensures of { IfErr result MayComeBeforeSetupIsFound }
 {
-    let comparison = comparison_by(&compared.settings, asked.index_time);
-    let listing = listing_by(asked.wants, &compared.settings);
+    let comparison = default_comparison_of_settings(&compared.settings, asked.index_time);
+    let listing = ls_files_options_with_config_quoting(asked.wants, &compared.settings);
     let query = ChangeQuery {
         root: compared.root.as_bytes(),
         comparison: &comparison,
@@ -147,7 +155,7 @@ fn list_by<W: Worktree, D: Stats>(
         specs: &compared.specs,
     };
     let details = compared.details.as_slice();
-    let answer = list_changed(
+    let answer = list_deleted_and_modified(
         alloc,
         worktree,
         stats,
@@ -156,34 +164,34 @@ fn list_by<W: Worktree, D: Stats>(
         details,
         prefix,
     );
-    as_reply(answer)
+    reply_of_deleted_and_modified(answer)
 }
 
 /// The same, by all that was read.
-fn list_with<W: Worktree, D: Stats>(
+fn list_changed_of_comparison<W: Worktree, D: Stats>(
     alloc: Global,
     worktree: &mut W,
     stats: &mut D,
     compared: ComparedFrom,
     asked: &ChangedAsked<'_>,
 ) -> Result<Reply, HereRefusal>
-    ensures finds { Beside W.Worktree D.Stats worktree.old worktree.new stats.old stats.new
-        (λ t told. words.listed_from t told asked.now.wants.now asked.now.standings compared
-        asked.now.index_time) result }
-    ensures of { IfErr result IsOfFinding }
+    ensures finds { FindsOverTreeAndStats W.Worktree D.Stats worktree.old worktree.new stats.old
+        stats.new (λ t told. words.changed_files_reply_from_directory t told asked.now.wants.now
+        asked.now.standings compared asked.now.index_time) result }
+    ensures of { IfErr result MayComeBeforeSetupIsFound }
 {
     let ComparedFrom {
         compared,
         each,
         prefix,
     } = compared;
-    let named = all_named(alloc, each)?;
+    let named = named_specs_of_asked_specs(alloc, each)?;
     let prefix = prefix.as_bytes();
-    list_by(alloc, worktree, stats, &compared, prefix, &named, asked)
+    list_changed_as_reply(alloc, worktree, stats, &compared, prefix, &named, asked)
 }
 
 /// What is listed of the work tree at a place, with what `by` asks of it besides.
-fn list_read<W: Worktree, D: Stats>(
+fn read_and_list_changed<W: Worktree, D: Stats>(
     alloc: Global,
     worktree: &mut W,
     stats: &mut D,
@@ -191,18 +199,18 @@ fn list_read<W: Worktree, D: Stats>(
     by: &Asked,
     asked: &ChangedAsked<'_>,
 ) -> Result<Reply, HereRefusal>
-    ensures finds { Beside W.Worktree D.Stats worktree.old worktree.new stats.old stats.new
-        (λ t told. words.listed_read t told placed.now by.now asked.now.wants.now
-        asked.now.standings asked.now.index_time) result }
-    ensures of { IfErr result IsOfFinding }
+    ensures finds { FindsOverTreeAndStats W.Worktree D.Stats worktree.old worktree.new stats.old
+        stats.new (λ t told. words.changed_files_reply_at_index_time t told placed.now by.now
+        asked.now.wants.now asked.now.standings asked.now.index_time) result }
+    ensures of { IfErr result MayComeBeforeSetupIsFound }
 {
-    let compared = listable_here(alloc, worktree, placed, by, asked.wants)?;
-    list_with(alloc, worktree, stats, compared, asked)
+    let compared = read_and_check_inputs_for_changes(alloc, worktree, placed, by, asked.wants)?;
+    list_changed_of_comparison(alloc, worktree, stats, compared, asked)
 }
 
 /// What is listed of the work tree at a place. When the index was written is asked for before it is
 /// read, so that what changes between them is looked at.
-fn list_at<W: Worktree, D: Stats>(
+fn read_index_time_and_list_changed<W: Worktree, D: Stats>(
     alloc: Global,
     worktree: &mut W,
     stats: &mut D,
@@ -211,17 +219,18 @@ fn list_at<W: Worktree, D: Stats>(
     wants: &FilesAsked,
     standings: Standings,
 ) -> Result<Reply, HereRefusal>
-    ensures finds { Beside W.Worktree D.Stats worktree.old worktree.new stats.old stats.new
-        (λ t told. words.listed_at t told placed.now asked.now wants.now standings) result }
-    ensures of { IfErr result IsOfFinding }
+    ensures finds { FindsOverTreeAndStats W.Worktree D.Stats worktree.old worktree.new stats.old
+        stats.new (λ t told. words.changed_files_reply_of_placed t told placed.now asked.now
+        wants.now standings) result }
+    ensures of { IfErr result MayComeBeforeSetupIsFound }
 {
-    let time = time_of_index(alloc, worktree, stats, &placed.places)?;
+    let time = read_index_mtime(alloc, worktree, stats, &placed.places)?;
     let changed = ChangedAsked {
         wants,
         standings,
         index_time: time,
     };
-    list_read(alloc, worktree, stats, placed, asked, &changed)
+    read_and_list_changed(alloc, worktree, stats, placed, asked, &changed)
 }
 
 /// What `ls-files -d` and `-m` say of the work tree around the directory that is asked for, or why
@@ -230,13 +239,13 @@ fn list_at<W: Worktree, D: Stats>(
 /// # Errors
 ///
 /// - `Absent`, `NotADirectory`: the directory that `-C` names is none.
-/// - `Git`: there is no work tree, or what is read of it is refused, as [`placed_here`] and
-///   [`compared_from`] say.
-/// - `Listing`: there is no such listing, as [`wrong_beside`] says, or a form is not answered here,
-///   as [`list_changed`] says.
+/// - `Git`: there is no work tree, or what is read of it is refused, as
+///   [`find_work_tree_and_repository_places`] and [`read_comparison_setup_from_directory`] say.
+/// - `Listing`: there is no such listing, as [`refusal_of_options_for_changes`] says, or a form is
+///   not answered here, as [`list_deleted_and_modified`] says.
 /// - `Program(Fault)`: the worktree, the owners or the stats failed, and counted it.
 /// - `Program(OutOfMemory)` for want of memory.
-pub fn changed_here<W: Worktree, O: Owners, D: Stats>(
+pub fn answer_ls_files_changed<W: Worktree, O: Owners, D: Stats>(
     alloc: Global,
     worktree: &mut W,
     owners: &mut O,
@@ -246,11 +255,12 @@ pub fn changed_here<W: Worktree, O: Owners, D: Stats>(
     wants: &FilesAsked,
     standings: Standings,
 ) -> Result<Reply, HereRefusal>
-    ensures { Compares W.Worktree O.Owners D.Stats worktree.old worktree.new owners.old
-        owners.new stats.old stats.new (λ t owned told. words.listed_in t owned told
+    ensures { FindsOverTreeOwnersAndStats W.Worktree O.Owners D.Stats worktree.old worktree.new
+        owners.old owners.new stats.old stats.new
+        (λ t owned told. words.changed_files_reply_around_directory t owned told
         here.now.current.now here.now.variables.now here.now.directory.now asked.now wants.now
         standings) result }
 {
-    let placed = placed_here(alloc, worktree, owners, here)?;
-    list_at(alloc, worktree, stats, &placed, asked, wants, standings)
+    let placed = find_work_tree_and_repository_places(alloc, worktree, owners, here)?;
+    read_index_time_and_list_changed(alloc, worktree, stats, &placed, asked, wants, standings)
 }

@@ -1,27 +1,28 @@
 //! What `check-ignore` says of the work tree around a directory.
 ghost use Rattle.std.specs.Prelude.{◌≡◌, IfErr};
 ghost use Rattle.tizhagor.specs.Checking as words;
-ghost use Rattle.tizhagor.specs.Checks.{Checks, Looks};
-ghost use Rattle.tizhagor.specs.Finds.{FindsHere};
-ghost use Rattle.tizhagor.specs.Refusals.{IsOfFinding, of_stop};
+ghost use Rattle.tizhagor.specs.Checks.{FindsReplyOverTreeAndOwners, FindsReplyOverTree};
+ghost use Rattle.tizhagor.specs.Finds.{FindsHereResultOverToldTree};
+ghost use Rattle.tizhagor.specs.Refusals.{MayComeBeforeSetupIsFound, here_refusal_of_check_ignore_stop};
 
-use crate::compare::{Placed, placed_here};
+use crate::compare::{Placed, find_work_tree_and_repository_places};
 use crate::directory::Here;
 use crate::refusal::{HereRefusal, Unchecked};
 use crate::reply::Reply;
 use check_ignore::{
-    Answered, CheckContext, Checking, NamedRules, OuterRules, Stop, check_asked, wrong_in,
+    Answered, CheckContext, Checking, NamedRules, OuterRules, Stop, check_paths_or_stdin,
+    first_option_error,
 };
 use command_line::CheckAsked;
-use git_setup::{Asked, Checked, NamedFile, OuterFiles, checked_at};
+use git_setup::{Asked, Checked, NamedFile, OuterFiles, read_check_ignore_setup};
 use gitbase_core::{Bytes, PathText};
 use std::alloc::Global;
 use worktree_fs::{Owners, Worktree};
 use worktree_report::Refusal;
 
 /// That nothing is answered of paths in the work tree at `root`.
-fn of_stop(root: PathText, stop: Stop) -> HereRefusal
-    ensures { result ≡ of_stop root stop }
+fn here_refusal_of_check_ignore_stop(root: PathText, stop: Stop) -> HereRefusal
+    ensures { result ≡ here_refusal_of_check_ignore_stop root stop }
 {
     match stop {
         Stop::Fault => HereRefusal::Program(Refusal::Fault),
@@ -31,12 +32,12 @@ fn of_stop(root: PathText, stop: Stop) -> HereRefusal
 }
 
 /// What is said by an answer.
-fn as_reply(
+fn reply_of_check_ignore_answer(
     alloc: Global,
     root: PathText,
     answer: Result<Answered, Stop>,
 ) -> Result<Reply, HereRefusal>
-    ensures { result ≡ words.as_reply root answer }
+    ensures { result ≡ words.reply_of_check_ignore_answer root answer }
 {
     match answer {
         Ok(answered) => Ok(Reply {
@@ -44,13 +45,13 @@ fn as_reply(
             err: Bytes::new(alloc),
             is_no: !answered.is_any,
         }),
-        Err(stop) => Err(of_stop(root, stop)),
+        Err(stop) => Err(here_refusal_of_check_ignore_stop(root, stop)),
     }
 }
 
 /// What is asked, with what the configuration says.
-fn checking_by(checking: Checking, here: &Checked) -> Checking
-    ensures { result ≡ words.checking_by checking here.now }
+fn check_options_with_configuration(checking: Checking, here: &Checked) -> Checking
+    ensures { result ≡ words.check_options_with_configuration checking here.now }
 {
     let mut checking = checking;
     checking.quote_path = here.quote_path;
@@ -59,8 +60,8 @@ fn checking_by(checking: Checking, here: &Checked) -> Checking
 }
 
 /// The rules of a file.
-fn rules_of(file: Option<NamedFile>) -> Option<NamedRules>
-    ensures { result ≡ words.rules_of file }
+fn named_rules_of_file(file: Option<NamedFile>) -> Option<NamedRules>
+    ensures { result ≡ words.named_rules_of_file file }
 {
     match file {
         Some(file) => Some(NamedRules {
@@ -72,17 +73,17 @@ fn rules_of(file: Option<NamedFile>) -> Option<NamedRules>
 }
 
 /// The rules of the files outside the work tree.
-fn outer_of(files: OuterFiles) -> OuterRules
-    ensures { result ≡ words.outer_of files }
+fn outer_rules_of_files(files: OuterFiles) -> OuterRules
+    ensures { result ≡ words.outer_rules_of_files files }
 {
     OuterRules {
-        user: rules_of(files.user),
-        repository: rules_of(files.repository),
+        user: named_rules_of_file(files.user),
+        repository: named_rules_of_file(files.repository),
     }
 }
 
 /// What is said of paths, by what was read.
-fn check_with<W: Worktree>(
+fn check_ignore_paths_as_reply<W: Worktree>(
     alloc: Global,
     worktree: &mut W,
     wants: &CheckAsked,
@@ -90,11 +91,11 @@ fn check_with<W: Worktree>(
     input: &[u8],
     here: Checked,
 ) -> Result<Reply, HereRefusal>
-    ensures looks { Looks W.Worktree worktree.old worktree.new
-        (λ t. words.said_of t wants.now paths.now input.now here) result }
-    ensures of { IfErr result IsOfFinding }
+    ensures looks { FindsReplyOverTree W.Worktree worktree.old worktree.new
+        (λ t. words.check_ignore_reply_of_paths t wants.now paths.now input.now here) result }
+    ensures of { IfErr result MayComeBeforeSetupIsFound }
 {
-    let checking = checking_by(wants.checking, &here);
+    let checking = check_options_with_configuration(wants.checking, &here);
     let Checked {
         root,
         prefix,
@@ -103,7 +104,7 @@ fn check_with<W: Worktree>(
         ignore_case: _,
         quote_path: _,
     } = here;
-    let outer = outer_of(outer);
+    let outer = outer_rules_of_files(outer);
     let top = root.as_bytes();
     let place = prefix.as_bytes();
     let context = CheckContext {
@@ -113,22 +114,22 @@ fn check_with<W: Worktree>(
         outer: &outer,
         checking: &checking,
     };
-    let answer = check_asked(alloc, worktree, &context, paths, input);
-    as_reply(alloc, root, answer)
+    let answer = check_paths_or_stdin(alloc, worktree, &context, paths, input);
+    reply_of_check_ignore_answer(alloc, root, answer)
 }
 
 /// What paths are checked by.
-fn checked_here<W: Worktree>(
+fn read_check_ignore_setup_of_placed<W: Worktree>(
     alloc: Global,
     worktree: &mut W,
     placed: &Placed,
     wants: &CheckAsked,
 ) -> Result<Checked, HereRefusal>
-    ensures finds { FindsHere W.Worktree worktree.old worktree.new
-        (λ t. words.checked_in t placed.now wants.now) result }
-    ensures of { IfErr result IsOfFinding }
+    ensures finds { FindsHereResultOverToldTree W.Worktree worktree.old worktree.new
+        (λ t. words.check_ignore_setup_of_placed t placed.now wants.now) result }
+    ensures of { IfErr result MayComeBeforeSetupIsFound }
 {
-    Ok(checked_at(
+    Ok(read_check_ignore_setup(
         alloc,
         worktree,
         &placed.places,
@@ -138,7 +139,7 @@ fn checked_here<W: Worktree>(
 }
 
 /// What is said of paths in the work tree at a place.
-fn check_read<W: Worktree>(
+fn read_setup_and_check_ignore_paths<W: Worktree>(
     alloc: Global,
     worktree: &mut W,
     placed: &Placed,
@@ -146,16 +147,17 @@ fn check_read<W: Worktree>(
     wants: &CheckAsked,
     input: &[u8],
 ) -> Result<Reply, HereRefusal>
-    ensures looks { Looks W.Worktree worktree.old worktree.new
-        (λ t. words.answered_by t placed.now asked.now wants.now input.now) result }
-    ensures of { IfErr result IsOfFinding }
+    ensures looks { FindsReplyOverTree W.Worktree worktree.old worktree.new
+        (λ t. words.check_ignore_reply_of_placed t placed.now asked.now wants.now input.now)
+        result }
+    ensures of { IfErr result MayComeBeforeSetupIsFound }
 {
-    let here = checked_here(alloc, worktree, placed, wants)?;
-    check_with(alloc, worktree, wants, &asked.paths, input, here)
+    let here = read_check_ignore_setup_of_placed(alloc, worktree, placed, wants)?;
+    check_ignore_paths_as_reply(alloc, worktree, wants, &asked.paths, input, here)
 }
 
 /// The same, unless there are no such words.
-fn check_placed<W: Worktree>(
+fn check_ignore_paths_if_options_valid<W: Worktree>(
     alloc: Global,
     worktree: &mut W,
     placed: &Placed,
@@ -163,13 +165,14 @@ fn check_placed<W: Worktree>(
     wants: &CheckAsked,
     input: &[u8],
 ) -> Result<Reply, HereRefusal>
-    ensures looks { Looks W.Worktree worktree.old worktree.new
-        (λ t. words.answered_unless t placed.now asked.now wants.now input.now) result }
-    ensures of { IfErr result IsOfFinding }
+    ensures looks { FindsReplyOverTree W.Worktree worktree.old worktree.new
+        (λ t. words.check_ignore_reply_if_options_valid t placed.now asked.now wants.now input.now)
+        result }
+    ensures of { IfErr result MayComeBeforeSetupIsFound }
 {
-    match wrong_in(&wants.checking, asked.paths.len()) {
+    match first_option_error(&wants.checking, asked.paths.len()) {
         Some(wrong) => Err(HereRefusal::Unchecked(Unchecked::Wrong(wrong))),
-        None => check_read(alloc, worktree, placed, asked, wants, input),
+        None => read_setup_and_check_ignore_paths(alloc, worktree, placed, asked, wants, input),
     }
 }
 
@@ -180,12 +183,12 @@ fn check_placed<W: Worktree>(
 ///
 /// - `Absent`, `NotADirectory`: the directory that `-C` names is none.
 /// - `Git`: there is no work tree, or what is read of it is refused, as [`git_setup::places_here`]
-///   and [`checked_at`] say.
-/// - `Unchecked`: there are no such words, as [`wrong_in`] says, or nothing is answered, as
-///   [`check_asked`] says.
+///   and [`read_check_ignore_setup`] say.
+/// - `Unchecked`: there are no such words, as [`first_option_error`] says, or nothing is answered,
+///   as [`check_paths_or_stdin`] says.
 /// - `Program(Fault)`: the worktree or the owners failed, and counted it.
 /// - `Program(OutOfMemory)` for want of memory.
-pub fn check_here<W: Worktree, O: Owners>(
+pub fn answer_check_ignore<W: Worktree, O: Owners>(
     alloc: Global,
     worktree: &mut W,
     owners: &mut O,
@@ -194,10 +197,11 @@ pub fn check_here<W: Worktree, O: Owners>(
     wants: &CheckAsked,
     input: &[u8],
 ) -> Result<Reply, HereRefusal>
-    ensures { Checks W.Worktree O.Owners worktree.old worktree.new owners.old owners.new
-        (λ t owned. words.answered_in t owned here.now.current.now here.now.variables.now
-        here.now.directory.now asked.now wants.now input.now) result }
+    ensures { FindsReplyOverTreeAndOwners W.Worktree O.Owners worktree.old worktree.new owners.old
+        owners.new (λ t owned. words.check_ignore_reply_around_directory t owned
+        here.now.current.now here.now.variables.now here.now.directory.now asked.now wants.now
+        input.now) result }
 {
-    let placed = placed_here(alloc, worktree, owners, here)?;
-    check_placed(alloc, worktree, &placed, asked, wants, input)
+    let placed = find_work_tree_and_repository_places(alloc, worktree, owners, here)?;
+    check_ignore_paths_if_options_valid(alloc, worktree, &placed, asked, wants, input)
 }

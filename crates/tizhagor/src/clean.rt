@@ -1,21 +1,25 @@
 //! What `clean` names of the work tree around a directory.
 ghost use Rattle.std.specs.Prelude.{◌≡◌, codes, None, IfOk, IfErr};
-ghost use Rattle.git_clean.specs.Wrong.{wrong_in};
+ghost use Rattle.git_clean.specs.Wrong.{reason_cleaning_unsupported};
 ghost use Rattle.tizhagor.specs.Answers as answers;
 ghost use Rattle.tizhagor.specs.Cleanings as words;
-ghost use Rattle.tizhagor.specs.Finds.{FindsHereWith};
+ghost use Rattle.tizhagor.specs.Finds.{FindsHereResultOverTreeAndOwners};
 ghost use Rattle.tizhagor.specs.TreeWords as tree;
-ghost use Rattle.tizhagor.specs.Refusals.{IsOfFinding};
+ghost use Rattle.tizhagor.specs.Refusals.{MayComeBeforeSetupIsFound};
 
 use crate::directory::Here;
-use crate::files::all_named;
-use crate::found::around_here;
-use crate::patterns::{is_any, rules_of};
+use crate::files::named_specs_of_asked_specs;
+use crate::found::find_work_tree_around_current;
+use crate::patterns::{is_nonempty_list, rules_text_of_patterns};
 use crate::refusal::HereRefusal;
-use crate::reply::{Reply, of_text, replied};
-use crate::require_force::{WrongClean, is_require_force_false, required_in, unforced_here};
+use crate::reply::{Reply, plain_reply_or_program_refusal, reply_result_with_here_refusal};
+use crate::require_force::{
+    WrongClean, is_require_force_false, read_require_force, reason_force_is_missing_in_found,
+};
 use command_line::CleanAsked;
-use git_clean::{Cleaning, dry_clean, walk_options, wrong_in};
+use git_clean::{
+    Cleaning, clean_dry_run_text, reason_cleaning_unsupported, walk_options_for_cleaning,
+};
 use git_setup::{Asked, Found};
 use gitbase_core::{Bytes, OutOfMemory};
 use std::alloc::Global;
@@ -23,8 +27,8 @@ use worktree_fs::{Interrupt, Owners, Worktree};
 use worktree_report::{CountsFaults, Refusal, Setup};
 
 /// The cleaning, with whether there are patterns.
-fn with_patterns(cleaning: &Cleaning, patterns: bool) -> Cleaning
-    ensures { result ≡ words.with_patterns cleaning.now patterns }
+fn clean_options_with_pattern_flag(cleaning: &Cleaning, patterns: bool) -> Cleaning
+    ensures { result ≡ words.clean_options_with_pattern_flag cleaning.now patterns }
 {
     let mut cleaning = *cleaning;
     cleaning.patterns = patterns;
@@ -32,23 +36,23 @@ fn with_patterns(cleaning: &Cleaning, patterns: bool) -> Cleaning
 }
 
 /// What is asked of a cleaning. Whether there are patterns is said by these.
-fn cleaning_said(wants: &CleanAsked) -> Cleaning
-    ensures { result ≡ words.cleaning_said wants.now }
+fn clean_options_of_request(wants: &CleanAsked) -> Cleaning
+    ensures { result ≡ words.clean_options_of_request wants.now }
 {
-    with_patterns(&wants.cleaning, is_any(&wants.patterns))
+    clean_options_with_pattern_flag(&wants.cleaning, is_nonempty_list(&wants.patterns))
 }
 
 /// What is asked of a work tree, with the options that a cleaning needs.
-fn clean_asked(wants: &CleanAsked, asked: Asked) -> Asked
-    ensures { result ≡ words.clean_asked wants.now asked }
+fn request_with_walk_options_for_clean(wants: &CleanAsked, asked: Asked) -> Asked
+    ensures { result ≡ words.request_with_walk_options_for_clean wants.now asked }
 {
     let mut asked = asked;
-    asked.options = walk_options(&cleaning_said(wants), &asked.options);
+    asked.options = walk_options_for_cleaning(&clean_options_of_request(wants), &asked.options);
     asked
 }
 
 /// The work tree around a directory and its setup, unless there is no such cleaning of it.
-fn cleanable_here<W: Worktree, O: Owners>(
+fn find_setup_checked_for_clean<W: Worktree, O: Owners>(
     alloc: Global,
     worktree: &mut W,
     owners: &mut O,
@@ -56,18 +60,18 @@ fn cleanable_here<W: Worktree, O: Owners>(
     wants: &CleanAsked,
     asked: Asked,
 ) -> Result<Found, HereRefusal>
-    ensures finds { FindsHereWith W.Worktree O.Owners worktree.old worktree.new owners.old
-        owners.new (λ t owned. words.cleanable_in t owned here.now.current.now
+    ensures finds { FindsHereResultOverTreeAndOwners W.Worktree O.Owners worktree.old worktree.new
+        owners.old owners.new (λ t owned. words.found_checked_for_clean t owned here.now.current.now
         here.now.variables.now here.now.directory.now wants.now asked) result }
-    ensures of { IfErr result IsOfFinding }
-    ensures cleanable { IfOk result
-        (λ here. wrong_in (words.cleaning_said wants.now) here.setup ≡ None) }
+    ensures of { IfErr result MayComeBeforeSetupIsFound }
+    ensures cleanable { IfOk result (λ here. reason_cleaning_unsupported
+        (words.clean_options_of_request wants.now) here.setup ≡ None) }
 {
-    let asked = clean_asked(wants, asked);
-    let found = around_here(alloc, worktree, owners, here, &asked)?;
-    match unforced_here(wants, &found) {
+    let asked = request_with_walk_options_for_clean(wants, asked);
+    let found = find_work_tree_around_current(alloc, worktree, owners, here, &asked)?;
+    match reason_force_is_missing_in_found(wants, &found) {
         Some(wrong) => Err(HereRefusal::Cleaning(wrong)),
-        None => match wrong_in(&cleaning_said(wants), &found.setup) {
+        None => match reason_cleaning_unsupported(&clean_options_of_request(wants), &found.setup) {
             Some(wrong) => Err(HereRefusal::Cleaning(WrongClean::Wrong(wrong))),
             None => Ok(found),
         },
@@ -75,8 +79,12 @@ fn cleanable_here<W: Worktree, O: Owners>(
 }
 
 /// The cleaning, with what the configuration says of repositories and of how paths are written.
-fn cleaning_with(cleaning: &Cleaning, repositories: bool, quote_path: bool) -> Cleaning
-    ensures { result ≡ words.cleaning_with cleaning.now repositories quote_path }
+fn clean_options_with_configuration(
+    cleaning: &Cleaning,
+    repositories: bool,
+    quote_path: bool,
+) -> Cleaning
+    ensures { result ≡ words.clean_options_with_configuration cleaning.now repositories quote_path }
 {
     let mut cleaning = *cleaning;
     cleaning.repositories = repositories;
@@ -85,9 +93,9 @@ fn cleaning_with(cleaning: &Cleaning, repositories: bool, quote_path: bool) -> C
 }
 
 /// A setup with these rules before all others, and the whole of the work tree to look at.
-fn setup_with(rules: Bytes, top: Bytes, setup: Setup) -> Setup
+fn whole_tree_setup_with_rules(rules: Bytes, top: Bytes, setup: Setup) -> Setup
     requires top { top ≡ codes "." }
-    ensures { result ≡ words.setup_with rules setup }
+    ensures { result ≡ words.whole_tree_setup_with_rules rules setup }
 {
     let mut setup = setup;
     setup.root = Some(top);
@@ -96,16 +104,17 @@ fn setup_with(rules: Bytes, top: Bytes, setup: Setup) -> Setup
 }
 
 /// What would go of a work tree that is found.
-fn clean_in<W: CountsFaults, I: Interrupt>(
+fn clean_dry_run_of_found<W: CountsFaults, I: Interrupt>(
     alloc: Global,
     worktree: &mut W,
     interrupt: &mut I,
     found: Found,
     wants: &CleanAsked,
 ) -> Result<Bytes, Refusal>
-    requires cleanable { wrong_in (words.cleaning_said wants.now) found.setup ≡ None }
-    ensures { words.Cleans W.Worktree I.Interrupt worktree.old worktree.new interrupt.old
-        interrupt.new wants.now found result }
+    requires cleanable { reason_cleaning_unsupported (words.clean_options_of_request wants.now)
+        found.setup ≡ None }
+    ensures { words.AnswersCleanDryRunOfFound W.Worktree I.Interrupt worktree.old worktree.new
+        interrupt.old interrupt.new wants.now found result }
 {
     let Found {
         root,
@@ -117,13 +126,17 @@ fn clean_in<W: CountsFaults, I: Interrupt>(
     } = found;
     let repositories = wants
         .force
-        .is_twice(is_require_force_false(required_in(&config)));
-    let cleaning = cleaning_with(&cleaning_said(wants), repositories, quote_path);
-    let named = all_named(alloc, each)?;
-    let rules = rules_of(alloc, &wants.patterns)?;
+        .is_force_given_twice_counting_config(is_require_force_false(read_require_force(&config)));
+    let cleaning = clean_options_with_configuration(
+        &clean_options_of_request(wants),
+        repositories,
+        quote_path,
+    );
+    let named = named_specs_of_asked_specs(alloc, each)?;
+    let rules = rules_text_of_patterns(alloc, &wants.patterns)?;
     let top = Bytes::from_slice(alloc, b".")?;
-    let prepared = setup_with(rules, top, setup);
-    dry_clean(
+    let prepared = whole_tree_setup_with_rules(rules, top, setup);
+    clean_dry_run_text(
         alloc,
         worktree,
         interrupt,
@@ -137,7 +150,7 @@ fn clean_in<W: CountsFaults, I: Interrupt>(
 
 /// What `clean` names of the work tree around the directory that is asked for, or why there is
 /// nothing of it.
-pub fn clean_here<W: CountsFaults, O: Owners, I: Interrupt>(
+pub fn answer_clean<W: CountsFaults, O: Owners, I: Interrupt>(
     alloc: Global,
     worktree: &mut W,
     owners: &mut O,
@@ -146,12 +159,13 @@ pub fn clean_here<W: CountsFaults, O: Owners, I: Interrupt>(
     wants: &CleanAsked,
     asked: Asked,
 ) -> Result<Reply, HereRefusal>
-    ensures { answers.AnswersWord W.Worktree I.Interrupt O.Owners worktree.old worktree.new
-        interrupt.old interrupt.new owners.old owners.new
-        (λ t owned. words.cleanable_in t owned here.now.current.now here.now.variables.now
-        here.now.directory.now wants.now asked) (tree.cleaning_of wants.now) result }
+    ensures { answers.AnswersWorkTreeCommand W.Worktree I.Interrupt O.Owners worktree.old
+        worktree.new interrupt.old interrupt.new owners.old owners.new
+        (λ t owned. words.found_checked_for_clean t owned here.now.current.now
+        here.now.variables.now here.now.directory.now wants.now asked) (tree.cleaning_of wants.now)
+        result }
 {
-    let found = cleanable_here(alloc, worktree, owners, here, wants, asked)?;
-    let answer = clean_in(alloc, worktree, interrupt, found, wants);
-    replied(of_text(alloc, answer))
+    let found = find_setup_checked_for_clean(alloc, worktree, owners, here, wants, asked)?;
+    let answer = clean_dry_run_of_found(alloc, worktree, interrupt, found, wants);
+    reply_result_with_here_refusal(plain_reply_or_program_refusal(alloc, answer))
 }

@@ -1,24 +1,27 @@
 //! What `diff-files`, and `state` with `--by-stat`, say of what changed in the work tree around a
 //! directory.
 ghost use Rattle.std.specs.Prelude.{◌≡◌, IfErr, IfOk};
-ghost use Rattle.git_setup.specs.Compared.{compared_in, places_in};
-ghost use Rattle.tizhagor.specs.Compares.{Beside, Compares};
+ghost use Rattle.git_setup.specs.Compared.{read_comparison_setup, find_repository_places};
+ghost use Rattle.tizhagor.specs.Compares.{FindsOverTreeAndStats, FindsOverTreeOwnersAndStats};
 ghost use Rattle.tizhagor.specs.Comparing as words;
-ghost use Rattle.tizhagor.specs.Finds.{FindsHere, FindsHereWith};
-ghost use Rattle.tizhagor.specs.Refusals.{IsOfFinding};
+ghost use Rattle.tizhagor.specs.Finds.{FindsHereResultOverToldTree, FindsHereResultOverTreeAndOwners};
+ghost use Rattle.tizhagor.specs.Refusals.{MayComeBeforeSetupIsFound};
 
 use crate::directory::Here;
-use crate::found::directory_in;
+use crate::found::resolve_directory_or_current;
 use crate::refusal::{HereRefusal, Uncompared};
 use crate::reply::Reply;
-use crate::state_lines::state_with;
+use crate::state_lines::state_reply_by_stat;
 use crate::written::Writing;
 use command_line::{Comparing, Ignoring};
 use diff_files::{
     Comparison, DiffError, Differences, Form, NodeStat, Stats, Submodules, diff_files,
 };
-use git_places::{Places, Surroundings, Variable, surroundings_of};
-use git_setup::{Asked, Compared, GitRefusal, Settings, compared_at, index_path, places_here};
+use git_places::{Places, Surroundings, Variable, surroundings_of_variables};
+use git_setup::{
+    Asked, Compared, GitRefusal, Settings, find_repository_places, path_of_index_file,
+    read_comparison_setup,
+};
 use gitbase_core::{Bytes, PathText};
 use std::alloc::Global;
 use worktree_fs::{Owners, Worktree};
@@ -42,8 +45,10 @@ pub struct Placed {
 }
 
 /// An answer of the search for a work tree.
-fn as_git(answer: Result<Places, GitRefusal>) -> Result<Places, HereRefusal>
-    ensures { result ≡ words.as_placed answer }
+fn places_result_with_here_refusal(
+    answer: Result<Places, GitRefusal>,
+) -> Result<Places, HereRefusal>
+    ensures { result ≡ words.places_result_with_here_refusal answer }
 {
     match answer {
         Ok(places) => Ok(places),
@@ -52,57 +57,59 @@ fn as_git(answer: Result<Places, GitRefusal>) -> Result<Places, HereRefusal>
 }
 
 /// The work tree in these surroundings, and where its repository lies.
-fn places_around<W: Worktree, O: Owners>(
+fn find_repository_places_in_surroundings<W: Worktree, O: Owners>(
     alloc: Global,
     worktree: &mut W,
     owners: &mut O,
     around: &Surroundings,
 ) -> Result<Places, HereRefusal>
-    ensures finds { FindsHereWith W.Worktree O.Owners worktree.old worktree.new owners.old
-        owners.new (λ t owned. words.as_placed (places_in t owned around.now)) result }
-    ensures of { IfErr result IsOfFinding }
+    ensures finds { FindsHereResultOverTreeAndOwners W.Worktree O.Owners worktree.old worktree.new
+        owners.old owners.new (λ t owned. words.places_result_with_here_refusal
+        (find_repository_places t owned around.now)) result }
+    ensures of { IfErr result MayComeBeforeSetupIsFound }
 {
-    let answer = places_here(alloc, worktree, owners, around);
-    as_git(answer)
+    let answer = find_repository_places(alloc, worktree, owners, around);
+    places_result_with_here_refusal(answer)
 }
 
 /// The same of the work tree around a directory.
-fn placed_from<W: Worktree, O: Owners>(
+fn find_repository_from_directory<W: Worktree, O: Owners>(
     alloc: Global,
     worktree: &mut W,
     owners: &mut O,
     variables: &[Variable],
     directory: &[u8],
 ) -> Result<Placed, HereRefusal>
-    ensures finds { FindsHereWith W.Worktree O.Owners worktree.old worktree.new owners.old
-        owners.new (λ t owned. words.placed_from t owned variables.now directory.now) result }
-    ensures of { IfErr result IsOfFinding }
+    ensures finds { FindsHereResultOverTreeAndOwners W.Worktree O.Owners worktree.old worktree.new
+        owners.old owners.new (λ t owned. words.find_repository_from_directory t owned variables.now
+        directory.now) result }
+    ensures of { IfErr result MayComeBeforeSetupIsFound }
 {
-    let around = surroundings_of(alloc, directory, variables)?;
-    let places = places_around(alloc, worktree, owners, &around)?;
+    let around = surroundings_of_variables(alloc, directory, variables)?;
+    let places = find_repository_places_in_surroundings(alloc, worktree, owners, &around)?;
     Ok(Placed { around, places })
 }
 
 /// The same of the work tree around the directory that is asked for.
-#[tactic(auto, unfolding(crate::specs::Comparing::placed_in))]
-pub fn placed_here<W: Worktree, O: Owners>(
+#[tactic(auto, unfolding(crate::specs::Comparing::find_work_tree_and_repository_places))]
+pub fn find_work_tree_and_repository_places<W: Worktree, O: Owners>(
     alloc: Global,
     worktree: &mut W,
     owners: &mut O,
     here: &Here<'_>,
 ) -> Result<Placed, HereRefusal>
-    ensures finds { FindsHereWith W.Worktree O.Owners worktree.old worktree.new owners.old
-        owners.new (λ t owned. words.placed_in t owned here.now.current.now here.now.variables.now
-        here.now.directory.now) result }
-    ensures of { IfErr result IsOfFinding }
+    ensures finds { FindsHereResultOverTreeAndOwners W.Worktree O.Owners worktree.old worktree.new
+        owners.old owners.new (λ t owned. words.find_work_tree_and_repository_places t owned
+        here.now.current.now here.now.variables.now here.now.directory.now) result }
+    ensures of { IfErr result MayComeBeforeSetupIsFound }
 {
-    let place = directory_in(alloc, worktree, here.current, here.directory)?;
-    placed_from(alloc, worktree, owners, here.variables, place.as_bytes())
+    let place = resolve_directory_or_current(alloc, worktree, here.current, here.directory)?;
+    find_repository_from_directory(alloc, worktree, owners, here.variables, place.as_bytes())
 }
 
 /// When what is told of a node was last written; 0 where there is none.
-fn time_of(at: Option<NodeStat>) -> u32
-    ensures { result ≡ words.time_of at }
+fn mtime_or_zero(at: Option<NodeStat>) -> u32
+    ensures { result ≡ words.mtime_or_zero at }
 {
     match at {
         Some(at) => at.mtime,
@@ -111,63 +118,63 @@ fn time_of(at: Option<NodeStat>) -> u32
 }
 
 /// When the node at a path was last written.
-fn time_at<W: Worktree, D: Stats>(
+fn read_mtime_of_path<W: Worktree, D: Stats>(
     _worktree: &mut W,
     stats: &mut D,
     path: &[u8],
 ) -> Result<u32, HereRefusal>
-    ensures finds { Beside W.Worktree D.Stats _worktree.old _worktree.new stats.old stats.new
-        (λ t told. words.time_at told path.now) result }
-    ensures of { IfErr result IsOfFinding }
+    ensures finds { FindsOverTreeAndStats W.Worktree D.Stats _worktree.old _worktree.new stats.old
+        stats.new (λ t told. words.mtime_of_path told path.now) result }
+    ensures of { IfErr result MayComeBeforeSetupIsFound }
 {
-    Ok(time_of(stats.stat(path)?))
+    Ok(mtime_or_zero(stats.stat(path)?))
 }
 
 /// When the index of a git directory was last written; 0 where there is none.
-fn index_time<W: Worktree, D: Stats>(
+fn read_index_mtime_of_git_dir<W: Worktree, D: Stats>(
     alloc: Global,
     worktree: &mut W,
     stats: &mut D,
     git: &[u8],
 ) -> Result<u32, HereRefusal>
-    ensures finds { Beside W.Worktree D.Stats worktree.old worktree.new stats.old stats.new
-        (λ t told. words.index_time t told git.now) result }
-    ensures of { IfErr result IsOfFinding }
+    ensures finds { FindsOverTreeAndStats W.Worktree D.Stats worktree.old worktree.new stats.old
+        stats.new (λ t told. words.index_mtime_of_git_dir t told git.now) result }
+    ensures of { IfErr result MayComeBeforeSetupIsFound }
 {
-    let path = index_path(alloc, git)?;
+    let path = path_of_index_file(alloc, git)?;
     match worktree.real_path(alloc, path.as_bytes(), b"/")? {
-        Some(real) => time_at(worktree, stats, real.as_bytes()),
+        Some(real) => read_mtime_of_path(worktree, stats, real.as_bytes()),
         None => Ok(0),
     }
 }
 
 /// The same of the git directory of a work tree.
-pub fn time_of_index<W: Worktree, D: Stats>(
+pub fn read_index_mtime<W: Worktree, D: Stats>(
     alloc: Global,
     worktree: &mut W,
     stats: &mut D,
     places: &Places,
 ) -> Result<u32, HereRefusal>
-    ensures finds { Beside W.Worktree D.Stats worktree.old worktree.new stats.old stats.new
-        (λ t told. words.index_time t told places.now.git) result }
-    ensures of { IfErr result IsOfFinding }
+    ensures finds { FindsOverTreeAndStats W.Worktree D.Stats worktree.old worktree.new stats.old
+        stats.new (λ t told. words.index_mtime_of_git_dir t told places.now.git) result }
+    ensures of { IfErr result MayComeBeforeSetupIsFound }
 {
     let git = places.git_dir.as_bytes();
-    index_time(alloc, worktree, stats, git)
+    read_index_mtime_of_git_dir(alloc, worktree, stats, git)
 }
 
 /// What a work tree and its index are compared by.
-fn compared_here<W: Worktree>(
+fn read_comparison_inputs<W: Worktree>(
     alloc: Global,
     worktree: &mut W,
     placed: &Placed,
     asked: &Asked,
 ) -> Result<Compared, HereRefusal>
-    ensures finds { FindsHere W.Worktree worktree.old worktree.new
-        (λ t. words.compared_in t placed.now asked.now) result }
-    ensures of { IfErr result IsOfFinding }
+    ensures finds { FindsHereResultOverToldTree W.Worktree worktree.old worktree.new
+        (λ t. words.comparison_inputs_of_placed t placed.now asked.now) result }
+    ensures of { IfErr result MayComeBeforeSetupIsFound }
 {
-    Ok(compared_at(
+    Ok(read_comparison_setup(
         alloc,
         worktree,
         &placed.places,
@@ -177,8 +184,8 @@ fn compared_here<W: Worktree>(
 }
 
 /// What is printed of each change.
-fn form_of(comparing: &Comparing) -> Form
-    ensures { result ≡ words.form_of comparing.now }
+fn diff_form_of_request(comparing: &Comparing) -> Form
+    ensures { result ≡ words.diff_form_of_request comparing.now }
 {
     if comparing.statuses {
         Form::NameStatus
@@ -191,8 +198,8 @@ fn form_of(comparing: &Comparing) -> Form
 
 /// Which submodules are told of, by the words, and else by whether the configuration may leave some
 /// out.
-fn submodules_by(ignoring: Ignoring, ignores: bool) -> Submodules
-    ensures { result ≡ words.submodules_by ignoring ignores }
+fn submodules_mode_of_ignore_setting(ignoring: Ignoring, ignores: bool) -> Submodules
+    ensures { result ≡ words.submodules_mode_of_ignore_setting ignoring ignores }
 {
     match ignoring {
         Ignoring::Nothing => Submodules::Told,
@@ -208,11 +215,16 @@ fn submodules_by(ignoring: Ignoring, ignores: bool) -> Submodules
 }
 
 /// The comparison that the words ask for, by what the configuration and the files say.
-pub fn comparison_of(comparing: &Comparing, settings: &Settings, index_time: u32) -> Comparison
-    ensures { result ≡ words.comparison_of comparing.now settings.now index_time }
+pub fn comparison_of_request_and_settings(
+    comparing: &Comparing,
+    settings: &Settings,
+    index_time: u32,
+) -> Comparison
+    ensures { result ≡ words.comparison_of_request_and_settings comparing.now settings.now
+        index_time }
 {
     Comparison {
-        form: form_of(comparing),
+        form: diff_form_of_request(comparing),
         ends_in_nul: comparing.ends_in_nul,
         quote_path: settings.quote_path,
         file_mode: settings.nodes.file_mode,
@@ -221,18 +233,21 @@ pub fn comparison_of(comparing: &Comparing, settings: &Settings, index_time: u32
         check_stat: settings.nodes.check_stat,
         sparse_checkout: settings.looks_for_skipped,
         converts: settings.converts,
-        submodules: submodules_by(comparing.ignoring, settings.ignores_submodules),
+        submodules: submodules_mode_of_ignore_setting(
+            comparing.ignoring,
+            settings.ignores_submodules,
+        ),
         index_time,
     }
 }
 
 /// What is said of differences.
-fn as_reply(
+fn reply_of_differences(
     alloc: Global,
     comparing: &Comparing,
     answer: Result<Differences, DiffError>,
 ) -> Result<Reply, HereRefusal>
-    ensures { result ≡ words.as_reply comparing.now answer }
+    ensures { result ≡ words.reply_of_differences comparing.now answer }
 {
     match answer {
         Ok(made) => {
@@ -262,11 +277,12 @@ fn diff_files_reply<W: Worktree, D: Stats>(
     comparing: &Comparing,
     index_time: u32,
 ) -> Result<Reply, HereRefusal>
-    ensures finds { Beside W.Worktree D.Stats worktree.old worktree.new stats.old stats.new
-        (λ t told. words.replied t told comparing.now compared.now index_time) result }
-    ensures of { IfErr result IsOfFinding }
+    ensures finds { FindsOverTreeAndStats W.Worktree D.Stats worktree.old worktree.new stats.old
+        stats.new (λ t told. words.diff_files_reply_of_comparison t told comparing.now compared.now
+        index_time) result }
+    ensures of { IfErr result MayComeBeforeSetupIsFound }
 {
-    let comparison = comparison_of(comparing, &compared.settings, index_time);
+    let comparison = comparison_of_request_and_settings(comparing, &compared.settings, index_time);
     let answer = diff_files(
         alloc,
         worktree,
@@ -277,11 +293,11 @@ fn diff_files_reply<W: Worktree, D: Stats>(
         &comparison,
         &compared.specs,
     );
-    as_reply(alloc, comparing, answer)
+    reply_of_differences(alloc, comparing, answer)
 }
 
 /// The same in the lines that are asked for.
-fn reply_with<W: Worktree, D: Stats>(
+fn diff_files_or_state_lines_reply<W: Worktree, D: Stats>(
     alloc: Global,
     worktree: &mut W,
     stats: &mut D,
@@ -289,22 +305,23 @@ fn reply_with<W: Worktree, D: Stats>(
     lines: ChangeLines,
     index_time: u32,
 ) -> Result<Reply, HereRefusal>
-    ensures finds { Beside W.Worktree D.Stats worktree.old worktree.new stats.old stats.new
-        (λ t told. words.replied_with t told lines compared.now index_time) result }
-    ensures of { IfErr result IsOfFinding }
+    ensures finds { FindsOverTreeAndStats W.Worktree D.Stats worktree.old worktree.new stats.old
+        stats.new (λ t told. words.diff_files_or_state_lines_reply t told lines compared.now
+        index_time) result }
+    ensures of { IfErr result MayComeBeforeSetupIsFound }
 {
     match lines {
         ChangeLines::Differences(comparing) => {
             diff_files_reply(alloc, worktree, stats, compared, &comparing, index_time)
         }
         ChangeLines::States(writing) => {
-            state_with(alloc, worktree, stats, compared, writing, index_time)
+            state_reply_by_stat(alloc, worktree, stats, compared, writing, index_time)
         }
     }
 }
 
 /// What is said by what is read of a work tree, where its index was last written at a time.
-fn compare_read<W: Worktree, D: Stats>(
+fn read_index_and_compare_work_tree<W: Worktree, D: Stats>(
     alloc: Global,
     worktree: &mut W,
     stats: &mut D,
@@ -313,18 +330,18 @@ fn compare_read<W: Worktree, D: Stats>(
     lines: ChangeLines,
     index_time: u32,
 ) -> Result<Reply, HereRefusal>
-    ensures finds { Beside W.Worktree D.Stats worktree.old worktree.new stats.old stats.new
-        (λ t told. words.replied_by t told placed.now asked.now lines index_time)
-        result }
-    ensures of { IfErr result IsOfFinding }
+    ensures finds { FindsOverTreeAndStats W.Worktree D.Stats worktree.old worktree.new stats.old
+        stats.new (λ t told. words.comparison_reply_at_index_time t told placed.now asked.now lines
+        index_time) result }
+    ensures of { IfErr result MayComeBeforeSetupIsFound }
 {
-    let compared = compared_here(alloc, worktree, placed, asked)?;
-    reply_with(alloc, worktree, stats, &compared, lines, index_time)
+    let compared = read_comparison_inputs(alloc, worktree, placed, asked)?;
+    diff_files_or_state_lines_reply(alloc, worktree, stats, &compared, lines, index_time)
 }
 
 /// Whether two forms are asked for that git does not print together.
-fn is_exclusive(lines: ChangeLines) -> bool
-    ensures { result ≡ words.is_exclusive lines }
+fn asks_name_only_and_name_status(lines: ChangeLines) -> bool
+    ensures { result ≡ words.asks_name_only_and_name_status lines }
 {
     match lines {
         ChangeLines::Differences(comparing) => comparing.names && comparing.statuses,
@@ -334,7 +351,7 @@ fn is_exclusive(lines: ChangeLines) -> bool
 
 /// What is said of the work tree at a place. When the index was written is asked for before it is
 /// read, so that what changes between them is looked at.
-fn compare_at<W: Worktree, D: Stats>(
+fn read_index_time_and_compare<W: Worktree, D: Stats>(
     alloc: Global,
     worktree: &mut W,
     stats: &mut D,
@@ -342,16 +359,17 @@ fn compare_at<W: Worktree, D: Stats>(
     asked: &Asked,
     lines: ChangeLines,
 ) -> Result<Reply, HereRefusal>
-    ensures finds { Beside W.Worktree D.Stats worktree.old worktree.new stats.old stats.new
-        (λ t told. words.replied_at t told placed.now asked.now lines) result }
-    ensures of { IfErr result IsOfFinding }
+    ensures finds { FindsOverTreeAndStats W.Worktree D.Stats worktree.old worktree.new stats.old
+        stats.new (λ t told. words.comparison_reply_of_placed t told placed.now asked.now lines)
+        result }
+    ensures of { IfErr result MayComeBeforeSetupIsFound }
 {
-    let time = time_of_index(alloc, worktree, stats, &placed.places)?;
-    compare_read(alloc, worktree, stats, placed, asked, lines, time)
+    let time = read_index_mtime(alloc, worktree, stats, &placed.places)?;
+    read_index_and_compare_work_tree(alloc, worktree, stats, placed, asked, lines, time)
 }
 
 /// The same, unless the words ask for what git does not print.
-fn compare_placed<W: Worktree, D: Stats>(
+fn compare_unless_name_options_conflict<W: Worktree, D: Stats>(
     alloc: Global,
     worktree: &mut W,
     stats: &mut D,
@@ -359,14 +377,15 @@ fn compare_placed<W: Worktree, D: Stats>(
     asked: &Asked,
     lines: ChangeLines,
 ) -> Result<Reply, HereRefusal>
-    ensures finds { Beside W.Worktree D.Stats worktree.old worktree.new stats.old stats.new
-        (λ t told. words.replied_unless t told placed.now asked.now lines) result }
-    ensures of { IfErr result IsOfFinding }
+    ensures finds { FindsOverTreeAndStats W.Worktree D.Stats worktree.old worktree.new stats.old
+        stats.new (λ t told. words.comparison_reply_if_options_agree t told placed.now asked.now
+        lines) result }
+    ensures of { IfErr result MayComeBeforeSetupIsFound }
 {
-    if is_exclusive(lines) {
+    if asks_name_only_and_name_status(lines) {
         return Err(HereRefusal::Uncompared(Uncompared::Exclusive));
     }
-    compare_at(alloc, worktree, stats, placed, asked, lines)
+    read_index_time_and_compare(alloc, worktree, stats, placed, asked, lines)
 }
 
 /// What is said of what changed in the work tree around the directory that is asked for, or why
@@ -375,13 +394,13 @@ fn compare_placed<W: Worktree, D: Stats>(
 /// # Errors
 ///
 /// - `Absent`, `NotADirectory`: the directory that `-C` names is none.
-/// - `Git`: there is no work tree, or what is read of it is refused, as [`places_here`] and
-///   [`compared_at`] say.
+/// - `Git`: there is no work tree, or what is read of it is refused, as [`find_repository_places`]
+///   and [`read_comparison_setup`] say.
 /// - `Uncompared`: two forms are asked for that git does not print together, or a form is not
 ///   answered here, as [`diff_files`] says.
 /// - `Program(Fault)`: the worktree, the owners or the stats failed, and counted it.
 /// - `Program(OutOfMemory)` for want of memory.
-pub fn compare_here<W: Worktree, O: Owners, D: Stats>(
+pub fn answer_diff_files_or_state_lines<W: Worktree, O: Owners, D: Stats>(
     alloc: Global,
     worktree: &mut W,
     owners: &mut O,
@@ -390,10 +409,11 @@ pub fn compare_here<W: Worktree, O: Owners, D: Stats>(
     asked: &Asked,
     lines: ChangeLines,
 ) -> Result<Reply, HereRefusal>
-    ensures { Compares W.Worktree O.Owners D.Stats worktree.old worktree.new owners.old
-        owners.new stats.old stats.new (λ t owned told. words.replied_in t owned told
-        here.now.current.now here.now.variables.now here.now.directory.now asked.now lines) result }
+    ensures { FindsOverTreeOwnersAndStats W.Worktree O.Owners D.Stats worktree.old worktree.new
+        owners.old owners.new stats.old stats.new
+        (λ t owned told. words.comparison_reply_around_directory t owned told here.now.current.now
+        here.now.variables.now here.now.directory.now asked.now lines) result }
 {
-    let placed = placed_here(alloc, worktree, owners, here)?;
-    compare_placed(alloc, worktree, stats, &placed, asked, lines)
+    let placed = find_work_tree_and_repository_places(alloc, worktree, owners, here)?;
+    compare_unless_name_options_conflict(alloc, worktree, stats, &placed, asked, lines)
 }

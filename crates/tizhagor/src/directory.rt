@@ -1,11 +1,11 @@
 //! The directory in which a command works.
 ghost use Rattle.std.specs.Prelude.{◌≡◌, true, IfOk, IfErr};
-ghost use Rattle.worktree_fs.specs.Answers.{kind_of};
+ghost use Rattle.worktree_fs.specs.Answers.{kind_of_lookup};
 ghost use Rattle.worktree_fs.specs.Changes.{real_path};
 ghost use Rattle.worktree_fs.specs.Tree.{look};
 ghost use Rattle.tizhagor.specs.Directory as words;
-ghost use Rattle.tizhagor.specs.Finds.{FindsHere};
-ghost use Rattle.tizhagor.specs.Refusals.{IsOfFinding};
+ghost use Rattle.tizhagor.specs.Finds.{FindsHereResultOverToldTree};
+ghost use Rattle.tizhagor.specs.Refusals.{MayComeBeforeSetupIsFound};
 
 use crate::refusal::HereRefusal;
 use git_places::Variable;
@@ -32,7 +32,7 @@ fn absent(alloc: Global, name: &[u8]) -> Result<HereRefusal, OutOfMemory>
 }
 
 /// That what is named is no directory.
-fn not_a_directory(alloc: Global, name: &[u8]) -> Result<HereRefusal, OutOfMemory>
+fn refusal_not_a_directory(alloc: Global, name: &[u8]) -> Result<HereRefusal, OutOfMemory>
     ensures { IfOk result (λ e. e ≡ HereRefusal.NotADirectory name.now) }
 {
     Ok(HereRefusal::NotADirectory {
@@ -41,19 +41,20 @@ fn not_a_directory(alloc: Global, name: &[u8]) -> Result<HereRefusal, OutOfMemor
 }
 
 /// A path without links, where a directory is at it.
-fn directory_at<W: Worktree>(
+fn require_directory_at_real_path<W: Worktree>(
     alloc: Global,
     worktree: &mut W,
     name: &[u8],
     real: PathText,
 ) -> Result<PathText, HereRefusal>
-    ensures finds { FindsHere W.Worktree worktree.old worktree.new
-        (λ t. words.directory_by name.now real (kind_of (look t real true))) result }
-    ensures of { IfErr result IsOfFinding }
+    ensures finds { FindsHereResultOverToldTree W.Worktree worktree.old worktree.new
+        (λ t. words.require_directory_kind name.now real (kind_of_lookup (look t real true)))
+        result }
+    ensures of { IfErr result MayComeBeforeSetupIsFound }
 {
     match worktree.kind_following(alloc, real.as_bytes())? {
         Some(NodeKind::Directory) => Ok(real),
-        Some(_) => Err(not_a_directory(alloc, name)?),
+        Some(_) => Err(refusal_not_a_directory(alloc, name)?),
         None => Err(absent(alloc, name)?),
     }
 }
@@ -67,21 +68,21 @@ fn directory_at<W: Worktree>(
 /// - `NotADirectory`: what is there is no directory.
 /// - `Program(Fault)`: the worktree failed, which it counted.
 /// - `Program(OutOfMemory)` for want of memory.
-pub fn directory_named<W: Worktree>(
+pub fn resolve_named_directory<W: Worktree>(
     alloc: Global,
     worktree: &mut W,
     current: &[u8],
     name: &[u8],
 ) -> Result<PathText, HereRefusal>
-    ensures finds { FindsHere W.Worktree worktree.old worktree.new
-        (λ t. words.directory_named t current.now name.now) result }
-    ensures of { IfErr result IsOfFinding }
+    ensures finds { FindsHereResultOverToldTree W.Worktree worktree.old worktree.new
+        (λ t. words.resolve_named_directory t current.now name.now) result }
+    ensures of { IfErr result MayComeBeforeSetupIsFound }
 {
     if name.is_empty() {
         return Ok(PathText::from_bytes(alloc, current)?);
     }
     match worktree.real_path(alloc, name, current)? {
-        Some(real) => directory_at(alloc, worktree, name, real),
+        Some(real) => require_directory_at_real_path(alloc, worktree, name, real),
         None => Err(absent(alloc, name)?),
     }
 }

@@ -3,7 +3,7 @@
 ghost use Rattle.std.specs.Prelude.{◌≡◌, ◌==◌, ◌<◌, ◌++◌, length, position, IfOk, IfSome, OnOk};
 ghost use Rattle.tizhagor.specs.Environment as words;
 
-use command_line::{Command, request_of};
+use command_line::{Command, parse_request_words};
 use git_places::Variable;
 use gitbase_core::{Bytes, OutOfMemory};
 use std::alloc::Global;
@@ -57,7 +57,11 @@ impl From<OutOfMemory> for NotGiven {
 }
 
 /// The words behind the program's name.
-fn words_given<R: Env>(rt: &R, alloc: Global, buffer: &mut [u8]) -> Result<Vec<Bytes>, NotGiven> {
+fn read_command_words<R: Env>(
+    rt: &R,
+    alloc: Global,
+    buffer: &mut [u8],
+) -> Result<Vec<Bytes>, NotGiven> {
     let mut words = Vec::new(alloc);
     for i in 1..usize::MAX {
         match rt.arg(i, buffer) {
@@ -75,7 +79,7 @@ fn add(alloc: Global, words: &mut Vec<Bytes>, word: &[u8]) -> Result<(), OutOfMe
 }
 
 /// The place of the first `=`.
-fn first_equals(entry: &[u8]) -> Option<usize>
+fn index_of_first_equals(entry: &[u8]) -> Option<usize>
     ensures place { result ≡ position (λ b. b == 61) entry.now }
     ensures within { IfSome result (λ place. place < length entry.now) }
 {
@@ -83,15 +87,15 @@ fn first_equals(entry: &[u8]) -> Option<usize>
 }
 
 /// Adds the variable of an entry `NAME=value`; any other entry is none.
-fn add_variable(
+fn push_variable_of_entry(
     alloc: Global,
     variables: &mut Vec<Variable>,
     entry: &[u8],
 ) -> Result<(), OutOfMemory>
-    ensures { OnOk result (variables.new.items ≡ variables.old.items ++ words.variable_of
+    ensures { OnOk result (variables.new.items ≡ variables.old.items ++ words.variable_of_entry
         entry.now) }
 {
-    if let Some(place) = first_equals(entry) {
+    if let Some(place) = index_of_first_equals(entry) {
         let (name, _) = entry.split_at(place);
         let (_, value) = entry.split_at(place + 1);
         let name = Bytes::from_slice(alloc, name)?;
@@ -102,12 +106,12 @@ fn add_variable(
 }
 
 /// The variables of entries of an environment, in their order.
-fn variables_of(alloc: Global, entries: &[Bytes]) -> Result<Vec<Variable>, OutOfMemory>
-    ensures { IfOk result (λ variables. variables.items ≡ words.variables_of entries.now) }
+fn variables_of_entries(alloc: Global, entries: &[Bytes]) -> Result<Vec<Variable>, OutOfMemory>
+    ensures { IfOk result (λ variables. variables.items ≡ words.variables_of_entries entries.now) }
 {
     let mut variables = Vec::new(alloc);
     for entry in entries {
-        add_variable(alloc, &mut variables, entry.as_bytes())?;
+        push_variable_of_entry(alloc, &mut variables, entry.as_bytes())?;
     }
     Ok(variables)
 }
@@ -126,7 +130,7 @@ fn entries<R: Env>(rt: &R, alloc: Global, buffer: &mut [u8]) -> Result<Vec<Bytes
 }
 
 /// The current directory.
-fn current<R: Env>(rt: &R, alloc: Global) -> Result<Bytes, NotGiven> {
+fn read_current_directory<R: Env>(rt: &R, alloc: Global) -> Result<Bytes, NotGiven> {
     let mut buffer = [0u8; PATH_LIMIT];
     match rt.current_dir(&mut buffer) {
         Ok(length) => Ok(Bytes::from_slice(alloc, &buffer[..length])?),
@@ -135,7 +139,7 @@ fn current<R: Env>(rt: &R, alloc: Global) -> Result<Bytes, NotGiven> {
 }
 
 /// A path with a slash at its end; nothing where it is not UTF-8.
-fn with_slash(alloc: Global, path: &[u8]) -> Result<String, OutOfMemory> {
+fn utf8_path_with_slash_or_empty(alloc: Global, path: &[u8]) -> Result<String, OutOfMemory> {
     let Ok(text) = str::from_utf8(path) else {
         return Ok(String::new(alloc));
     };
@@ -145,12 +149,12 @@ fn with_slash(alloc: Global, path: &[u8]) -> Result<String, OutOfMemory> {
 }
 
 /// Whether a command is answered without a work tree.
-fn is_offered(command: &Command) -> bool {
+fn needs_no_work_tree(command: &Command) -> bool {
     matches!(command, Command::Help(_) | Command::Version)
 }
 
 /// Whether a directory is said by its whole path.
-fn is_absolute(directory: &Option<Bytes>) -> bool {
+fn is_absolute_directory(directory: &Option<Bytes>) -> bool {
     match directory {
         Some(path) => path.as_bytes().starts_with(b"/"),
         None => false,
@@ -159,9 +163,10 @@ fn is_absolute(directory: &Option<Bytes>) -> bool {
 
 /// Whether words are answered without the current directory: they ask for a help text or the
 /// version, or for another directory by its whole path, or are wrong.
-fn need_no_directory(alloc: Global, words: &[Bytes]) -> bool {
-    match request_of(alloc, words) {
-        Ok(request) => is_offered(&request.command) | is_absolute(&request.directory),
+fn need_no_current_directory(alloc: Global, words: &[Bytes]) -> bool {
+    match parse_request_words(alloc, words) {
+        Ok(request) => needs_no_work_tree(&request.command)
+            | is_absolute_directory(&request.directory),
         Err(_) => true,
     }
 }
@@ -169,12 +174,12 @@ fn need_no_directory(alloc: Global, words: &[Bytes]) -> bool {
 /// The current directory, and the same with a slash at its end. Where there is none and the words
 /// need none, the root stands in its place, and nothing is beside it.
 fn directory<R: Env>(rt: &R, alloc: Global, words: &[Bytes]) -> Result<(Bytes, String), NotGiven> {
-    match current(rt, alloc) {
+    match read_current_directory(rt, alloc) {
         Ok(current) => {
-            let beside = with_slash(alloc, current.as_bytes())?;
+            let beside = utf8_path_with_slash_or_empty(alloc, current.as_bytes())?;
             Ok((current, beside))
         }
-        Err(NotGiven::Directory) if need_no_directory(alloc, words) => {
+        Err(NotGiven::Directory) if need_no_current_directory(alloc, words) => {
             Ok((Bytes::from_slice(alloc, b"/")?, String::new(alloc)))
         }
         Err(refused) => Err(refused),
@@ -190,9 +195,9 @@ fn directory<R: Env>(rt: &R, alloc: Global, words: &[Bytes]) -> Result<(Bytes, S
 /// - `OutOfMemory` for want of memory.
 pub fn given<R: Env>(rt: &R, alloc: Global) -> Result<Handed, NotGiven> {
     let mut buffer = room(alloc)?;
-    let words = words_given(rt, alloc, &mut buffer)?;
+    let words = read_command_words(rt, alloc, &mut buffer)?;
     let entries = entries(rt, alloc, &mut buffer)?;
-    let variables = variables_of(alloc, &entries)?;
+    let variables = variables_of_entries(alloc, &entries)?;
     let (current, beside) = directory(rt, alloc, &words)?;
     Ok(Handed {
         words,

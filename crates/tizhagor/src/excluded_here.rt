@@ -1,38 +1,46 @@
 //! What `ls-files -i -c` lists of the work tree around a directory.
 ghost use Rattle.std.specs.Prelude.{◌≡◌, IfErr};
-ghost use Rattle.ls_files.specs.Excluded.{listed_excluded};
-ghost use Rattle.tizhagor.specs.Checks.{Checks, Looks};
+ghost use Rattle.ls_files.specs.Excluded.{output_of_ignored_index_or_error};
+ghost use Rattle.tizhagor.specs.Checks.{FindsReplyOverTreeAndOwners, FindsReplyOverTree};
 ghost use Rattle.tizhagor.specs.Excluding as words;
-ghost use Rattle.tizhagor.specs.Finds.{FindsHereWith};
-ghost use Rattle.tizhagor.specs.Refusals.{IsOfFinding};
+ghost use Rattle.tizhagor.specs.Finds.{FindsHereResultOverTreeAndOwners};
+ghost use Rattle.tizhagor.specs.Refusals.{MayComeBeforeSetupIsFound};
 
 use crate::directory::Here;
-use crate::files::{all_named, listing_said, listing_with, ruled_around, setup_with};
-use crate::patterns::rules_of;
+use crate::files::{
+    find_setup_and_read_exclude_files, ls_files_options_of_request,
+    ls_files_options_with_quote_path, named_specs_of_asked_specs,
+    setup_with_listing_options_and_rules,
+};
+use crate::patterns::rules_text_of_patterns;
 use crate::refusal::HereRefusal;
 use crate::reply::Reply;
 use command_line::FilesAsked;
 use git_setup::{Asked, Found};
 use ls_files::{
-    ExcludedError, Listed, Listing, NamedSpec, WrongListing, list_excluded, wrong_excluded,
+    ExcludedError, Listed, Listing, NamedSpec, WrongListing, list_ignored_index_entries,
+    refusal_if_no_rules_or_sparse,
 };
 use std::alloc::Global;
 use worktree_fs::{Owners, Worktree};
 use worktree_report::{Refusal, Setup};
 
 /// What is found, unless there is no such listing of its index.
-fn unless_wrong(wants: &FilesAsked, found: Found) -> Result<Found, HereRefusal>
-    ensures gives { result ≡ words.unless_wrong wants.now found }
-    ensures of { IfErr result IsOfFinding }
+fn require_valid_ignored_index_listing(
+    wants: &FilesAsked,
+    found: Found,
+) -> Result<Found, HereRefusal>
+    ensures gives { result ≡ words.require_valid_ignored_index_listing wants.now found }
+    ensures of { IfErr result MayComeBeforeSetupIsFound }
 {
-    match wrong_excluded(&listing_said(wants), &found.setup.index) {
+    match refusal_if_no_rules_or_sparse(&ls_files_options_of_request(wants), &found.setup.index) {
         Some(wrong) => Err(HereRefusal::Listing(wrong)),
         None => Ok(found),
     }
 }
 
 /// The same of the work tree around a directory.
-fn excludable_here<W: Worktree, O: Owners>(
+fn find_setup_checked_for_ignored_index<W: Worktree, O: Owners>(
     alloc: Global,
     worktree: &mut W,
     owners: &mut O,
@@ -40,18 +48,19 @@ fn excludable_here<W: Worktree, O: Owners>(
     wants: &FilesAsked,
     asked: &Asked,
 ) -> Result<Found, HereRefusal>
-    ensures finds { FindsHereWith W.Worktree O.Owners worktree.old worktree.new owners.old
-        owners.new (λ t owned. words.excludable_in t owned here.now.current.now
-        here.now.variables.now here.now.directory.now wants.now asked.now) result }
-    ensures of { IfErr result IsOfFinding }
+    ensures finds { FindsHereResultOverTreeAndOwners W.Worktree O.Owners worktree.old worktree.new
+        owners.old owners.new (λ t owned. words.found_checked_for_ignored_index t owned
+        here.now.current.now here.now.variables.now here.now.directory.now wants.now asked.now)
+        result }
+    ensures of { IfErr result MayComeBeforeSetupIsFound }
 {
-    let found = ruled_around(alloc, worktree, owners, here, wants, asked)?;
-    unless_wrong(wants, found)
+    let found = find_setup_and_read_exclude_files(alloc, worktree, owners, here, wants, asked)?;
+    require_valid_ignored_index_listing(wants, found)
 }
 
 /// The refusal that stands for one of a listing of what is excluded.
-fn of_excluded(refused: ExcludedError) -> HereRefusal
-    ensures { result ≡ words.of_excluded refused }
+fn here_refusal_of_ignored_index_error(refused: ExcludedError) -> HereRefusal
+    ensures { result ≡ words.here_refusal_of_ignored_index_error refused }
 {
     match refused {
         ExcludedError::Unread => HereRefusal::Listing(WrongListing::UnreadRules),
@@ -61,8 +70,10 @@ fn of_excluded(refused: ExcludedError) -> HereRefusal
 }
 
 /// What is said of a listing.
-fn as_reply(answer: Result<Listed, ExcludedError>) -> Result<Reply, HereRefusal>
-    ensures { result ≡ words.as_reply answer }
+fn reply_of_ignored_index_listing(
+    answer: Result<Listed, ExcludedError>,
+) -> Result<Reply, HereRefusal>
+    ensures { result ≡ words.reply_of_ignored_index_listing answer }
 {
     match answer {
         Ok(made) => {
@@ -73,12 +84,12 @@ fn as_reply(answer: Result<Listed, ExcludedError>) -> Result<Reply, HereRefusal>
                 is_no,
             })
         }
-        Err(refused) => Err(of_excluded(refused)),
+        Err(refused) => Err(here_refusal_of_ignored_index_error(refused)),
     }
 }
 
 /// What is said of the work tree at `root`, in its directory `prefix`, with path specs.
-fn list_by<W: Worktree>(
+fn list_ignored_index_as_reply<W: Worktree>(
     alloc: Global,
     worktree: &mut W,
     root: &[u8],
@@ -87,24 +98,25 @@ fn list_by<W: Worktree>(
     prefix: &[u8],
     named: &[NamedSpec],
 ) -> Result<Reply, HereRefusal>
-    ensures looks { Looks W.Worktree worktree.old worktree.new (λ t. words.as_reply
-        (listed_excluded t root.now setup.now listing.now prefix.now named.now)) result }
-    ensures of { IfErr result IsOfFinding }
+    ensures looks { FindsReplyOverTree W.Worktree worktree.old worktree.new
+        (λ t. words.reply_of_ignored_index_listing (output_of_ignored_index_or_error t root.now
+        setup.now listing.now prefix.now named.now)) result }
+    ensures of { IfErr result MayComeBeforeSetupIsFound }
 {
-    let answer = list_excluded(alloc, worktree, root, setup, listing, prefix, named);
-    as_reply(answer)
+    let answer = list_ignored_index_entries(alloc, worktree, root, setup, listing, prefix, named);
+    reply_of_ignored_index_listing(answer)
 }
 
 /// The same, by what was found.
-fn list_found<W: Worktree>(
+fn list_ignored_index_of_found<W: Worktree>(
     alloc: Global,
     worktree: &mut W,
     found: Found,
     wants: &FilesAsked,
 ) -> Result<Reply, HereRefusal>
-    ensures looks { Looks W.Worktree worktree.old worktree.new
-        (λ t. words.said_by t wants.now found) result }
-    ensures of { IfErr result IsOfFinding }
+    ensures looks { FindsReplyOverTree W.Worktree worktree.old worktree.new
+        (λ t. words.ignored_index_reply_of_found t wants.now found) result }
+    ensures of { IfErr result MayComeBeforeSetupIsFound }
 {
     let Found {
         root,
@@ -114,11 +126,11 @@ fn list_found<W: Worktree>(
         quote_path,
         config: _config,
     } = found;
-    let named = all_named(alloc, each)?;
-    let rules = rules_of(alloc, &wants.rules.patterns)?;
-    let quoting = listing_with(&listing_said(wants), quote_path);
-    let prepared = setup_with(&quoting, rules, setup);
-    list_by(
+    let named = named_specs_of_asked_specs(alloc, each)?;
+    let rules = rules_text_of_patterns(alloc, &wants.rules.patterns)?;
+    let quoting = ls_files_options_with_quote_path(&ls_files_options_of_request(wants), quote_path);
+    let prepared = setup_with_listing_options_and_rules(&quoting, rules, setup);
+    list_ignored_index_as_reply(
         alloc,
         worktree,
         root.as_bytes(),
@@ -138,11 +150,11 @@ fn list_found<W: Worktree>(
 /// - `Git`: there is no work tree, or what is read of it is refused, as [`git_setup::setup_here`]
 ///   says.
 /// - `ExcludeFile`: a file of rules that is named is not read.
-/// - `Listing`: there is no such listing, as [`wrong_excluded`] says, or a rules file is not read,
-///   as [`list_excluded`] says.
+/// - `Listing`: there is no such listing, as [`refusal_if_no_rules_or_sparse`] says, or a rules
+///   file is not read, as [`list_ignored_index_entries`] says.
 /// - `Program(Fault)`: the worktree or the owners failed, and counted it.
 /// - `Program(OutOfMemory)` for want of memory.
-pub fn excluded_here<W: Worktree, O: Owners>(
+pub fn answer_ls_files_ignored_index<W: Worktree, O: Owners>(
     alloc: Global,
     worktree: &mut W,
     owners: &mut O,
@@ -150,10 +162,11 @@ pub fn excluded_here<W: Worktree, O: Owners>(
     wants: &FilesAsked,
     asked: &Asked,
 ) -> Result<Reply, HereRefusal>
-    ensures { Checks W.Worktree O.Owners worktree.old worktree.new owners.old owners.new
-        (λ t owned. words.excluded_in t owned here.now.current.now here.now.variables.now
-        here.now.directory.now wants.now asked.now) result }
+    ensures { FindsReplyOverTreeAndOwners W.Worktree O.Owners worktree.old worktree.new owners.old
+        owners.new (λ t owned. words.ignored_index_reply_around_directory t owned
+        here.now.current.now here.now.variables.now here.now.directory.now wants.now asked.now)
+        result }
 {
-    let found = excludable_here(alloc, worktree, owners, here, wants, asked)?;
-    list_found(alloc, worktree, found, wants)
+    let found = find_setup_checked_for_ignored_index(alloc, worktree, owners, here, wants, asked)?;
+    list_ignored_index_of_found(alloc, worktree, found, wants)
 }

@@ -19,7 +19,7 @@ impl<'a> NamesFault for DiskWorktree<'a> {
     ghost first_fault = { λ w. w.first_fault };
 
     fn first_fault(&self) -> &[u8] {
-        DiskWorktree::first_fault(self)
+        DiskWorktree::path_of_first_fault(self)
     }
 }
 

@@ -1,32 +1,33 @@
 //! What `ls-files` lists of the work tree around a directory.
 ghost use Rattle.std.specs.Prelude.{◌≡◌, map, None, IfOk, IfErr};
-ghost use Rattle.ls_files.specs.Wrong.{wrong_in};
+ghost use Rattle.ls_files.specs.Wrong.{first_refusal_of_options_and_index};
 ghost use Rattle.tizhagor.specs.Answers as answers;
-ghost use Rattle.tizhagor.specs.ExcludeFiles.{Decides};
-ghost use Rattle.tizhagor.specs.Finds.{FindsHereWith};
+ghost use Rattle.tizhagor.specs.ExcludeFiles.{IsResultOrOutOfMemory};
+ghost use Rattle.tizhagor.specs.Finds.{FindsHereResultOverTreeAndOwners};
 ghost use Rattle.tizhagor.specs.Listings as words;
 ghost use Rattle.tizhagor.specs.TreeWords as tree;
-ghost use Rattle.tizhagor.specs.Refusals.{IsOfFinding};
+ghost use Rattle.tizhagor.specs.Refusals.{MayComeBeforeSetupIsFound};
 
 use crate::directory::Here;
-use crate::exclude_files::ruled_here;
-use crate::found::found_here;
-use crate::patterns::{is_any, rules_of};
+use crate::exclude_files::read_exclude_files_into_found;
+use crate::found::find_work_tree_around_asked_directory;
+use crate::patterns::{is_nonempty_list, rules_text_of_patterns};
 use crate::refusal::HereRefusal;
-use crate::reply::{Reply, replied};
+use crate::reply::{Reply, reply_result_with_here_refusal};
 use command_line::{FilesAsked, RulesGiven};
 use git_setup::{Asked, AskedSpec, EachSpec, Found};
 use gitbase_core::{Bytes, OutOfMemory};
 use ls_files::{
-    Listed, Listing, NamedSpec, WrongListing, list_files, walk_options, wrong_in, wrong_within,
+    Listed, Listing, NamedSpec, WrongListing, first_refusal_of_options_and_index,
+    list_files_of_worktree, refusal_of_partial_ignored_directories, walk_options_for_listing,
 };
 use std::alloc::Global;
 use worktree_fs::{Interrupt, Owners, Worktree};
 use worktree_report::{CountsFaults, Refusal, Setup};
 
 /// The listing, with whether there are patterns.
-fn with_patterns(listing: &Listing, patterns: bool) -> Listing
-    ensures { result ≡ words.with_patterns listing.now patterns }
+fn ls_files_options_with_pattern_flag(listing: &Listing, patterns: bool) -> Listing
+    ensures { result ≡ words.ls_files_options_with_pattern_flag listing.now patterns }
 {
     let mut listing = *listing;
     listing.patterns = patterns;
@@ -34,25 +35,25 @@ fn with_patterns(listing: &Listing, patterns: bool) -> Listing
 }
 
 /// Whether there are rules of the command line, or files of rules are named.
-fn gives_rules(rules: &RulesGiven) -> bool
-    ensures { result ≡ words.gives_rules rules.now }
+fn has_command_line_rules(rules: &RulesGiven) -> bool
+    ensures { result ≡ words.has_command_line_rules rules.now }
 {
-    if is_any(&rules.patterns) {
+    if is_nonempty_list(&rules.patterns) {
         return true;
     }
-    is_any(&rules.weaker) || is_any(&rules.stronger)
+    is_nonempty_list(&rules.weaker) || is_nonempty_list(&rules.stronger)
 }
 
 /// What is listed. Whether there are patterns is said by these.
-pub fn listing_said(wants: &FilesAsked) -> Listing
-    ensures { result ≡ words.listing_said wants.now }
+pub fn ls_files_options_of_request(wants: &FilesAsked) -> Listing
+    ensures { result ≡ words.ls_files_options_of_request wants.now }
 {
-    with_patterns(&wants.listing, gives_rules(&wants.rules))
+    ls_files_options_with_pattern_flag(&wants.listing, has_command_line_rules(&wants.rules))
 }
 
 /// The work tree around a directory and its setup, with the rules of the files that are named.
-#[tactic(auto, unfolding(crate::specs::Listings::ruled_around))]
-pub fn ruled_around<W: Worktree, O: Owners>(
+#[tactic(auto, unfolding(crate::specs::Listings::found_with_exclude_files_of_request))]
+pub fn find_setup_and_read_exclude_files<W: Worktree, O: Owners>(
     alloc: Global,
     worktree: &mut W,
     owners: &mut O,
@@ -60,52 +61,62 @@ pub fn ruled_around<W: Worktree, O: Owners>(
     wants: &FilesAsked,
     asked: &Asked,
 ) -> Result<Found, HereRefusal>
-    ensures finds { FindsHereWith W.Worktree O.Owners worktree.old worktree.new owners.old
-        owners.new (λ t owned. words.ruled_around t owned here.now.current.now
-        here.now.variables.now here.now.directory.now wants.now asked.now) result }
-    ensures of { IfErr result IsOfFinding }
+    ensures finds { FindsHereResultOverTreeAndOwners W.Worktree O.Owners worktree.old worktree.new
+        owners.old owners.new (λ t owned. words.found_with_exclude_files_of_request t owned
+        here.now.current.now here.now.variables.now here.now.directory.now wants.now asked.now)
+        result }
+    ensures of { IfErr result MayComeBeforeSetupIsFound }
 {
-    let found = found_here(alloc, worktree, owners, here, asked)?;
-    ruled_here(alloc, worktree, wants, found)
+    let found = find_work_tree_around_asked_directory(alloc, worktree, owners, here, asked)?;
+    read_exclude_files_into_found(alloc, worktree, wants, found)
 }
 
 /// Whether the whole work tree is listed.
-fn is_whole(asked: &Asked, found: &Found) -> bool
-    ensures { result ≡ words.is_whole asked.now found.now }
+fn lists_whole_work_tree(asked: &Asked, found: &Found) -> bool
+    ensures { result ≡ words.lists_whole_work_tree asked.now found.now }
 {
-    found.prefix.as_bytes().is_empty() && !is_any(&asked.paths)
+    found.prefix.as_bytes().is_empty() && !is_nonempty_list(&asked.paths)
 }
 
 /// Why there is no such listing of what is found.
-fn why_wrong(wants: &FilesAsked, asked: &Asked, found: &Found) -> Option<WrongListing>
-    ensures is { result ≡ words.why_wrong wants.now asked.now found.now }
-    ensures listable { result ≡ None
-        → wrong_in (words.listing_said wants.now) found.now.setup.index ≡ None }
+fn reason_ls_files_request_is_wrong(
+    wants: &FilesAsked,
+    asked: &Asked,
+    found: &Found,
+) -> Option<WrongListing>
+    ensures is { result ≡ words.reason_ls_files_request_is_wrong wants.now asked.now found.now }
+    ensures listable { result ≡ None → first_refusal_of_options_and_index
+        (words.ls_files_options_of_request wants.now) found.now.setup.index ≡ None }
 {
-    let listing = listing_said(wants);
-    let wrong = wrong_in(&listing, &found.setup.index);
+    let listing = ls_files_options_of_request(wants);
+    let wrong = first_refusal_of_options_and_index(&listing, &found.setup.index);
     if wrong.is_some() {
         return wrong;
     }
-    wrong_within(&listing, is_whole(asked, found))
+    refusal_of_partial_ignored_directories(&listing, lists_whole_work_tree(asked, found))
 }
 
 /// What is found, unless there is no such listing of it.
-#[tactic(auto, unfolding(crate::specs::Listings::unless_wrong))]
-fn unless_wrong(wants: &FilesAsked, asked: &Asked, found: Found) -> Result<Found, HereRefusal>
-    ensures gives { Decides result (words.unless_wrong wants.now asked.now found) }
-    ensures of { IfErr result IsOfFinding }
-    ensures listable { IfOk result
-        (λ here. wrong_in (words.listing_said wants.now) here.setup.index ≡ None) }
+#[tactic(auto, unfolding(crate::specs::Listings::require_valid_ls_files_request))]
+fn require_valid_ls_files_request(
+    wants: &FilesAsked,
+    asked: &Asked,
+    found: Found,
+) -> Result<Found, HereRefusal>
+    ensures gives { IsResultOrOutOfMemory result (words.require_valid_ls_files_request wants.now
+        asked.now found) }
+    ensures of { IfErr result MayComeBeforeSetupIsFound }
+    ensures listable { IfOk result (λ here. first_refusal_of_options_and_index
+        (words.ls_files_options_of_request wants.now) here.setup.index ≡ None) }
 {
-    match why_wrong(wants, asked, &found) {
+    match reason_ls_files_request_is_wrong(wants, asked, &found) {
         Some(wrong) => Err(HereRefusal::Listing(wrong)),
         None => Ok(found),
     }
 }
 
 /// The same of the work tree around a directory.
-fn listable_here<W: Worktree, O: Owners>(
+fn find_setup_checked_for_ls_files<W: Worktree, O: Owners>(
     alloc: Global,
     worktree: &mut W,
     owners: &mut O,
@@ -113,20 +124,21 @@ fn listable_here<W: Worktree, O: Owners>(
     wants: &FilesAsked,
     asked: &Asked,
 ) -> Result<Found, HereRefusal>
-    ensures finds { FindsHereWith W.Worktree O.Owners worktree.old worktree.new owners.old
-        owners.new (λ t owned. words.listable_in t owned here.now.current.now here.now.variables.now
-        here.now.directory.now wants.now asked.now) result }
-    ensures of { IfErr result IsOfFinding }
-    ensures listable { IfOk result
-        (λ here. wrong_in (words.listing_said wants.now) here.setup.index ≡ None) }
+    ensures finds { FindsHereResultOverTreeAndOwners W.Worktree O.Owners worktree.old worktree.new
+        owners.old owners.new (λ t owned. words.found_checked_for_ls_files t owned
+        here.now.current.now here.now.variables.now here.now.directory.now wants.now asked.now)
+        result }
+    ensures of { IfErr result MayComeBeforeSetupIsFound }
+    ensures listable { IfOk result (λ here. first_refusal_of_options_and_index
+        (words.ls_files_options_of_request wants.now) here.setup.index ≡ None) }
 {
-    let found = ruled_around(alloc, worktree, owners, here, wants, asked)?;
-    unless_wrong(wants, asked, found)
+    let found = find_setup_and_read_exclude_files(alloc, worktree, owners, here, wants, asked)?;
+    require_valid_ls_files_request(wants, asked, found)
 }
 
 /// The listing, with what the configuration says of how paths are written.
-pub fn listing_with(listing: &Listing, quote_path: bool) -> Listing
-    ensures { result ≡ words.listing_with listing.now quote_path }
+pub fn ls_files_options_with_quote_path(listing: &Listing, quote_path: bool) -> Listing
+    ensures { result ≡ words.ls_files_options_with_quote_path listing.now quote_path }
 {
     let mut listing = *listing;
     listing.quote_path = quote_path;
@@ -134,18 +146,18 @@ pub fn listing_with(listing: &Listing, quote_path: bool) -> Listing
 }
 
 /// A setup with the options that a listing needs, and with these rules before all others.
-pub fn setup_with(listing: &Listing, rules: Bytes, setup: Setup) -> Setup
-    ensures { result ≡ words.setup_with listing.now rules setup }
+pub fn setup_with_listing_options_and_rules(listing: &Listing, rules: Bytes, setup: Setup) -> Setup
+    ensures { result ≡ words.setup_with_listing_options_and_rules listing.now rules setup }
 {
     let mut setup = setup;
-    setup.options = walk_options(listing, &setup.options);
+    setup.options = walk_options_for_listing(listing, &setup.options);
     setup.overrides = rules;
     setup
 }
 
 /// A path spec, as a listing takes it.
-fn named_of(asked: AskedSpec) -> NamedSpec
-    ensures { result ≡ words.named_of asked }
+fn named_spec_of_asked_spec(asked: AskedSpec) -> NamedSpec
+    ensures { result ≡ words.named_spec_of_asked_spec asked }
 {
     NamedSpec {
         text: asked.text,
@@ -154,27 +166,31 @@ fn named_of(asked: AskedSpec) -> NamedSpec
 }
 
 /// Path specs, as a listing takes them.
-pub fn all_named(alloc: Global, each: EachSpec) -> Result<Vec<NamedSpec>, OutOfMemory>
-    ensures { IfOk result (λ named. named.items ≡ map words.named_of each) }
+pub fn named_specs_of_asked_specs(
+    alloc: Global,
+    each: EachSpec,
+) -> Result<Vec<NamedSpec>, OutOfMemory>
+    ensures { IfOk result (λ named. named.items ≡ map words.named_spec_of_asked_spec each) }
 {
     let mut named = Vec::new(alloc);
     for asked in each.into_vec() {
-        named.push(named_of(asked))?;
+        named.push(named_spec_of_asked_spec(asked))?;
     }
     Ok(named)
 }
 
 /// What is listed of a work tree that is found.
-fn list_in<W: CountsFaults, I: Interrupt>(
+fn list_files_of_found<W: CountsFaults, I: Interrupt>(
     alloc: Global,
     worktree: &mut W,
     interrupt: &mut I,
     found: Found,
     wants: &FilesAsked,
 ) -> Result<Listed, Refusal>
-    requires listable { wrong_in (words.listing_said wants.now) found.setup.index ≡ None }
-    ensures { words.Lists W.Worktree I.Interrupt worktree.old worktree.new interrupt.old
-        interrupt.new wants.now found result }
+    requires listable { first_refusal_of_options_and_index (words.ls_files_options_of_request
+        wants.now) found.setup.index ≡ None }
+    ensures { words.AnswersLsFilesOfFound W.Worktree I.Interrupt worktree.old worktree.new
+        interrupt.old interrupt.new wants.now found result }
 {
     let Found {
         root,
@@ -184,11 +200,11 @@ fn list_in<W: CountsFaults, I: Interrupt>(
         quote_path,
         config: _config,
     } = found;
-    let named = all_named(alloc, each)?;
-    let rules = rules_of(alloc, &wants.rules.patterns)?;
-    let quoting = listing_with(&listing_said(wants), quote_path);
-    let prepared = setup_with(&quoting, rules, setup);
-    list_files(
+    let named = named_specs_of_asked_specs(alloc, each)?;
+    let rules = rules_text_of_patterns(alloc, &wants.rules.patterns)?;
+    let quoting = ls_files_options_with_quote_path(&ls_files_options_of_request(wants), quote_path);
+    let prepared = setup_with_listing_options_and_rules(&quoting, rules, setup);
+    list_files_of_worktree(
         alloc,
         worktree,
         interrupt,
@@ -201,8 +217,8 @@ fn list_in<W: CountsFaults, I: Interrupt>(
 }
 
 /// What is said of a listing.
-fn as_reply(answer: Result<Listed, Refusal>) -> Result<Reply, Refusal>
-    ensures { result ≡ words.as_reply answer }
+fn reply_of_ls_files_answer(answer: Result<Listed, Refusal>) -> Result<Reply, Refusal>
+    ensures { result ≡ words.reply_of_ls_files_answer answer }
 {
     match answer {
         Ok(made) => {
@@ -219,7 +235,7 @@ fn as_reply(answer: Result<Listed, Refusal>) -> Result<Reply, Refusal>
 
 /// What `ls-files` says of the work tree around the directory that is asked for, or why there is
 /// nothing of it.
-pub fn files_here<W: CountsFaults, O: Owners, I: Interrupt>(
+pub fn answer_ls_files<W: CountsFaults, O: Owners, I: Interrupt>(
     alloc: Global,
     worktree: &mut W,
     owners: &mut O,
@@ -228,12 +244,13 @@ pub fn files_here<W: CountsFaults, O: Owners, I: Interrupt>(
     wants: &FilesAsked,
     asked: &Asked,
 ) -> Result<Reply, HereRefusal>
-    ensures { answers.AnswersWord W.Worktree I.Interrupt O.Owners worktree.old worktree.new
-        interrupt.old interrupt.new owners.old owners.new
-        (λ t owned. words.listable_in t owned here.now.current.now here.now.variables.now
-        here.now.directory.now wants.now asked.now) (tree.listing_of wants.now) result }
+    ensures { answers.AnswersWorkTreeCommand W.Worktree I.Interrupt O.Owners worktree.old
+        worktree.new interrupt.old interrupt.new owners.old owners.new
+        (λ t owned. words.found_checked_for_ls_files t owned here.now.current.now
+        here.now.variables.now here.now.directory.now wants.now asked.now)
+        (tree.listing_of wants.now) result }
 {
-    let found = listable_here(alloc, worktree, owners, here, wants, asked)?;
-    let answer = list_in(alloc, worktree, interrupt, found, wants);
-    replied(as_reply(answer))
+    let found = find_setup_checked_for_ls_files(alloc, worktree, owners, here, wants, asked)?;
+    let answer = list_files_of_found(alloc, worktree, interrupt, found, wants);
+    reply_result_with_here_refusal(reply_of_ls_files_answer(answer))
 }

@@ -1,15 +1,15 @@
 //! How the program ends: with a reply, or with a line that says why there is none.
 ghost use Rattle.std.specs.Prelude.{◌≡◌, ◌≤◌, ℕ, List, Ok};
-ghost use Rattle.tizhagor.specs.Ends.{EndsHere, IsSaidOrNone, IsTold};
+ghost use Rattle.tizhagor.specs.Ends.{EndsWithStatusAndStreams, SaysLinesOrNothing, SaysRefusalOrMemoryLine};
 
-use crate::lines::here::{line_at, status_of};
+use crate::lines::here::{line_of_refusal_with_fault_path, status_of};
 use crate::lines::{MEMORY, OUTPUT};
 use crate::refusal::HereRefusal;
-use crate::reply::{Reply, answer_status};
+use crate::reply::{Reply, status_of_yes_or_no};
 use gitbase_core::OutOfMemory;
 use std::alloc::Global;
 use worktree_fs::{Fault, Sink};
-use worktree_report::{say, write_answer};
+use worktree_report::{write_answer, write_line_ignoring_refusal};
 
 /// A sink that takes all and keeps nothing.
 #[derive(Drop)]
@@ -28,21 +28,26 @@ impl Sink for Unheard {
 }
 
 /// Says some lines, if there are any.
-fn say_any<E: Sink>(err: &mut E, lines: &[u8])
-    ensures said { IsSaidOrNone E.Sink err.old err.new lines.now }
+fn say_lines_if_any<E: Sink>(err: &mut E, lines: &[u8])
+    ensures said { SaysLinesOrNothing E.Sink err.old err.new lines.now }
     ensures later { E.refusals err.old ≤ E.refusals err.new }
 {
     match lines {
         [] => {}
-        _ => say(err, lines),
+        _ => write_line_ignoring_refusal(err, lines),
     }
 }
 
 /// Writes a reply, or says that it was refused.
 /// See docs/DECISIONS.md#unheard-line.
-fn deliver<S: Sink, E: Sink>(alloc: Global, reply: Reply, out: &mut S, err: &mut E) -> u8
-    ensures { (first : List ℕ)
-        → EndsHere S.Sink E.Sink out.old out.new err.old err.new first (Ok reply) result }
+fn write_reply_to_streams<S: Sink, E: Sink>(
+    alloc: Global,
+    reply: Reply,
+    out: &mut S,
+    err: &mut E,
+) -> u8
+    ensures { (first : List ℕ) → EndsWithStatusAndStreams S.Sink E.Sink out.old out.new err.old
+        err.new first (Ok reply) result }
 {
     let Reply {
         out: text,
@@ -50,25 +55,25 @@ fn deliver<S: Sink, E: Sink>(alloc: Global, reply: Reply, out: &mut S, err: &mut
         is_no,
     } = reply;
     if write_answer(alloc, b"", Ok(text), out, &mut Unheard) == 0 {
-        say_any(err, lines.as_bytes());
-        return answer_status(is_no);
+        say_lines_if_any(err, lines.as_bytes());
+        return status_of_yes_or_no(is_no);
     }
-    say(err, OUTPUT);
+    write_line_ignoring_refusal(err, OUTPUT);
     128
 }
 
 /// Says why there is no text, and answers the status.
-fn refuse<E: Sink>(alloc: Global, first: &[u8], refusal: &HereRefusal, err: &mut E) -> u8
-    ensures told { IsTold E.Sink err.old err.new first.now refusal.now result }
+fn say_refusal_line<E: Sink>(alloc: Global, first: &[u8], refusal: &HereRefusal, err: &mut E) -> u8
+    ensures told { SaysRefusalOrMemoryLine E.Sink err.old err.new first.now refusal.now result }
     ensures later { E.refusals err.old ≤ E.refusals err.new }
 {
-    match line_at(alloc, first, refusal) {
+    match line_of_refusal_with_fault_path(alloc, first, refusal) {
         Ok(line) => {
-            say(err, line.as_bytes());
+            write_line_ignoring_refusal(err, line.as_bytes());
             status_of(refusal)
         }
         Err(OutOfMemory) => {
-            say(err, MEMORY);
+            write_line_ignoring_refusal(err, MEMORY);
             128
         }
     }
@@ -79,17 +84,18 @@ fn refuse<E: Sink>(alloc: Global, first: &[u8], refusal: &HereRefusal, err: &mut
 /// the status for it. The line of a fault names `first`, the path of the worktree's first fault,
 /// where that has bytes. A refusal of `err` changes no byte of `out`, and no status but to 128, as
 /// want of memory is free.
-pub fn finish_here<S: Sink, E: Sink>(
+pub fn finish_with_answer<S: Sink, E: Sink>(
     alloc: Global,
     answer: Result<Reply, HereRefusal>,
     first: &[u8],
     out: &mut S,
     err: &mut E,
 ) -> u8
-    ensures { EndsHere S.Sink E.Sink out.old out.new err.old err.new first.now answer result }
+    ensures { EndsWithStatusAndStreams S.Sink E.Sink out.old out.new err.old err.new first.now
+        answer result }
 {
     match answer {
-        Ok(reply) => deliver(alloc, reply, out, err),
-        Err(refusal) => refuse(alloc, first, &refusal, err),
+        Ok(reply) => write_reply_to_streams(alloc, reply, out, err),
+        Err(refusal) => say_refusal_line(alloc, first, &refusal, err),
     }
 }

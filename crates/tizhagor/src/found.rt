@@ -1,26 +1,26 @@
 //! The work tree in which a command works, and its setup.
 ghost use Rattle.std.specs.Prelude.{◌≡◌, IfErr};
 ghost use Rattle.gitbase_core.specs.Steps.{and_then};
-ghost use Rattle.git_setup.specs.Found.{found_in};
+ghost use Rattle.git_setup.specs.Found.{find_and_read_setup};
 ghost use Rattle.tizhagor.specs.Asking as words;
-ghost use Rattle.tizhagor.specs.Finds.{FindsHere, FindsHereWith};
-ghost use Rattle.tizhagor.specs.Refusals.{as_git, IsOfFinding};
+ghost use Rattle.tizhagor.specs.Finds.{FindsHereResultOverToldTree, FindsHereResultOverTreeAndOwners};
+ghost use Rattle.tizhagor.specs.Refusals.{git_result_with_here_refusal, MayComeBeforeSetupIsFound};
 
-use crate::call::{Call, options_for};
-use crate::directory::{Here, directory_named};
+use crate::call::{Call, setup_options_for_call};
+use crate::directory::{Here, resolve_named_directory};
 use crate::refusal::HereRefusal;
-use git_places::{Surroundings, Variable, surroundings_of};
-use git_setup::{Asked, Found, GitRefusal, setup_here};
+use git_places::{Surroundings, Variable, surroundings_of_variables};
+use git_setup::{Asked, Found, GitRefusal, find_and_read_setup};
 use gitbase_core::{Bytes, PathText};
 use std::alloc::Global;
 use worktree_fs::{Owners, Worktree};
 use worktree_report::SetupOptions;
 
 /// What is asked, with the options that a call needs.
-pub fn asked_for(call: Call, asked: Asked) -> Asked
-    ensures { result ≡ words.asked_for call asked }
+pub fn request_with_call_options(call: Call, asked: Asked) -> Asked
+    ensures { result ≡ words.request_with_call_options call asked }
 {
-    let options = options_for(call, &asked.options);
+    let options = setup_options_for_call(call, &asked.options);
     Asked {
         options,
         paths: asked.paths,
@@ -30,25 +30,25 @@ pub fn asked_for(call: Call, asked: Asked) -> Asked
 }
 
 /// The directory that `-C` names from the current one, if it names one.
-pub fn directory_in<W: Worktree>(
+pub fn resolve_directory_or_current<W: Worktree>(
     alloc: Global,
     worktree: &mut W,
     current: &[u8],
     directory: &Option<Bytes>,
 ) -> Result<PathText, HereRefusal>
-    ensures finds { FindsHere W.Worktree worktree.old worktree.new
-        (λ t. words.directory_in t current.now directory.now) result }
-    ensures of { IfErr result IsOfFinding }
+    ensures finds { FindsHereResultOverToldTree W.Worktree worktree.old worktree.new
+        (λ t. words.resolve_directory_or_current t current.now directory.now) result }
+    ensures of { IfErr result MayComeBeforeSetupIsFound }
 {
     match directory {
-        Some(name) => directory_named(alloc, worktree, current, name.as_bytes()),
+        Some(name) => resolve_named_directory(alloc, worktree, current, name.as_bytes()),
         None => Ok(PathText::from_bytes(alloc, current)?),
     }
 }
 
 /// An answer of the search for a setup.
-fn as_git(answer: Result<Found, GitRefusal>) -> Result<Found, HereRefusal>
-    ensures { result ≡ as_git answer }
+fn found_result_with_here_refusal(answer: Result<Found, GitRefusal>) -> Result<Found, HereRefusal>
+    ensures { result ≡ git_result_with_here_refusal answer }
 {
     match answer {
         Ok(found) => Ok(found),
@@ -57,23 +57,24 @@ fn as_git(answer: Result<Found, GitRefusal>) -> Result<Found, HereRefusal>
 }
 
 /// The work tree in these surroundings, and its setup.
-fn setup_in<W: Worktree, O: Owners>(
+fn find_setup_in_surroundings<W: Worktree, O: Owners>(
     alloc: Global,
     worktree: &mut W,
     owners: &mut O,
     around: &Surroundings,
     asked: &Asked,
 ) -> Result<Found, HereRefusal>
-    ensures finds { FindsHereWith W.Worktree O.Owners worktree.old worktree.new owners.old
-        owners.new (λ t owned. as_git (found_in t owned around.now asked.now)) result }
-    ensures of { IfErr result IsOfFinding }
+    ensures finds { FindsHereResultOverTreeAndOwners W.Worktree O.Owners worktree.old worktree.new
+        owners.old owners.new (λ t owned. git_result_with_here_refusal (find_and_read_setup t owned
+        around.now asked.now)) result }
+    ensures of { IfErr result MayComeBeforeSetupIsFound }
 {
-    let answer = setup_here(alloc, worktree, owners, around, asked);
-    as_git(answer)
+    let answer = find_and_read_setup(alloc, worktree, owners, around, asked);
+    found_result_with_here_refusal(answer)
 }
 
 /// The work tree around a directory, and its setup.
-fn found_from<W: Worktree, O: Owners>(
+fn find_work_tree_from_directory<W: Worktree, O: Owners>(
     alloc: Global,
     worktree: &mut W,
     owners: &mut O,
@@ -81,29 +82,29 @@ fn found_from<W: Worktree, O: Owners>(
     asked: &Asked,
     directory: &[u8],
 ) -> Result<Found, HereRefusal>
-    ensures finds { FindsHereWith W.Worktree O.Owners worktree.old worktree.new owners.old
-        owners.new (λ t owned. words.found_from t owned variables.now asked.now directory.now)
-        result }
-    ensures of { IfErr result IsOfFinding }
+    ensures finds { FindsHereResultOverTreeAndOwners W.Worktree O.Owners worktree.old worktree.new
+        owners.old owners.new (λ t owned. words.found_from_directory t owned variables.now asked.now
+        directory.now) result }
+    ensures of { IfErr result MayComeBeforeSetupIsFound }
 {
-    let around = surroundings_of(alloc, directory, variables)?;
-    setup_in(alloc, worktree, owners, &around, asked)
+    let around = surroundings_of_variables(alloc, directory, variables)?;
+    find_setup_in_surroundings(alloc, worktree, owners, &around, asked)
 }
 
 /// The current directory, unless `-C` names another one: where the program was called stays, as in
 /// git, and that is told by the directory in which it works.
-fn current_in<W: Worktree>(
+fn require_named_directory_is_current<W: Worktree>(
     alloc: Global,
     worktree: &mut W,
     current: &[u8],
     directory: &Option<Bytes>,
 ) -> Result<PathText, HereRefusal>
-    ensures finds { FindsHere W.Worktree worktree.old worktree.new
-        (λ t. and_then (words.if_current current.now)
-        (words.directory_in t current.now directory.now)) result }
-    ensures of { IfErr result IsOfFinding }
+    ensures finds { FindsHereResultOverToldTree W.Worktree worktree.old worktree.new
+        (λ t. and_then (words.require_current_directory current.now)
+        (words.resolve_directory_or_current t current.now directory.now)) result }
+    ensures of { IfErr result MayComeBeforeSetupIsFound }
 {
-    let place = directory_in(alloc, worktree, current, directory)?;
+    let place = resolve_directory_or_current(alloc, worktree, current, directory)?;
     if place.as_bytes() != current {
         return Err(HereRefusal::Elsewhere);
     }
@@ -115,22 +116,22 @@ fn current_in<W: Worktree>(
 /// # Errors
 ///
 /// - `Elsewhere`: `-C` names another directory.
-/// - Those of [`found_here`] but for `NotAtTop`.
-#[tactic(auto, unfolding(crate::specs::Asking::around_in))]
-pub fn around_here<W: Worktree, O: Owners>(
+/// - Those of [`find_work_tree_around_asked_directory`] but for `NotAtTop`.
+#[tactic(auto, unfolding(crate::specs::Asking::found_around_current_directory))]
+pub fn find_work_tree_around_current<W: Worktree, O: Owners>(
     alloc: Global,
     worktree: &mut W,
     owners: &mut O,
     here: &Here<'_>,
     asked: &Asked,
 ) -> Result<Found, HereRefusal>
-    ensures finds { FindsHereWith W.Worktree O.Owners worktree.old worktree.new owners.old
-        owners.new (λ t owned. words.around_in t owned here.now.current.now here.now.variables.now
-        here.now.directory.now asked.now) result }
-    ensures of { IfErr result IsOfFinding }
+    ensures finds { FindsHereResultOverTreeAndOwners W.Worktree O.Owners worktree.old worktree.new
+        owners.old owners.new (λ t owned. words.found_around_current_directory t owned
+        here.now.current.now here.now.variables.now here.now.directory.now asked.now) result }
+    ensures of { IfErr result MayComeBeforeSetupIsFound }
 {
-    let place = current_in(alloc, worktree, here.current, here.directory)?;
-    found_from(
+    let place = require_named_directory_is_current(alloc, worktree, here.current, here.directory)?;
+    find_work_tree_from_directory(
         alloc,
         worktree,
         owners,
@@ -142,14 +143,14 @@ pub fn around_here<W: Worktree, O: Owners>(
 
 /// Whether what may be deleted is asked for, and the current directory is not the top of the work
 /// tree.
-fn is_away(options: &SetupOptions, current: &[u8], found: &Found) -> bool
-    ensures { result ≡ words.is_away options.now current.now found.now }
+fn deletes_away_from_top(options: &SetupOptions, current: &[u8], found: &Found) -> bool
+    ensures { result ≡ words.deletes_away_from_top options.now current.now found.now }
 {
     options.for_deletion.is_some() && found.root.as_bytes() != current
 }
 
 /// That it is not the top.
-fn not_at_top(found: Found) -> HereRefusal
+fn refusal_not_at_top(found: Found) -> HereRefusal
     ensures { result ≡ HereRefusal.NotAtTop found.root }
 {
     HereRefusal::NotAtTop {
@@ -158,7 +159,7 @@ fn not_at_top(found: Found) -> HereRefusal
 }
 
 /// The same, where what may be deleted is asked for at the top of the work tree alone.
-fn top_from<W: Worktree, O: Owners>(
+fn find_setup_requiring_top_to_delete<W: Worktree, O: Owners>(
     alloc: Global,
     worktree: &mut W,
     owners: &mut O,
@@ -167,14 +168,16 @@ fn top_from<W: Worktree, O: Owners>(
     asked: &Asked,
     directory: &[u8],
 ) -> Result<Found, HereRefusal>
-    ensures finds { FindsHereWith W.Worktree O.Owners worktree.old worktree.new owners.old
-        owners.new (λ t owned. words.top_from t owned current.now variables.now asked.now
-        directory.now) result }
-    ensures of { IfErr result IsOfFinding }
+    ensures finds { FindsHereResultOverTreeAndOwners W.Worktree O.Owners worktree.old worktree.new
+        owners.old owners.new (λ t owned. words.found_requiring_top_to_delete t owned current.now
+        variables.now asked.now directory.now) result }
+    ensures of { IfErr result MayComeBeforeSetupIsFound }
 {
-    let found = found_from(alloc, worktree, owners, variables, asked, directory)?;
-    if is_away(&asked.options, current, &found) {
-        return Err(not_at_top(found));
+    let found = find_work_tree_from_directory(
+        alloc, worktree, owners, variables, asked, directory,
+    )?;
+    if deletes_away_from_top(&asked.options, current, &found) {
+        return Err(refusal_not_at_top(found));
     }
     Ok(found)
 }
@@ -186,26 +189,26 @@ fn top_from<W: Worktree, O: Owners>(
 /// # Errors
 ///
 /// - `Absent`, `NotADirectory`: the directory that `-C` names is none.
-/// - `Git`: no setup is found, as [`setup_here`] says.
+/// - `Git`: no setup is found, as [`find_and_read_setup`] says.
 /// - `NotAtTop`: `asked` is for deletion, and `current` is not the top of the work tree.
 /// - `Program(Fault)`: the worktree failed, or the owners, which they counted. No fault reads as
 ///   "nothing is there".
 /// - `Program(OutOfMemory)` for want of memory.
-#[tactic(auto, unfolding(crate::specs::Asking::here_in))]
-pub fn found_here<W: Worktree, O: Owners>(
+#[tactic(auto, unfolding(crate::specs::Asking::found_around_asked_directory))]
+pub fn find_work_tree_around_asked_directory<W: Worktree, O: Owners>(
     alloc: Global,
     worktree: &mut W,
     owners: &mut O,
     here: &Here<'_>,
     asked: &Asked,
 ) -> Result<Found, HereRefusal>
-    ensures finds { FindsHereWith W.Worktree O.Owners worktree.old worktree.new owners.old
-        owners.new (λ t owned. words.here_in t owned here.now.current.now here.now.variables.now
-        here.now.directory.now asked.now) result }
-    ensures of { IfErr result IsOfFinding }
+    ensures finds { FindsHereResultOverTreeAndOwners W.Worktree O.Owners worktree.old worktree.new
+        owners.old owners.new (λ t owned. words.found_around_asked_directory t owned
+        here.now.current.now here.now.variables.now here.now.directory.now asked.now) result }
+    ensures of { IfErr result MayComeBeforeSetupIsFound }
 {
-    let place = directory_in(alloc, worktree, here.current, here.directory)?;
-    top_from(
+    let place = resolve_directory_or_current(alloc, worktree, here.current, here.directory)?;
+    find_setup_requiring_top_to_delete(
         alloc,
         worktree,
         owners,

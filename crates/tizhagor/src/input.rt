@@ -3,8 +3,8 @@ ghost use Rattle.std.specs.Prelude.{◌≡◌};
 ghost use Rattle.tizhagor.specs.Input as words;
 
 use crate::environment::NotGiven;
-use check_ignore::wrong_in;
-use command_line::{CheckAsked, Command, request_of};
+use check_ignore::first_option_error;
+use command_line::{CheckAsked, Command, parse_request_words};
 use git_setup::Asked;
 use gitbase_core::Bytes;
 use std::alloc::Global;
@@ -14,10 +14,10 @@ use std::io::{self, ErrorKind, Read};
 const LIMIT: u64 = 1_073_741_824;
 
 /// Whether `check-ignore` reads its paths there: with `--stdin`, unless its words are refused.
-fn check_reads(asked: &Asked, wants: &CheckAsked) -> bool
-    ensures { result ≡ words.check_reads asked.now wants.now }
+fn check_ignore_reads_input(asked: &Asked, wants: &CheckAsked) -> bool
+    ensures { result ≡ words.check_ignore_reads_input asked.now wants.now }
 {
-    wants.checking.stdin && wrong_in(&wants.checking, asked.paths.len()).is_none()
+    wants.checking.stdin && first_option_error(&wants.checking, asked.paths.len()).is_none()
 }
 
 /// Whether a command asks for what the standard input holds.
@@ -49,7 +49,7 @@ fn reads(command: &Command) -> bool
             asked: _,
             comparing: _,
         } => false,
-        Command::Check { asked, checking } => check_reads(asked, checking),
+        Command::Check { asked, checking } => check_ignore_reads_input(asked, checking),
         Command::Help(_) => false,
         Command::Version => false,
     }
@@ -57,15 +57,15 @@ fn reads(command: &Command) -> bool
 
 /// Whether words ask for what the standard input holds. Wrong ones do not, nor do those for which
 /// memory is wanting.
-fn reads_input(alloc: Global, words: &[Bytes]) -> bool {
-    match request_of(alloc, words) {
+fn words_ask_for_standard_input(alloc: Global, words: &[Bytes]) -> bool {
+    match parse_request_words(alloc, words) {
         Ok(request) => reads(&request.command),
         Err(_) => false,
     }
 }
 
 /// Why the input is not read.
-fn of_io(error: &io::Error) -> NotGiven {
+fn input_error_of_io_error(error: &io::Error) -> NotGiven {
     if error.kind() == ErrorKind::OutOfMemory && error.raw_os_error().is_none() {
         return NotGiven::OutOfMemory;
     }
@@ -73,10 +73,13 @@ fn of_io(error: &io::Error) -> NotGiven {
 }
 
 /// All bytes of a reader.
-fn all_bytes<R: Read + Drop>(alloc: Global, reader: R) -> Result<Bytes, NotGiven> {
+fn read_bytes_or_refuse_over_limit<R: Read + Drop>(
+    alloc: Global,
+    reader: R,
+) -> Result<Bytes, NotGiven> {
     let mut bytes = Vec::new(alloc);
     if let Err(error) = reader.take(LIMIT + 1).read_to_end(&mut bytes) {
-        return Err(of_io(&error));
+        return Err(input_error_of_io_error(&error));
     }
     if bytes.len() as u64 > LIMIT {
         return Err(NotGiven::LongInput);
@@ -94,9 +97,13 @@ fn all_bytes<R: Read + Drop>(alloc: Global, reader: R) -> Result<Bytes, NotGiven
 /// - `OutOfMemory` for want of memory.
 ///
 /// See docs/DECISIONS.md#check-input-first.
-pub fn input_for(rt: &HostRuntime, alloc: Global, words: &[Bytes]) -> Result<Bytes, NotGiven> {
-    if !reads_input(alloc, words) {
+pub fn read_input_if_words_ask(
+    rt: &HostRuntime,
+    alloc: Global,
+    words: &[Bytes],
+) -> Result<Bytes, NotGiven> {
+    if !words_ask_for_standard_input(alloc, words) {
         return Ok(Bytes::new(alloc));
     }
-    all_bytes(alloc, rt.stdin())
+    read_bytes_or_refuse_over_limit(alloc, rt.stdin())
 }

@@ -32,19 +32,19 @@ mod tests;
 mod texts;
 mod written;
 
-use answer::{Called, answer_here};
+use answer::{Called, answer_words_to_streams};
 use diff_files::DiskStats;
 use environment::{Handed, NotGiven, given};
-use input::input_for;
+use input::read_input_if_words_ask;
 use progress::Progress;
 use std::alloc::Global;
 use std::io::IsTerminal;
 use std::process::ExitCode;
 use worktree_fs::{DiskOwners, DiskWorktree, StdSink};
-use worktree_report::say;
+use worktree_report::write_line_ignoring_refusal;
 
 /// The line of a program that cannot begin.
-fn line_of(refused: NotGiven) -> &'static [u8] {
+fn line_of_startup_refusal(refused: NotGiven) -> &'static [u8] {
     match refused {
         NotGiven::TooLong => b"fatal: a word or a variable is too long\n",
         NotGiven::Directory => b"fatal: Unable to read current working directory\n",
@@ -55,8 +55,8 @@ fn line_of(refused: NotGiven) -> &'static [u8] {
 }
 
 /// Answers the words over the real disk.
-fn answered(rt: &HostRuntime, alloc: Global, given: &Handed) -> Result<u8, NotGiven> {
-    let input = input_for(rt, alloc, &given.words)?;
+fn run_over_real_disk(rt: &HostRuntime, alloc: Global, given: &Handed) -> Result<u8, NotGiven> {
+    let input = read_input_if_words_ask(rt, alloc, &given.words)?;
     let mut worktree = DiskWorktree::new_with_current_dir(rt, false, given.beside.as_str());
     let mut owners = DiskOwners::new(rt);
     let mut stats = DiskStats::new(rt);
@@ -70,7 +70,7 @@ fn answered(rt: &HostRuntime, alloc: Global, given: &Handed) -> Result<u8, NotGi
         takes_colors: rt.stdout().is_terminal(),
         input: input.as_bytes(),
     };
-    let status = answer_here(
+    let status = answer_words_to_streams(
         alloc,
         &called,
         &mut worktree,
@@ -80,14 +80,14 @@ fn answered(rt: &HostRuntime, alloc: Global, given: &Handed) -> Result<u8, NotGi
         &mut out,
         &mut err,
     );
-    progress.wipe();
+    progress.wipe_line_if_shown();
     Ok(status)
 }
 
 /// The status of the program, over what the system hands to it.
 fn status(rt: &HostRuntime, alloc: Global) -> Result<u8, NotGiven> {
     let given = given(rt, alloc)?;
-    answered(rt, alloc, &given)
+    run_over_real_disk(rt, alloc, &given)
 }
 
 fn main(rt: HostRuntime) -> ExitCode {
@@ -95,7 +95,7 @@ fn main(rt: HostRuntime) -> ExitCode {
     match status(&rt, alloc) {
         Ok(status) => ExitCode::from(status),
         Err(refused) => {
-            say(&mut StdSink::err(&rt), line_of(refused));
+            write_line_ignoring_refusal(&mut StdSink::err(&rt), line_of_startup_refusal(refused));
             ExitCode::from(128)
         }
     }

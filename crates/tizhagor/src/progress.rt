@@ -1,7 +1,7 @@
 //! How far a walk is, on a terminal.
 ghost use Rattle.std.specs.Prelude.{◌≡◌, ◌≤◌, false, IfOk};
 ghost use Rattle.std.specs.Bool.{OnTrue, OnFalse};
-ghost use Rattle.worktree_fs.specs.Causes.{Incremented};
+ghost use Rattle.worktree_fs.specs.Causes.{CountIncrementedOrSaturated};
 
 use git_places::Variable;
 use gitbase_core::OutOfMemory;
@@ -56,10 +56,10 @@ impl<'a> Model for Progress<'a> {
 
 /// How long a walk goes on before its progress is shown, as git's variable says it: a number of
 /// seconds.
-fn delay_of(variables: &[Variable]) -> Duration {
+fn progress_delay_of_variables(variables: &[Variable]) -> Duration {
     for variable in variables {
         if variable.name.as_bytes() == b"GIT_PROGRESS_DELAY".as_slice() {
-            if let Some(delay) = seconds_of(variable.value.as_bytes()) {
+            if let Some(delay) = parse_seconds(variable.value.as_bytes()) {
                 return delay;
             }
         }
@@ -68,21 +68,23 @@ fn delay_of(variables: &[Variable]) -> Duration {
 }
 
 /// The number of seconds that a text says. None where it says none.
-fn seconds_of(text: &[u8]) -> Option<Duration> {
+fn parse_seconds(text: &[u8]) -> Option<Duration> {
     let seconds = str::from_utf8(text).ok()?.parse::<u64>().ok()?;
     Some(Duration::from_secs(seconds))
 }
 
 /// When a line is due for the first time. None where it never is.
-fn first_due(rt: &HostRuntime, variables: &[Variable]) -> Option<Instant> {
+fn first_due_time_on_terminal(rt: &HostRuntime, variables: &[Variable]) -> Option<Instant> {
     if !rt.stderr().is_terminal() {
         return None;
     }
-    Instant::now(rt).ok()?.checked_add(delay_of(variables))
+    Instant::now(rt)
+        .ok()?
+        .checked_add(progress_delay_of_variables(variables))
 }
 
 /// Writes to standard error; that it refuses the bytes is no matter.
-fn show(rt: &HostRuntime, text: &[u8]) {
+fn write_to_stderr_ignoring_refusal(rt: &HostRuntime, text: &[u8]) {
     let _ = rt.stderr().write_some(text);
 }
 
@@ -95,25 +97,25 @@ impl Line {
             return;
         };
         match Instant::now(rt) {
-            Ok(now) if now >= due => self.tell(rt, alloc, now, begun),
+            Ok(now) if now >= due => self.show_directory_count(rt, alloc, now, begun),
             _ => {}
         }
     }
 
     /// Shows how many directories were begun.
-    fn tell(&self, rt: &HostRuntime, alloc: Global, now: Instant, begun: u64) {
+    fn show_directory_count(&self, rt: &HostRuntime, alloc: Global, now: Instant, begun: u64) {
         self.due.set(now.checked_add(Duration::from_millis(PAUSE)));
         if let Ok(text) = format!(in alloc; "\rtizhagor: {begun} directories") {
-            show(rt, text.as_bytes());
+            write_to_stderr_ignoring_refusal(rt, text.as_bytes());
             self.is_shown.set(true);
         }
     }
 
     /// Wipes the line where it stands.
-    fn wipe(&self, rt: &HostRuntime) {
+    fn wipe_line_if_shown(&self, rt: &HostRuntime) {
         if self.is_shown.get() {
             self.is_shown.set(false);
-            show(rt, b"\r\x1b[K");
+            write_to_stderr_ignoring_refusal(rt, b"\r\x1b[K");
         }
     }
 }
@@ -133,7 +135,7 @@ impl<'a> Progress<'a> {
     {
         let line = Line {
             begun: Cell::new(0),
-            due: Cell::new(first_due(rt, variables)),
+            due: Cell::new(first_due_time_on_terminal(rt, variables)),
             is_shown: Cell::new(false),
         };
         Ok(Progress {
@@ -175,8 +177,8 @@ impl<'a> Progress<'a> {
     }
 
     /// Wipes the line where it stands: behind a walk of which nothing is written.
-    pub fn wipe(&self) {
-        self.line.wipe(self.rt);
+    pub fn wipe_line_if_shown(&self) {
+        self.line.wipe_line_if_shown(self.rt);
     }
 }
 
@@ -191,9 +193,10 @@ impl<'a> Interrupt for Progress<'a> {
         ensures never { result ≡ false }
         ensures calm { self.new.raised ≡ self.old.raised }
         // What any interrupt says.
-        ensures questions { Incremented self.old.questions self.new.questions }
+        ensures questions { CountIncrementedOrSaturated self.old.questions self.new.questions }
         ensures asked_later { self.old.questions ≤ self.new.questions }
-        ensures cause { OnTrue result (Incremented self.old.raised self.new.raised) }
+        ensures cause { OnTrue result (CountIncrementedOrSaturated self.old.raised
+            self.new.raised) }
         ensures kept { OnFalse result (self.new.raised ≡ self.old.raised) }
         ensures later { self.old.raised ≤ self.new.raised }
     {
@@ -244,7 +247,7 @@ impl<'a> Sink for Wiping<'a> {
     ghost refusals = { λ w. w };
 
     fn write(&mut self, bytes: &[u8]) -> Result<usize, Fault> {
-        self.line.wipe(self.rt);
+        self.line.wipe_line_if_shown(self.rt);
         self.sink.write(bytes)
     }
 }

@@ -71,9 +71,9 @@ impl From<OutOfMemory> for HereRefusal {
 
 impl From<ReadError> for HereRefusal {
     ghost use Rattle.std.specs.Prelude.{◌≡◌};
-    ghost use Rattle.tizhagor.specs.Refusals.{of_read};
+    ghost use Rattle.tizhagor.specs.Refusals.{here_refusal_of_read_error};
 
-    ghost from_gives = { λ refused e. e ≡ of_read refused };
+    ghost from_gives = { λ refused e. e ≡ here_refusal_of_read_error refused };
 
     fn from(refused: ReadError) -> HereRefusal {
         match refused {
@@ -85,9 +85,9 @@ impl From<ReadError> for HereRefusal {
 
 impl From<GitRefusal> for HereRefusal {
     ghost use Rattle.std.specs.Prelude.{◌≡◌};
-    ghost use Rattle.tizhagor.specs.Refusals.{of_git};
+    ghost use Rattle.tizhagor.specs.Refusals.{here_refusal_of_git_refusal};
 
-    ghost from_gives = { λ refused e. e ≡ of_git refused };
+    ghost from_gives = { λ refused e. e ≡ here_refusal_of_git_refusal refused };
 
     fn from(refused: GitRefusal) -> HereRefusal {
         match refused {
@@ -100,9 +100,9 @@ impl From<GitRefusal> for HereRefusal {
 
 impl From<Misuse> for HereRefusal {
     ghost use Rattle.std.specs.Prelude.{◌≡◌};
-    ghost use Rattle.tizhagor.specs.Refusals.{of_misuse};
+    ghost use Rattle.tizhagor.specs.Refusals.{here_refusal_of_misuse};
 
-    ghost from_gives = { λ refused e. e ≡ of_misuse refused };
+    ghost from_gives = { λ refused e. e ≡ here_refusal_of_misuse refused };
 
     fn from(refused: Misuse) -> HereRefusal {
         match refused {
@@ -114,9 +114,9 @@ impl From<Misuse> for HereRefusal {
 
 impl From<DiffError> for HereRefusal {
     ghost use Rattle.std.specs.Prelude.{◌≡◌};
-    ghost use Rattle.tizhagor.specs.Refusals.{of_diff};
+    ghost use Rattle.tizhagor.specs.Refusals.{here_refusal_of_diff_error};
 
-    ghost from_gives = { λ refused e. e ≡ of_diff refused };
+    ghost from_gives = { λ refused e. e ≡ here_refusal_of_diff_error refused };
 
     fn from(refused: DiffError) -> HereRefusal {
         match refused {

@@ -19,8 +19,11 @@ pub struct Reply {
 }
 
 /// A text, or why there is none, as what a command says.
-pub fn plainly(alloc: Global, answer: Result<Bytes, HereRefusal>) -> Result<Reply, HereRefusal>
-    ensures { result ≡ words.plainly answer }
+pub fn plain_reply_or_here_refusal(
+    alloc: Global,
+    answer: Result<Bytes, HereRefusal>,
+) -> Result<Reply, HereRefusal>
+    ensures { result ≡ words.plain_reply_or_here_refusal answer }
 {
     match answer {
         Ok(text) => Ok(Reply {
@@ -33,8 +36,11 @@ pub fn plainly(alloc: Global, answer: Result<Bytes, HereRefusal>) -> Result<Repl
 }
 
 /// The text of a command that is no answer of no, or why there is none, as what a command says.
-pub fn of_text(alloc: Global, answer: Result<Bytes, Refusal>) -> Result<Reply, Refusal>
-    ensures { result ≡ words.of_text answer }
+pub fn plain_reply_or_program_refusal(
+    alloc: Global,
+    answer: Result<Bytes, Refusal>,
+) -> Result<Reply, Refusal>
+    ensures { result ≡ words.plain_reply_or_program_refusal answer }
 {
     match answer {
         Ok(text) => Ok(Reply {
@@ -47,8 +53,8 @@ pub fn of_text(alloc: Global, answer: Result<Bytes, Refusal>) -> Result<Reply, R
 }
 
 /// What one of git's own words says, or why it says nothing.
-pub fn replied(answer: Result<Reply, Refusal>) -> Result<Reply, HereRefusal>
-    ensures { result ≡ words.replied answer }
+pub fn reply_result_with_here_refusal(answer: Result<Reply, Refusal>) -> Result<Reply, HereRefusal>
+    ensures { result ≡ words.reply_result_with_here_refusal answer }
 {
     match answer {
         Ok(reply) => Ok(reply),
@@ -57,8 +63,8 @@ pub fn replied(answer: Result<Reply, Refusal>) -> Result<Reply, HereRefusal>
 }
 
 /// The status of an answer.
-pub fn answer_status(is_no: bool) -> u8
-    ensures { result ≡ words.answer_status is_no }
+pub fn status_of_yes_or_no(is_no: bool) -> u8
+    ensures { result ≡ words.status_of_yes_or_no is_no }
 {
     if is_no { 1 } else { 0 }
 }

@@ -1,6 +1,6 @@
 //! Whether there is such a cleaning.
 ghost use Rattle.std.specs.Prelude.{◌≡◌};
-ghost use Rattle.tizhagor.specs.CleanLines.{clean_text};
+ghost use Rattle.tizhagor.specs.CleanLines.{message_of_wrong_clean};
 ghost use Rattle.tizhagor.specs.Cleanings as words;
 
 use command_line::{CleanAsked, Force};
@@ -37,7 +37,7 @@ pub enum WrongClean {
 impl WrongClean {
     /// What is told of it, behind `fatal: `; of what git refuses too in git's words.
     pub fn text(&self) -> &'static [u8]
-        ensures { result.now ≡ clean_text self.now }
+        ensures { result.now ≡ message_of_wrong_clean self.now }
     {
         match self {
             WrongClean::Unread => b"bad config value for 'clean.requireForce'",
@@ -55,8 +55,8 @@ refusing to clean"
 }
 
 /// What a configuration says of `clean.requireForce`.
-pub fn required_in(config: &File) -> Required
-    ensures { result ≡ words.required_in config.now.sections }
+pub fn read_require_force(config: &File) -> Required
+    ensures { result ≡ words.read_require_force config.now.sections }
 {
     match config.boolean(b"clean", None, b"requireforce") {
         Ok(None) => Required::Unsaid,
@@ -73,27 +73,27 @@ pub fn is_require_force_false(required: Required) -> bool
 }
 
 /// Why git refuses to remove.
-fn unforced(is_dry: bool, force: Force, required: Required) -> Option<WrongClean>
-    ensures { result ≡ words.unforced is_dry force required }
+fn reason_force_is_missing(is_dry: bool, force: Force, required: Required) -> Option<WrongClean>
+    ensures { result ≡ words.reason_force_is_missing is_dry force required }
 {
     match required {
         Required::Unread => Some(WrongClean::Unread),
         Required::Unsaid => {
-            if is_dry | force.is_said(false) {
+            if is_dry | force.is_force_given_counting_config(false) {
                 None
             } else {
                 Some(WrongClean::Unforced)
             }
         }
         Required::Yes => {
-            if is_dry | force.is_said(false) {
+            if is_dry | force.is_force_given_counting_config(false) {
                 None
             } else {
                 Some(WrongClean::UnforcedAsSaid)
             }
         }
         Required::No => {
-            if is_dry | force.is_said(true) {
+            if is_dry | force.is_force_given_counting_config(true) {
                 None
             } else {
                 Some(WrongClean::UnforcedAsSaid)
@@ -103,12 +103,12 @@ fn unforced(is_dry: bool, force: Force, required: Required) -> Option<WrongClean
 }
 
 /// The same by the configuration of a work tree that is found.
-pub fn unforced_here(wants: &CleanAsked, found: &Found) -> Option<WrongClean>
-    ensures { result ≡ words.unforced_here wants.now found.now }
+pub fn reason_force_is_missing_in_found(wants: &CleanAsked, found: &Found) -> Option<WrongClean>
+    ensures { result ≡ words.reason_force_is_missing_in_found wants.now found.now }
 {
-    unforced(
+    reason_force_is_missing(
         wants.cleaning.dry_run,
         wants.force,
-        required_in(&found.config),
+        read_require_force(&found.config),
     )
 }

@@ -1,26 +1,26 @@
 //! What changed in a work tree by the stat fields, in the words of `state`.
 ghost use Rattle.std.specs.Prelude.{◌≡◌, ◌++◌, option_map, IfErr, IfOk, OnOk};
-ghost use Rattle.tizhagor.specs.Compares.{Beside};
+ghost use Rattle.tizhagor.specs.Compares.{FindsOverTreeAndStats};
 ghost use Rattle.tizhagor.specs.Comparing as comparing;
-ghost use Rattle.tizhagor.specs.Refusals.{IsOfFinding};
+ghost use Rattle.tizhagor.specs.Refusals.{MayComeBeforeSetupIsFound};
 ghost use Rattle.tizhagor.specs.StateLines as states;
 
-use crate::compare::comparison_of;
+use crate::compare::comparison_of_request_and_settings;
 use crate::refusal::HereRefusal;
 use crate::reply::Reply;
-use crate::written::{Writing, bytes_of};
-use command_line::{Comparing, Ignoring, default_comparing};
+use crate::written::{Writing, text_formatted_for_output};
+use command_line::{Comparing, Ignoring, default_diff_files_request};
 use diff_files::{Comparison, DiffError, PathChange, Row, Stats, changed_rows};
 use git_setup::Compared;
 use gitbase_core::{Bytes, OutOfMemory};
 use std::alloc::Global;
 use worktree_fs::Worktree;
-use worktree_report::add_escaped;
+use worktree_report::append_path_escaped;
 
 /// The word for how a path changed. The index has an empty file for one that is to be added later,
 /// so what stands there is `modified`.
-fn change_word(change: PathChange) -> Option<&'static [u8]>
-    ensures { option_map (λ word. word.now) result ≡ states.change_word change }
+fn state_word_of_change(change: PathChange) -> Option<&'static [u8]>
+    ensures { option_map (λ word. word.now) result ≡ states.state_word_of_change change }
 {
     match change {
         PathChange::Same => None,
@@ -33,8 +33,8 @@ fn change_word(change: PathChange) -> Option<&'static [u8]>
 }
 
 /// The word for a path that is not merged: nothing else is told of it.
-fn unmerged_word(change: PathChange) -> Option<&'static [u8]>
-    ensures { option_map (λ word. word.now) result ≡ states.unmerged_word change }
+fn state_word_of_unmerged_change(change: PathChange) -> Option<&'static [u8]>
+    ensures { option_map (λ word. word.now) result ≡ states.state_word_of_unmerged_change change }
 {
     match change {
         PathChange::Same => None,
@@ -47,61 +47,61 @@ fn unmerged_word(change: PathChange) -> Option<&'static [u8]>
 }
 
 /// The word of a row, if it is told.
-fn row_word(row: &Row<'_>) -> Option<&'static [u8]>
-    ensures { option_map (λ word. word.now) result ≡ states.row_word row.now }
+fn state_word_of_row(row: &Row<'_>) -> Option<&'static [u8]>
+    ensures { option_map (λ word. word.now) result ≡ states.state_word_of_row row.now }
 {
     if row.entry().stage == 0 {
-        change_word(row.change())
+        state_word_of_change(row.change())
     } else {
-        unmerged_word(row.change())
+        state_word_of_unmerged_change(row.change())
     }
 }
 
 /// Adds the line of a row, if it is told.
-#[tactic(auto, unfolding(crate::specs::StateLines::change_line))]
-fn add_row(text: &mut Vec<u8>, row: &Row<'_>) -> Result<(), OutOfMemory>
-    ensures { OnOk result (text.new.items ≡ text.old.items ++ states.change_line row.now) }
+#[tactic(auto, unfolding(crate::specs::StateLines::state_line_of_row))]
+fn append_state_line_of_row(text: &mut Vec<u8>, row: &Row<'_>) -> Result<(), OutOfMemory>
+    ensures { OnOk result (text.new.items ≡ text.old.items ++ states.state_line_of_row row.now) }
 {
-    let Some(word) = row_word(row) else {
+    let Some(word) = state_word_of_row(row) else {
         return Ok(());
     };
     text.extend_from_slice(word)?;
     text.push(b'\t')?;
-    add_escaped(text, row.entry().path.as_bytes())?;
+    append_path_escaped(text, row.entry().path.as_bytes())?;
     text.push(b'\n')?;
     Ok(())
 }
 
 /// Adds the lines of rows, in their order.
-fn add_rows(text: &mut Vec<u8>, rows: &[Row<'_>]) -> Result<(), OutOfMemory>
-    ensures { OnOk result (text.new.items ≡ text.old.items ++ states.states_text rows.now) }
+fn append_state_lines_of_rows(text: &mut Vec<u8>, rows: &[Row<'_>]) -> Result<(), OutOfMemory>
+    ensures { OnOk result (text.new.items ≡ text.old.items ++ states.state_lines_of_rows rows.now) }
 {
     for row in rows {
-        add_row(text, row)?;
+        append_state_line_of_row(text, row)?;
     }
     Ok(())
 }
 
 /// The lines of rows.
-fn states_text(alloc: Global, rows: &[Row<'_>]) -> Result<Bytes, OutOfMemory>
-    ensures { IfOk result (λ text. text ≡ states.states_text rows.now) }
+fn state_lines_of_rows(alloc: Global, rows: &[Row<'_>]) -> Result<Bytes, OutOfMemory>
+    ensures { IfOk result (λ text. text ≡ states.state_lines_of_rows rows.now) }
 {
     let mut text = Vec::new(alloc);
-    add_rows(&mut text, rows)?;
+    append_state_lines_of_rows(&mut text, rows)?;
     Ok(Bytes::from_vec(text))
 }
 
 /// How `state` compares: submodules are left out.
-fn state_comparing() -> Comparing
-    ensures { result ≡ states.state_comparing }
+fn diff_options_without_submodules() -> Comparing
+    ensures { result ≡ states.diff_options_without_submodules }
 {
-    let mut comparing = default_comparing();
+    let mut comparing = default_diff_files_request();
     comparing.ignoring = Ignoring::All;
     comparing
 }
 
 /// The lines of what changed in a work tree, as they are written.
-fn states_of<W: Worktree, D: Stats>(
+fn make_state_lines_by_stat<W: Worktree, D: Stats>(
     alloc: Global,
     worktree: &mut W,
     stats: &mut D,
@@ -109,8 +109,8 @@ fn states_of<W: Worktree, D: Stats>(
     comparison: &Comparison,
     writing: Writing,
 ) -> Result<Bytes, DiffError>
-    ensures { states.FindsStates W.Worktree D.Stats worktree.old worktree.new stats.old stats.new
-        compared.now.root compared.now.index compared.now.details comparison.now
+    ensures { states.MakesStateLinesByStat W.Worktree D.Stats worktree.old worktree.new stats.old
+        stats.new compared.now.root compared.now.index compared.now.details comparison.now
         compared.now.specs writing result }
 {
     let rows = changed_rows(
@@ -123,13 +123,16 @@ fn states_of<W: Worktree, D: Stats>(
         comparison,
         &compared.specs,
     )?;
-    let text = states_text(alloc, &rows)?;
-    Ok(bytes_of(alloc, writing, text)?)
+    let text = state_lines_of_rows(alloc, &rows)?;
+    Ok(text_formatted_for_output(alloc, writing, text)?)
 }
 
 /// What is said of them.
-fn as_states(alloc: Global, answer: Result<Bytes, DiffError>) -> Result<Reply, HereRefusal>
-    ensures { result ≡ comparing.as_states answer }
+fn reply_of_state_lines(
+    alloc: Global,
+    answer: Result<Bytes, DiffError>,
+) -> Result<Reply, HereRefusal>
+    ensures { result ≡ comparing.reply_of_state_lines answer }
 {
     match answer {
         Ok(text) => Ok(Reply {
@@ -143,7 +146,7 @@ fn as_states(alloc: Global, answer: Result<Bytes, DiffError>) -> Result<Reply, H
 
 /// What changed in a work tree by the stat fields, whose index was last written at a time, in the
 /// words of `state`.
-pub fn state_with<W: Worktree, D: Stats>(
+pub fn state_reply_by_stat<W: Worktree, D: Stats>(
     alloc: Global,
     worktree: &mut W,
     stats: &mut D,
@@ -151,11 +154,16 @@ pub fn state_with<W: Worktree, D: Stats>(
     writing: Writing,
     index_time: u32,
 ) -> Result<Reply, HereRefusal>
-    ensures finds { Beside W.Worktree D.Stats worktree.old worktree.new stats.old stats.new
-        (λ t told. comparing.state_reply t told writing compared.now index_time) result }
-    ensures of { IfErr result IsOfFinding }
+    ensures finds { FindsOverTreeAndStats W.Worktree D.Stats worktree.old worktree.new stats.old
+        stats.new (λ t told. comparing.state_reply_by_stat t told writing compared.now index_time)
+        result }
+    ensures of { IfErr result MayComeBeforeSetupIsFound }
 {
-    let comparison = comparison_of(&state_comparing(), &compared.settings, index_time);
-    let answer = states_of(alloc, worktree, stats, compared, &comparison, writing);
-    as_states(alloc, answer)
+    let comparison = comparison_of_request_and_settings(
+        &diff_options_without_submodules(),
+        &compared.settings,
+        index_time,
+    );
+    let answer = make_state_lines_by_stat(alloc, worktree, stats, compared, &comparison, writing);
+    reply_of_state_lines(alloc, answer)
 }

@@ -2,8 +2,8 @@
 //! texts out. What git has a line for is in git's words, from git version 2.39.5.
 mod rows;
 
-use crate::answer::{Called, answer_here};
-use crate::finish::finish_here;
+use crate::answer::{Called, answer_words_to_streams};
+use crate::finish::finish_with_answer;
 use crate::refusal::HereRefusal;
 use bstr::ByteSlice;
 use diff_files::{MemoryStats, NodeStat, StatNode};
@@ -36,7 +36,7 @@ const BEGIN: &[u8] =
 const OWNED: &[u8] = b"@/proc/self=19;@/=01;@/w=11;@/w/.git=11;@/w/d=11;@/w/n=11;@/w/n/.git=11";
 
 /// A text with a line feed in the place of each `~`.
-fn lines_of(alloc: Global, text: &[u8]) -> Option<Vec<u8>> {
+fn text_with_line_feeds(alloc: Global, text: &[u8]) -> Option<Vec<u8>> {
     let mut copy = text.to_vec(alloc).ok()?;
     for byte in copy.iter_mut() {
         if *byte == b'~' {
@@ -47,12 +47,12 @@ fn lines_of(alloc: Global, text: &[u8]) -> Option<Vec<u8>> {
 }
 
 /// Whether a step was taken; one that tells an owner or stats adds nothing to the tree.
-fn is_taken(alloc: Global, tree: &mut MemoryWorktree, step: &[u8]) -> bool {
+fn try_add_step_to_tree(alloc: Global, tree: &mut MemoryWorktree, step: &[u8]) -> bool {
     if step.starts_with(b"@") || step.starts_with(b"%") {
         return true;
     }
     match step.split_once_str(b"=") {
-        Some((path, text)) => match lines_of(alloc, text) {
+        Some((path, text)) => match text_with_line_feeds(alloc, text) {
             Some(bytes) => tree.add(alloc, path, NewNode::File(&bytes)).is_ok(),
             None => false,
         },
@@ -60,9 +60,9 @@ fn is_taken(alloc: Global, tree: &mut MemoryWorktree, step: &[u8]) -> bool {
     }
 }
 
-fn are_taken(alloc: Global, tree: &mut MemoryWorktree, steps: &[u8]) -> bool {
+fn try_add_all_steps_to_tree(alloc: Global, tree: &mut MemoryWorktree, steps: &[u8]) -> bool {
     for step in steps.split(|byte| *byte == b';') {
-        if !is_taken(alloc, tree, step) {
+        if !try_add_step_to_tree(alloc, tree, step) {
             return false;
         }
     }
@@ -70,20 +70,20 @@ fn are_taken(alloc: Global, tree: &mut MemoryWorktree, steps: &[u8]) -> bool {
 }
 
 /// A tree: what these steps add, and what each tree has where nothing stands yet.
-fn tree_of(alloc: Global, steps: &[u8]) -> Option<MemoryWorktree> {
+fn tree_of_steps(alloc: Global, steps: &[u8]) -> Option<MemoryWorktree> {
     let mut tree = MemoryWorktree::new(alloc, false);
-    if !are_taken(alloc, &mut tree, steps) {
+    if !try_add_all_steps_to_tree(alloc, &mut tree, steps) {
         return None;
     }
     for step in BEGIN.split(|byte| *byte == b';') {
-        let _ = is_taken(alloc, &mut tree, step);
+        let _ = try_add_step_to_tree(alloc, &mut tree, step);
     }
     let _ = tree.add(alloc, b"/w/.git/index", NewNode::File(INDEX));
     Some(tree)
 }
 
 /// A node whose owner a step tells.
-fn node_of(alloc: Global, path: &[u8], said: &[u8]) -> Option<OwnedNode> {
+fn owned_node_of_step(alloc: Global, path: &[u8], said: &[u8]) -> Option<OwnedNode> {
     let [owner, device] = said else {
         return None;
     };
@@ -98,28 +98,28 @@ fn node_of(alloc: Global, path: &[u8], said: &[u8]) -> Option<OwnedNode> {
 }
 
 /// Adds what a step tells of an owner, if it does.
-fn add_node(alloc: Global, nodes: &mut Vec<OwnedNode>, step: &[u8]) -> Option<()> {
+fn push_owned_node_of_step(alloc: Global, nodes: &mut Vec<OwnedNode>, step: &[u8]) -> Option<()> {
     if let Some(told) = step.strip_prefix(b"@".as_slice()) {
         let (path, said) = told.split_once_str(b"=")?;
-        nodes.push(node_of(alloc, path, said)?).ok()?;
+        nodes.push(owned_node_of_step(alloc, path, said)?).ok()?;
     }
     Some(())
 }
 
 /// The owners that these steps tell, and of each tree where they tell none.
-fn owners_of(alloc: Global, steps: &[u8]) -> Option<MemoryOwners> {
+fn owners_of_steps(alloc: Global, steps: &[u8]) -> Option<MemoryOwners> {
     let mut nodes = Vec::new(alloc);
     for step in steps.split(|byte| *byte == b';') {
-        add_node(alloc, &mut nodes, step)?;
+        push_owned_node_of_step(alloc, &mut nodes, step)?;
     }
     for step in OWNED.split(|byte| *byte == b';') {
-        add_node(alloc, &mut nodes, step)?;
+        push_owned_node_of_step(alloc, &mut nodes, step)?;
     }
     Some(MemoryOwners::new(nodes))
 }
 
 /// What is told of a node: its mode by a letter, when it was written, and its size.
-fn stat_of(kind: u8, mtime: u8, size: u8) -> NodeStat {
+fn stat_of_letter_time_size(kind: u8, mtime: u8, size: u8) -> NodeStat {
     let mode = match kind {
         b'f' => 0o100644,
         b'x' => 0o100755,
@@ -137,14 +137,14 @@ fn stat_of(kind: u8, mtime: u8, size: u8) -> NodeStat {
 }
 
 /// Adds what a step tells of a node besides, if it does.
-fn add_stat(alloc: Global, nodes: &mut Vec<StatNode>, step: &[u8]) -> Option<()> {
+fn push_stat_node_of_step(alloc: Global, nodes: &mut Vec<StatNode>, step: &[u8]) -> Option<()> {
     if let Some(told) = step.strip_prefix(b"%".as_slice()) {
         let (path, said) = told.split_once_str(b"=")?;
         let [kind, mtime, size] = said else {
             return None;
         };
         let path = Bytes::from_slice(alloc, path).ok()?;
-        let stat = stat_of(*kind, *mtime, *size);
+        let stat = stat_of_letter_time_size(*kind, *mtime, *size);
         nodes
             .push(StatNode {
                 path,
@@ -157,15 +157,15 @@ fn add_stat(alloc: Global, nodes: &mut Vec<StatNode>, step: &[u8]) -> Option<()>
 }
 
 /// The stats that these steps tell.
-fn stats_of(alloc: Global, steps: &[u8]) -> Option<MemoryStats> {
+fn stats_of_steps(alloc: Global, steps: &[u8]) -> Option<MemoryStats> {
     let mut nodes = Vec::new(alloc);
     for step in steps.split(|byte| *byte == b';') {
-        add_stat(alloc, &mut nodes, step)?;
+        push_stat_node_of_step(alloc, &mut nodes, step)?;
     }
     Some(MemoryStats::new(nodes))
 }
 
-fn words_of(alloc: Global, text: &[u8]) -> Option<Vec<Bytes>> {
+fn split_words_at_spaces(alloc: Global, text: &[u8]) -> Option<Vec<Bytes>> {
     let mut words = Vec::new(alloc);
     for word in text.split(|byte| *byte == b' ') {
         if !word.is_empty() {
@@ -175,7 +175,7 @@ fn words_of(alloc: Global, text: &[u8]) -> Option<Vec<Bytes>> {
     Some(words)
 }
 
-fn variables_of(alloc: Global, text: &[u8]) -> Option<Vec<Variable>> {
+fn variables_of_name_value_text(alloc: Global, text: &[u8]) -> Option<Vec<Variable>> {
     let mut variables = Vec::new(alloc);
     if let Some((name, value)) = text.split_once_str(b"=") {
         let name = Bytes::from_slice(alloc, name).ok()?;
@@ -186,9 +186,9 @@ fn variables_of(alloc: Global, text: &[u8]) -> Option<Vec<Variable>> {
 }
 
 /// What the standard input holds: the value of a variable `INPUT`.
-fn input_of(alloc: Global, text: &[u8]) -> Option<Vec<u8>> {
+fn input_of_variable_text(alloc: Global, text: &[u8]) -> Option<Vec<u8>> {
     match text.strip_prefix(b"INPUT=".as_slice()) {
-        Some(text) => lines_of(alloc, text),
+        Some(text) => text_with_line_feeds(alloc, text),
         None => Some(Vec::new(alloc)),
     }
 }
@@ -203,7 +203,7 @@ struct Answer {
 
 /// The answer where the interrupt is raised from this question on, and `out` refuses from this
 /// write on.
-fn answer_of(
+fn run_answer_in_memory(
     alloc: Global,
     words: &[Bytes],
     current: &[u8],
@@ -225,7 +225,7 @@ fn answer_of(
         takes_colors: false,
         input,
     };
-    let status = answer_here(
+    let status = answer_words_to_streams(
         alloc,
         &called,
         tree,
@@ -240,7 +240,7 @@ fn answer_of(
 
 /// Whether an answer is the one that is wanted: a status in decimal, the output, and a line by its
 /// beginning.
-fn is_wanted(alloc: Global, answer: &Answer, want: &[u8]) -> bool {
+fn is_expected_answer(alloc: Global, answer: &Answer, want: &[u8]) -> bool {
     let (status, rest) = want.split_once_str(b"^").unwrap_or((want, b""));
     let (out, err) = rest.split_once_str(b"^").unwrap_or((rest, b""));
     let wanted = match status {
@@ -250,12 +250,15 @@ fn is_wanted(alloc: Global, answer: &Answer, want: &[u8]) -> bool {
         b"130" => 130,
         _ => 128,
     };
-    match (lines_of(alloc, out), lines_of(alloc, err)) {
+    match (
+        text_with_line_feeds(alloc, out),
+        text_with_line_feeds(alloc, err),
+    ) {
         (Some(out), Some(err)) => {
             answer.status == wanted
-                && answer.out.written() == out.as_slice()
-                && answer.err.written().starts_with(&err)
-                && answer.err.written().is_empty() == err.is_empty()
+                && answer.out.written_bytes() == out.as_slice()
+                && answer.err.written_bytes().starts_with(&err)
+                && answer.err.written_bytes().is_empty() == err.is_empty()
         }
         _ => false,
     }
@@ -271,7 +274,7 @@ struct Row<'a> {
     want: &'a [u8],
 }
 
-fn row_of(row: &[u8]) -> Option<Row<'_>> {
+fn parse_test_row(row: &[u8]) -> Option<Row<'_>> {
     let (words, rest) = row.split_once_str(b"^")?;
     let (current, rest) = rest.split_once_str(b"^")?;
     let (variable, rest) = rest.split_once_str(b"^")?;
@@ -286,19 +289,19 @@ fn row_of(row: &[u8]) -> Option<Row<'_>> {
 }
 
 /// What the words of a row answer in a tree.
-fn said_in(
+fn run_row_in_tree(
     alloc: Global,
     row: Row<'_>,
     tree: &mut MemoryWorktree,
     interrupt: PlannedInterrupt,
     nth: u64,
 ) -> Option<Answer> {
-    let words = words_of(alloc, row.words)?;
-    let variables = variables_of(alloc, row.variable)?;
-    let mut owners = owners_of(alloc, row.steps)?;
-    let mut stats = stats_of(alloc, row.steps)?;
-    let input = input_of(alloc, row.variable)?;
-    answer_of(
+    let words = split_words_at_spaces(alloc, row.words)?;
+    let variables = variables_of_name_value_text(alloc, row.variable)?;
+    let mut owners = owners_of_steps(alloc, row.steps)?;
+    let mut stats = stats_of_steps(alloc, row.steps)?;
+    let input = input_of_variable_text(alloc, row.variable)?;
+    run_answer_in_memory(
         alloc,
         &words,
         row.current,
@@ -312,17 +315,22 @@ fn said_in(
     )
 }
 
-fn holds_for(alloc: Global, row: &[u8], interrupt: PlannedInterrupt, nth: u64) -> Option<bool> {
-    let row = row_of(row)?;
-    let mut tree = tree_of(alloc, row.steps)?;
-    let answer = said_in(alloc, row, &mut tree, interrupt, nth)?;
-    Some(is_wanted(alloc, &answer, row.want))
+fn row_answers_as_expected(
+    alloc: Global,
+    row: &[u8],
+    interrupt: PlannedInterrupt,
+    nth: u64,
+) -> Option<bool> {
+    let row = parse_test_row(row)?;
+    let mut tree = tree_of_steps(alloc, row.steps)?;
+    let answer = run_row_in_tree(alloc, row, &mut tree, interrupt, nth)?;
+    Some(is_expected_answer(alloc, &answer, row.want))
 }
 
 /// The first row that does not hold.
-fn first_lie(alloc: Global) -> Option<&'static [u8]> {
+fn first_failing_row(alloc: Global) -> Option<&'static [u8]> {
     for row in ROWS.split(|byte| *byte == b'|') {
-        if holds_for(alloc, row, PlannedInterrupt::never(), u64::MAX) != Some(true) {
+        if row_answers_as_expected(alloc, row, PlannedInterrupt::never(), u64::MAX) != Some(true) {
             return Some(row);
         }
     }
@@ -331,32 +339,37 @@ fn first_lie(alloc: Global) -> Option<&'static [u8]> {
 
 #[test]
 fn answers_words(rt: HostRuntime) {
-    let lie = first_lie(rt.alloc());
+    let lie = first_failing_row(rt.alloc());
     assert!(rt; lie.is_none(), "{lie:?}");
 }
 
 #[test]
 fn refuses_with_the_output(rt: HostRuntime) {
     let row = b"--version^/^^^128^^fatal: write failure on standard output~";
-    let is = holds_for(rt.alloc(), row, PlannedInterrupt::never(), 1);
+    let is = row_answers_as_expected(rt.alloc(), row, PlannedInterrupt::never(), 1);
     assert!(rt; is == Some(true));
 }
 
 #[test]
 fn stops_with_the_interrupt(rt: HostRuntime) {
     let row = b"report^/w^^^130^^fatal: interrupted~";
-    let is = holds_for(rt.alloc(), row, PlannedInterrupt::raised_from(1), u64::MAX);
+    let is = row_answers_as_expected(
+        rt.alloc(),
+        row,
+        PlannedInterrupt::raised_from_nth_question(1),
+        u64::MAX,
+    );
     assert!(rt; is == Some(true));
 }
 
 /// Whether a refusal ends with 128 and this line where the worktree names a path as that of its
 /// first fault.
-fn is_told(alloc: Global, refusal: Refusal, first: &[u8], line: &[u8]) -> Option<bool> {
+fn refusal_prints_line(alloc: Global, refusal: Refusal, first: &[u8], line: &[u8]) -> Option<bool> {
     let mut out = MemorySink::new(alloc, ROOM).ok()?;
     let mut err = MemorySink::new(alloc, ROOM).ok()?;
     let answer = Err(HereRefusal::Program(refusal));
-    let status = finish_here(alloc, answer, first, &mut out, &mut err);
-    Some(status == 128 && out.written().is_empty() && err.written() == line)
+    let status = finish_with_answer(alloc, answer, first, &mut out, &mut err);
+    Some(status == 128 && out.written_bytes().is_empty() && err.written_bytes() == line)
 }
 
 #[test]
@@ -373,12 +386,12 @@ fn names_the_path_of_a_fault(rt: HostRuntime) {
         ),
     ] {
         assert!(rt;
-            is_told(alloc, Refusal::Fault, first, line) == Some(true),
+            refusal_prints_line(alloc, Refusal::Fault, first, line) == Some(true),
             "{line:?}"
         );
     }
     let memory = b"fatal: out of memory\n";
-    assert!(rt; is_told(alloc, Refusal::OutOfMemory, b"/w/a", memory) == Some(true));
+    assert!(rt; refusal_prints_line(alloc, Refusal::OutOfMemory, b"/w/a", memory) == Some(true));
 }
 
 /// Calls of a worktree that fail one after another, how many of each kind.
@@ -395,13 +408,18 @@ const FAILING_EACH: u64 = 40;
 
 /// The status of words in a tree of which one call fails, how many faults were counted, and whether
 /// the output has anything.
-fn failing(alloc: Global, row: &[u8], call: CallKind, nth: u64) -> Option<(u8, u64, bool)> {
-    let row = row_of(row)?;
-    let mut tree = tree_of(alloc, row.steps)?;
-    tree.plan_fault(alloc, call, nth).ok()?;
+fn run_row_with_failing_call(
+    alloc: Global,
+    row: &[u8],
+    call: CallKind,
+    nth: u64,
+) -> Option<(u8, u64, bool)> {
+    let row = parse_test_row(row)?;
+    let mut tree = tree_of_steps(alloc, row.steps)?;
+    tree.plan_fault_of_nth_call(alloc, call, nth).ok()?;
     let never = PlannedInterrupt::never();
-    let answer = said_in(alloc, row, &mut tree, never, u64::MAX)?;
-    let tells = !answer.out.written().is_empty();
+    let answer = run_row_in_tree(alloc, row, &mut tree, never, u64::MAX)?;
+    let tells = !answer.out.written_bytes().is_empty();
     Some((answer.status, tree.fault_count(), tells))
 }
 
@@ -413,7 +431,12 @@ fn states_by_stat_hide_no_fault(rt: HostRuntime) {
     let mut swallowed = 0;
     for call in FAILING {
         for nth in 1..=FAILING_EACH {
-            let state = failing(alloc, b"state --by-stat^/w^^%/w/a=f\x05\x02^", call, nth);
+            let state = run_row_with_failing_call(
+                alloc,
+                b"state --by-stat^/w^^%/w/a=f\x05\x02^",
+                call,
+                nth,
+            );
             let Some((status, faults, tells)) = state else {
                 assert!(rt; false, "memory");
                 return;
@@ -422,7 +445,12 @@ fn states_by_stat_hide_no_fault(rt: HostRuntime) {
                 (status == 0) == (faults == 0) && tells == (faults == 0),
                 "{call:?} {nth}"
             );
-            if let Some((0, 1, true)) = failing(alloc, b"report^/w^^^", call, nth) {
+            if let Some((0, 1, true)) = run_row_with_failing_call(
+                alloc,
+                b"report^/w^^^",
+                call,
+                nth,
+            ) {
                 swallowed = 1;
             }
         }
@@ -438,14 +466,14 @@ const STAMPED: &[u8] = b"state --by-stat^/w^^/w/.git/index=DIRC\0\0\0\x02\0\0\0\
 \0\0\0\0\0\0\0\0\0\0\0\0\0\0\0\0\0\0\0\0;%/w/a=f\x05\x02;%/w/.git/index=f";
 
 /// How many files are read for it where the index was written at a time.
-fn reads_at(alloc: Global, time: u8) -> Option<u64> {
+fn count_reads_with_index_time(alloc: Global, time: u8) -> Option<u64> {
     let mut row = STAMPED.to_vec(alloc).ok()?;
     row.push(time).ok()?;
     row.extend_from_slice(b"\x68^").ok()?;
-    let row = row_of(&row)?;
-    let mut tree = tree_of(alloc, row.steps)?;
+    let row = parse_test_row(&row)?;
+    let mut tree = tree_of_steps(alloc, row.steps)?;
     let never = PlannedInterrupt::never();
-    let answer = said_in(alloc, row, &mut tree, never, u64::MAX)?;
+    let answer = run_row_in_tree(alloc, row, &mut tree, never, u64::MAX)?;
     if answer.status != 0 {
         return None;
     }
@@ -456,7 +484,10 @@ fn reads_at(alloc: Global, time: u8) -> Option<u64> {
 #[test]
 fn states_by_stat_read_what_stats_do_not_tell(rt: HostRuntime) {
     let alloc = rt.alloc();
-    match (reads_at(alloc, 6), reads_at(alloc, 5)) {
+    match (
+        count_reads_with_index_time(alloc, 6),
+        count_reads_with_index_time(alloc, 5),
+    ) {
         (Some(told), Some(untold)) => {
             assert!(rt; untold == told.saturating_add(1), "{told} {untold}");
         }

@@ -1,28 +1,28 @@
 //! The text of each call, by the root and the setup that were found.
 ghost use Rattle.std.specs.Prelude.{◌≡◌};
 ghost use Rattle.clean_plan.specs.Run as clean;
-ghost use Rattle.clean_plan.specs.Wanted.{as_git_sees};
+ghost use Rattle.clean_plan.specs.Wanted.{keeping_special_and_spec_excluded};
 ghost use Rattle.tizhagor.specs.Answers as answers;
-ghost use Rattle.tizhagor.specs.Asking.{here_in};
-ghost use Rattle.tizhagor.specs.Refusals.{as_program};
-ghost use Rattle.tizhagor.specs.Texts.{TextsBy};
+ghost use Rattle.tizhagor.specs.Asking.{found_around_asked_directory};
+ghost use Rattle.tizhagor.specs.Refusals.{program_result_with_here_refusal};
+ghost use Rattle.tizhagor.specs.Texts.{MakesTextOfCall};
 
 use crate::call::Call;
 use crate::directory::Here;
-use crate::found::found_here;
+use crate::found::find_work_tree_around_asked_directory;
 use crate::refusal::HereRefusal;
-use clean_plan::{Finding, Wanted, What, prepare, text_of_plan};
+use clean_plan::{Finding, Wanted, What, plan_clean_as_text, prepare};
 use git_setup::{Asked, Found};
 use gitbase_core::Bytes;
-use index_status::text_of_status;
-use module_plan::planned_text;
+use index_status::make_status_as_text;
+use module_plan::plan_text_by_setup;
 use std::alloc::Global;
 use worktree_fs::{Interrupt, Owners, Worktree};
-use worktree_report::{CountsFaults, Refusal, Setup, walked_text};
+use worktree_report::{CountsFaults, Refusal, Setup, report_text_or_refusal};
 
 /// The text of a plan, by a setup that is prepared for it: pipes, sockets and devices stay, unless
 /// a directory above them goes as a whole, and what lies in a directory that path specs take out.
-fn plan_text<W: CountsFaults, I: Interrupt>(
+fn make_plan_text<W: CountsFaults, I: Interrupt>(
     alloc: Global,
     worktree: &mut W,
     interrupt: &mut I,
@@ -31,17 +31,18 @@ fn plan_text<W: CountsFaults, I: Interrupt>(
     what: What,
     finding: Finding,
 ) -> Result<Bytes, Refusal>
-    ensures { clean.PlanTexts W.Worktree I.Interrupt (W.precomposes worktree.old) worktree.old
-        worktree.new interrupt.old interrupt.new root.now (clean.made_by finding setup)
-        (as_git_sees what) result }
+    ensures { clean.AnswersPlanTextOrRefusal W.Worktree I.Interrupt (W.precomposes worktree.old)
+        worktree.old worktree.new interrupt.old interrupt.new root.now
+        (clean.setup_prepared_for_plan finding setup) (keeping_special_and_spec_excluded what)
+        result }
 {
     prepare(&mut setup.options, finding);
-    let wanted = Wanted::as_git_sees(what);
-    text_of_plan(alloc, worktree, interrupt, root, &setup, wanted, finding)
+    let wanted = Wanted::keeping_special_and_spec_excluded(what);
+    plan_clean_as_text(alloc, worktree, interrupt, root, &setup, wanted, finding)
 }
 
 /// The text of a call by a root and a setup, of which a plan prepares the options.
-fn text_by<W: CountsFaults, I: Interrupt>(
+fn make_call_text<W: CountsFaults, I: Interrupt>(
     alloc: Global,
     worktree: &mut W,
     interrupt: &mut I,
@@ -49,22 +50,22 @@ fn text_by<W: CountsFaults, I: Interrupt>(
     setup: Setup,
     call: Call,
 ) -> Result<Bytes, Refusal>
-    ensures { TextsBy W.Worktree I.Interrupt worktree.old worktree.new interrupt.old interrupt.new
-        root.now setup result call }
+    ensures { MakesTextOfCall W.Worktree I.Interrupt worktree.old worktree.new interrupt.old
+        interrupt.new root.now setup result call }
 {
     match call {
-        Call::Report => walked_text(alloc, worktree, interrupt, root, setup),
-        Call::Plan { what, finding } => plan_text(
+        Call::Report => report_text_or_refusal(alloc, worktree, interrupt, root, setup),
+        Call::Plan { what, finding } => make_plan_text(
             alloc, worktree, interrupt, root, setup, what, finding,
         ),
-        Call::Modules => planned_text(alloc, worktree, root, &setup),
-        Call::State => text_of_status(alloc, worktree, interrupt, root, &setup),
+        Call::Modules => plan_text_by_setup(alloc, worktree, root, &setup),
+        Call::State => make_status_as_text(alloc, worktree, interrupt, root, &setup),
     }
 }
 
 /// An answer by a setup that was found.
-fn as_program(answer: Result<Bytes, Refusal>) -> Result<Bytes, HereRefusal>
-    ensures { result ≡ as_program answer }
+fn text_result_with_here_refusal(answer: Result<Bytes, Refusal>) -> Result<Bytes, HereRefusal>
+    ensures { result ≡ program_result_with_here_refusal answer }
 {
     match answer {
         Ok(text) => Ok(text),
@@ -74,7 +75,7 @@ fn as_program(answer: Result<Bytes, Refusal>) -> Result<Bytes, HereRefusal>
 
 /// The text of a call in the work tree around the directory that is asked for, or why there is
 /// none.
-pub fn text_here<W: CountsFaults, O: Owners, I: Interrupt>(
+pub fn find_setup_and_make_call_text<W: CountsFaults, O: Owners, I: Interrupt>(
     alloc: Global,
     worktree: &mut W,
     owners: &mut O,
@@ -83,13 +84,13 @@ pub fn text_here<W: CountsFaults, O: Owners, I: Interrupt>(
     call: Call,
     asked: &Asked,
 ) -> Result<Bytes, HereRefusal>
-    ensures { answers.AnswersBy W.Worktree I.Interrupt O.Owners worktree.old worktree.new
+    ensures { answers.AnswersCallText W.Worktree I.Interrupt O.Owners worktree.old worktree.new
         interrupt.old interrupt.new owners.old owners.new
-        (λ t owned. here_in t owned here.now.current.now here.now.variables.now
+        (λ t owned. found_around_asked_directory t owned here.now.current.now here.now.variables.now
         here.now.directory.now asked.now) call result }
 {
-    let found = found_here(alloc, worktree, owners, here, asked)?;
+    let found = find_work_tree_around_asked_directory(alloc, worktree, owners, here, asked)?;
     let Found { root, setup, .. } = found;
-    let answer = text_by(alloc, worktree, interrupt, root.as_bytes(), setup, call);
-    as_program(answer)
+    let answer = make_call_text(alloc, worktree, interrupt, root.as_bytes(), setup, call);
+    text_result_with_here_refusal(answer)
 }

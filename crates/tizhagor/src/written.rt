@@ -1,10 +1,10 @@
 //! How the text of a call is written.
 ghost use Rattle.std.specs.Prelude.{◌≡◌, IfOk};
 ghost use Rattle.tizhagor.specs.Writing as words;
-ghost use Rattle.tizhagor.specs.Written.{IsWrittenAs};
+ghost use Rattle.tizhagor.specs.Written.{IsFormattedOrOutOfMemory};
 
 use crate::refusal::HereRefusal;
-use command_line::{LineEnd, Style, rendered, rendered_paths};
+use command_line::{LineEnd, Style, plan_text_with_line_ends, restyle_report_text};
 use gitbase_core::{Bytes, OutOfMemory};
 use std::alloc::Global;
 
@@ -20,24 +20,28 @@ pub enum Writing {
 }
 
 /// The bytes that are written for a text.
-pub fn bytes_of(alloc: Global, writing: Writing, text: Bytes) -> Result<Bytes, OutOfMemory>
-    ensures { IfOk result (λ bytes. bytes ≡ words.written writing text) }
+pub fn text_formatted_for_output(
+    alloc: Global,
+    writing: Writing,
+    text: Bytes,
+) -> Result<Bytes, OutOfMemory>
+    ensures { IfOk result (λ bytes. bytes ≡ words.text_formatted_for_output writing text) }
 {
     match writing {
-        Writing::Lines(style) => rendered(alloc, style, text.as_bytes()),
-        Writing::Paths(end) => rendered_paths(alloc, end, text.as_bytes()),
+        Writing::Lines(style) => restyle_report_text(alloc, style, text.as_bytes()),
+        Writing::Paths(end) => plan_text_with_line_ends(alloc, end, text.as_bytes()),
         Writing::AsItIs => Ok(text),
     }
 }
 
 /// An answer with its text as it is written.
-pub fn written(
+pub fn result_with_formatted_text(
     alloc: Global,
     writing: Writing,
     answer: Result<Bytes, HereRefusal>,
 ) -> Result<Bytes, HereRefusal>
-    ensures { IsWrittenAs writing answer result }
+    ensures { IsFormattedOrOutOfMemory writing answer result }
 {
     let text = answer?;
-    Ok(bytes_of(alloc, writing, text)?)
+    Ok(text_formatted_for_output(alloc, writing, text)?)
 }

@@ -1,23 +1,23 @@
 -- What a path leads to in a stored tree.
-use Rattle.worktree_fs.specs.Tree.{Look, found, absent, too_many_links, file, link, directory, other}
-use Rattle.worktree_fs.specs.Stored.{names_in, AreSorted}
+use Rattle.worktree_fs.specs.Tree.{LookupResult, found, absent, too_many_links, file, link, directory, other}
+use Rattle.worktree_fs.specs.Stored.{named_nodes_of_entries, AreSortedValidEntries}
 use Rattle.worktree_fs.specs.declared.memory.found.Found.{Found}
 use Rattle.worktree_fs.specs.declared.memory.found.Found.TheVariants as ends
 
 -- the node, or that there is none
-abbrev pub look_of : Found → Look
-look_of (ends.File bytes) = found (file bytes.now)
-look_of (ends.Link target) = found (link target.now)
-look_of (ends.Directory entries) = found (directory (names_in entries.now))
-look_of ends.Other = found other
-look_of ends.Absent = absent
-look_of ends.TooManyLinks = too_many_links
+abbrev pub lookup_of_found : Found → LookupResult
+lookup_of_found (ends.File bytes) = found (file bytes.now)
+lookup_of_found (ends.Link target) = found (link target.now)
+lookup_of_found (ends.Directory entries) = found (directory (named_nodes_of_entries entries.now))
+lookup_of_found ends.Other = found other
+lookup_of_found ends.Absent = absent
+lookup_of_found ends.TooManyLinks = too_many_links
 
 -- the entries of a directory are sorted
-abbrev pub ListsSorted : Found → Type 0
-ListsSorted (ends.File bytes) = Unit {0}
-ListsSorted (ends.Link target) = Unit {0}
-ListsSorted (ends.Directory entries) = AreSorted entries.now
-ListsSorted ends.Other = Unit {0}
-ListsSorted ends.Absent = Unit {0}
-ListsSorted ends.TooManyLinks = Unit {0}
+abbrev pub HasSortedEntriesIfDirectory : Found → Type 0
+HasSortedEntriesIfDirectory (ends.File bytes) = Unit {0}
+HasSortedEntriesIfDirectory (ends.Link target) = Unit {0}
+HasSortedEntriesIfDirectory (ends.Directory entries) = AreSortedValidEntries entries.now
+HasSortedEntriesIfDirectory ends.Other = Unit {0}
+HasSortedEntriesIfDirectory ends.Absent = Unit {0}
+HasSortedEntriesIfDirectory ends.TooManyLinks = Unit {0}

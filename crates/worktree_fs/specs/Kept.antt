@@ -4,7 +4,7 @@ use Rattle.worktree_fs.specs.declared.worktree.Worktree.{Ghosts as WorktreeOf}
 use Rattle.gitbase_core.specs.declared.find.Find.{Ghosts as FindOf}
 
 -- a worktree that was asked for nodes and read, and not listed
-pub record Asks {W : Type 0} (w : WorktreeOf W) (before now : W) : Type 0 where
+pub record KeepsTreeAndListCounts {W : Type 0} (w : WorktreeOf W) (before now : W) : Type 0 where
   pub tree : w.told now ≡ w.told before
   pub faults : w.faults before ≤ w.faults now
   pub list_faults : w.list_faults now ≡ w.list_faults before
@@ -13,7 +13,7 @@ pub record Asks {W : Type 0} (w : WorktreeOf W) (before now : W) : Type 0 where
   pub precomposes : w.precomposes now ≡ w.precomposes before
 
 -- a worktree that was listed too
-pub record Lists {W : Type 0} (w : WorktreeOf W) (before now : W) : Type 0 where
+pub record KeepsTreeWhileCountsMayRise {W : Type 0} (w : WorktreeOf W) (before now : W) : Type 0 where
   pub tree : w.told now ≡ w.told before
   pub faults : w.faults before ≤ w.faults now
   pub list_faults : w.list_faults before ≤ w.list_faults now
@@ -22,6 +22,6 @@ pub record Lists {W : Type 0} (w : WorktreeOf W) (before now : W) : Type 0 where
   pub precomposes : w.precomposes now ≡ w.precomposes before
 
 -- a store that was asked for objects
-pub record AsksStore {F : Type 0} (f : FindOf F) (before now : F) : Type 0 where
+pub record KeepsStoredObjects {F : Type 0} (f : FindOf F) (before now : F) : Type 0 where
   pub holds : f.holds now ≡ f.holds before
   pub faults : f.faults before ≤ f.faults now

@@ -7,7 +7,7 @@ abbrev pub OwnershipByPath : Type 0
 OwnershipByPath = List ℕ → Bool → Option Ownership
 
 -- the count of one that asks the system
-pub record Asked : Type 0 where
+pub record DiskOwnersModel : Type 0 where
   pub faults : ℕ
 
 -- ---- in memory
@@ -19,12 +19,12 @@ pub record OwnedNode : Type 0 where
   pub link : Option Ownership
 
 -- a link is told by itself, unless it is followed
-abbrev pub told_of : Ownership → Option Ownership → Bool → Ownership
-told_of ownership None follow = ownership
-told_of ownership (Some link) true = ownership
-told_of ownership (Some link) false = link
+abbrev pub ownership_followed_or_of_link : Ownership → Option Ownership → Bool → Ownership
+ownership_followed_or_of_link ownership None follow = ownership
+ownership_followed_or_of_link ownership (Some link) true = ownership
+ownership_followed_or_of_link ownership (Some link) false = link
 
 -- what nodes tell: each of the path at which it is listed, and the first of those at one path
-abbrev pub owned_in : List OwnedNode → OwnershipByPath
-owned_in nodes path follow =
-    option_map (λ (node : OwnedNode). told_of node.ownership node.link follow) (find (λ (node : OwnedNode). bytes_eq node.path path) nodes)
+abbrev pub ownership_by_path_of_nodes : List OwnedNode → OwnershipByPath
+ownership_by_path_of_nodes nodes path follow =
+    option_map (λ (node : OwnedNode). ownership_followed_or_of_link node.ownership node.link follow) (find (λ (node : OwnedNode). bytes_eq node.path path) nodes)

@@ -1,13 +1,13 @@
 //! The files of the system as a worktree: the edge of which the counts, the names and the sizes are
 //! proved, and not what it holds.
 ghost use Rattle.std.specs.Prelude.{◌≡◌, ◌≤◌, ◌^◌, ◌&&◌, length, [], None, Ok, IfOk, IsErrOf, MatchResult, true, false, All, IsTrue};
-ghost use Rattle.worktree_fs.specs.Causes.{Increased, next};
-ghost use Rattle.worktree_fs.specs.Disk.{is_fault, is_listing_fault, has_nul, is_unaskable, more_if, counted_call, counted_read, counted_listing, naming, NamesFirst, uncounted, IsGiven};
+ghost use Rattle.worktree_fs.specs.Causes.{CountIncreasedOrSaturated, saturating_increment};
+ghost use Rattle.worktree_fs.specs.Disk.{is_fault, is_listing_fault, has_nul, is_non_utf8_without_nul, increment_if, disk_counts_after_call, disk_counts_after_read, disk_counts_after_listing, with_first_fault_path, KeepsFirstFaultPath, with_counts_reset, IsComposedIfComposing};
 ghost use Rattle.std.specs.List.Sorted.{IsStrictlySortedBy};
-ghost use Rattle.worktree_fs.specs.Changes.{from_directory};
-ghost use Rattle.worktree_fs.specs.Naming.{AreNames};
-ghost use Rattle.worktree_fs.specs.Order.{path_cmp};
-ghost use Rattle.worktree_fs.specs.Answers.{UnlessRead, UnlessFault, OnListFault, UnlessListFault};
+ghost use Rattle.worktree_fs.specs.Changes.{resolve_path_from_directory};
+ghost use Rattle.worktree_fs.specs.Naming.{AreDistinctValidEntryNames};
+ghost use Rattle.worktree_fs.specs.Order.{compare_path_bytes};
+ghost use Rattle.worktree_fs.specs.Answers.{HoldsUnlessFileRead, HoldsUnlessFault, HoldsOnListFault, HoldsUnlessListFault};
 
 mod listed;
 pub(crate) mod node;
@@ -18,7 +18,7 @@ use crate::{
 };
 use gitbase_core::{Bytes, OutOfMemory, PathText};
 use listed::list_directory;
-use node::{kind_at_path, make_dir, read_into, real_path, remove_node};
+use node::{kind_at_path, make_dir, read_file_into, real_path, remove_node};
 use std::alloc::Global;
 use std::marker::Model;
 use std::rt::HostRuntime;
@@ -50,9 +50,9 @@ pub struct DiskWorktree<'a> {
 }
 
 impl<'a> Model for DiskWorktree<'a> {
-    ghost use Rattle.worktree_fs.specs.Disk.{Disk};
+    ghost use Rattle.worktree_fs.specs.Disk.{DiskWorktreeModel};
 
-    ghost Value = { Disk };
+    ghost Value = { DiskWorktreeModel };
 
     ghost view = { λ w. record {
       composes = w.composes;
@@ -128,7 +128,7 @@ impl<'a> DiskWorktree<'a> {
     }
 
     /// The path of the first call that failed, as it was asked for: no bytes where none failed, or where there was no memory for it.
-    pub fn first_fault(&self) -> &[u8]
+    pub fn path_of_first_fault(&self) -> &[u8]
         ensures { result.now ≡ self.now.first_fault }
     {
         self.first_fault.as_bytes()
@@ -136,8 +136,8 @@ impl<'a> DiskWorktree<'a> {
 
     /// Names the path of a call that failed, where it is the first.
     fn keep_first_fault_path(&mut self, path: &[u8])
-        ensures state { self.new ≡ naming self.new.first_fault self.old }
-        ensures named { NamesFirst true path.now self.old self.new.first_fault }
+        ensures state { self.new ≡ with_first_fault_path self.new.first_fault self.old }
+        ensures named { KeepsFirstFaultPath true path.now self.old self.new.first_fault }
     {
         if self.faults == 0 {
             if let Ok(path) = Bytes::from_slice(self.rt.alloc(), path) {
@@ -148,16 +148,17 @@ impl<'a> DiskWorktree<'a> {
 
     /// Counts a call that failed: as a fault, and one that lists as a fault of listings too. The first one is named.
     fn count(&mut self, path: &[u8], has_failed: bool, is_listing: bool)
-        ensures state { self.new ≡ record (counted_call has_failed self.old) {
-          list_faults = more_if (is_listing && has_failed) self.old.list_faults;
+        ensures state { self.new ≡ record (disk_counts_after_call has_failed self.old) {
+          list_faults = increment_if (is_listing && has_failed) self.old.list_faults;
           first_fault = self.new.first_fault;
         } }
-        ensures named { NamesFirst has_failed path.now self.old self.new.first_fault }
+        ensures named { KeepsFirstFaultPath has_failed path.now self.old self.new.first_fault }
         ensures later { self.old.faults ≤ self.new.faults }
         ensures list_later { self.old.list_faults ≤ self.new.list_faults }
-        ensures cause { IsTrue has_failed → Increased self.old.faults self.new.faults }
+        ensures cause { IsTrue has_failed → CountIncreasedOrSaturated self.old.faults
+            self.new.faults }
         ensures list_cause { IsTrue (is_listing && has_failed)
-            → Increased self.old.list_faults self.new.list_faults }
+            → CountIncreasedOrSaturated self.old.list_faults self.new.list_faults }
     {
         if has_failed {
             self.keep_first_fault_path(path);
@@ -190,15 +191,17 @@ impl<'a> Worktree for DiskWorktree<'a> {
 
     /// One call of the system. Never answers `OutOfMemory`.
     fn kind(&mut self, _alloc: Global, path: &[u8]) -> Result<Option<NodeKind>, ReadError>
-        ensures state { self.new
-            ≡ naming self.new.first_fault (counted_call (is_fault result) self.old) }
-        ensures named { NamesFirst (is_fault result) path.now self.old self.new.first_fault }
+        ensures state { self.new ≡ with_first_fault_path self.new.first_fault
+            (disk_counts_after_call (is_fault result) self.old) }
+        ensures named { KeepsFirstFaultPath (is_fault result) path.now self.old
+            self.new.first_fault }
         ensures wants_none { IsErrOf result ReadError.OutOfMemory → ⊥ }
         ensures later { self.old.faults ≤ self.new.faults }
         ensures cause { IsErrOf result ReadError.Fault
-            → Increased self.old.faults self.new.faults }
-        ensures unfaulted { UnlessFault result (self.new.faults ≡ self.old.faults) }
-        ensures unaskable { IsTrue (is_unaskable path.now) → IsErrOf result ReadError.Fault }
+            → CountIncreasedOrSaturated self.old.faults self.new.faults }
+        ensures unfaulted { HoldsUnlessFault result (self.new.faults ≡ self.old.faults) }
+        ensures unaskable { IsTrue (is_non_utf8_without_nul path.now)
+            → IsErrOf result ReadError.Fault }
         ensures nowhere { IsTrue (has_nul path.now) → result ≡ Ok None }
     {
         let found = kind_at_path(self.rt, self.current, path, false);
@@ -208,15 +211,17 @@ impl<'a> Worktree for DiskWorktree<'a> {
 
     /// One call of the system. Never answers `OutOfMemory`.
     fn kind_following(&mut self, _alloc: Global, path: &[u8]) -> Result<Option<NodeKind>, ReadError>
-        ensures state { self.new
-            ≡ naming self.new.first_fault (counted_call (is_fault result) self.old) }
-        ensures named { NamesFirst (is_fault result) path.now self.old self.new.first_fault }
+        ensures state { self.new ≡ with_first_fault_path self.new.first_fault
+            (disk_counts_after_call (is_fault result) self.old) }
+        ensures named { KeepsFirstFaultPath (is_fault result) path.now self.old
+            self.new.first_fault }
         ensures wants_none { IsErrOf result ReadError.OutOfMemory → ⊥ }
         ensures later { self.old.faults ≤ self.new.faults }
         ensures cause { IsErrOf result ReadError.Fault
-            → Increased self.old.faults self.new.faults }
-        ensures unfaulted { UnlessFault result (self.new.faults ≡ self.old.faults) }
-        ensures unaskable { IsTrue (is_unaskable path.now) → IsErrOf result ReadError.Fault }
+            → CountIncreasedOrSaturated self.old.faults self.new.faults }
+        ensures unfaulted { HoldsUnlessFault result (self.new.faults ≡ self.old.faults) }
+        ensures unaskable { IsTrue (is_non_utf8_without_nul path.now)
+            → IsErrOf result ReadError.Fault }
         ensures nowhere { IsTrue (has_nul path.now) → result ≡ Ok None }
     {
         let found = kind_at_path(self.rt, self.current, path, true);
@@ -227,24 +232,25 @@ impl<'a> Worktree for DiskWorktree<'a> {
     /// Sorted by bytes. The directory is opened once; where the system says that it is absent or no
     /// directory its path is looked at once more.
     fn list(&mut self, alloc: Global, path: &[u8], follow: bool) -> Result<NameList, ListError>
-        ensures state { self.new
-            ≡ naming self.new.first_fault (counted_listing (is_listing_fault result) self.old) }
-        ensures named { NamesFirst (is_listing_fault result) path.now self.old
+        ensures state { self.new ≡ with_first_fault_path self.new.first_fault
+            (disk_counts_after_listing (is_listing_fault result) self.old) }
+        ensures named { KeepsFirstFaultPath (is_listing_fault result) path.now self.old
             self.new.first_fault }
-        ensures names { IfOk result AreNames }
-        ensures kept { IfOk result (All (IsGiven self.old.composes)) }
+        ensures names { IfOk result AreDistinctValidEntryNames }
+        ensures kept { IfOk result (All (IsComposedIfComposing self.old.composes)) }
         ensures few { IfOk result (λ names. length names ≤ 1000000) }
-        ensures sorted { IfOk result (IsStrictlySortedBy path_cmp) }
-        ensures cause { OnListFault result (Increased self.old.faults self.new.faults) }
-        ensures unfaulted { UnlessListFault result (self.new.faults ≡ self.old.faults) }
+        ensures sorted { IfOk result (IsStrictlySortedBy compare_path_bytes) }
+        ensures cause { HoldsOnListFault result (CountIncreasedOrSaturated self.old.faults
+            self.new.faults) }
+        ensures unfaulted { HoldsUnlessListFault result (self.new.faults ≡ self.old.faults) }
         ensures faults { self.old.faults ≤ self.new.faults }
-        ensures list_cause { OnListFault result
-            (Increased self.old.list_faults self.new.list_faults) }
+        ensures list_cause { HoldsOnListFault result
+            (CountIncreasedOrSaturated self.old.list_faults self.new.list_faults) }
         ensures list_faults { self.old.list_faults ≤ self.new.list_faults }
-        ensures list_faults_kept { UnlessListFault result
+        ensures list_faults_kept { HoldsUnlessListFault result
             (self.new.list_faults ≡ self.old.list_faults) }
         ensures lists_later { self.old.lists ≤ self.new.lists }
-        ensures unaskable { IsTrue (is_unaskable path.now)
+        ensures unaskable { IsTrue (is_non_utf8_without_nul path.now)
             → IsErrOf result ListError.OpenFault }
         ensures nowhere { IsTrue (has_nul path.now) → IsErrOf result ListError.Absent }
     {
@@ -271,22 +277,24 @@ impl<'a> Worktree for DiskWorktree<'a> {
         follow: bool,
         into: &mut Bytes,
     ) -> Result<ReadAnswer, ReadError>
-        ensures state { self.new
-            ≡ naming self.new.first_fault (counted_read (is_fault result) self.old) }
-        ensures named { NamesFirst (is_fault result) path.now self.old self.new.first_fault }
+        ensures state { self.new ≡ with_first_fault_path self.new.first_fault
+            (disk_counts_after_read (is_fault result) self.old) }
+        ensures named { KeepsFirstFaultPath (is_fault result) path.now self.old
+            self.new.first_fault }
         ensures later { self.old.faults ≤ self.new.faults }
         ensures cause { IsErrOf result ReadError.Fault
-            → Increased self.old.faults self.new.faults }
-        ensures unfaulted { UnlessFault result (self.new.faults ≡ self.old.faults) }
-        ensures unaskable { IsTrue (is_unaskable path.now) → IsErrOf result ReadError.Fault }
+            → CountIncreasedOrSaturated self.old.faults self.new.faults }
+        ensures unfaulted { HoldsUnlessFault result (self.new.faults ≡ self.old.faults) }
+        ensures unaskable { IsTrue (is_non_utf8_without_nul path.now)
+            → IsErrOf result ReadError.Fault }
         ensures nowhere { IsTrue (has_nul path.now) → result ≡ Ok ReadAnswer.Absent }
-        ensures into { UnlessRead result (into.new ≡ into.old) }
+        ensures into { HoldsUnlessFileRead result (into.new ≡ into.old) }
         ensures link { result ≡ Ok ReadAnswer.IsLink → follow ≡ false }
         ensures short { result ≡ Ok ReadAnswer.Read → length into.new ≤ 2 ^ 30 }
         ensures reads_later { self.old.reads ≤ self.new.reads }
     {
         self.reads = self.reads.saturating_add(1);
-        let answer = read_into(self.rt, alloc, self.current, path, follow, into);
+        let answer = read_file_into(self.rt, alloc, self.current, path, follow, into);
         self.count(path, is_fault(&answer), false);
         answer
     }
@@ -298,16 +306,17 @@ impl<'a> Worktree for DiskWorktree<'a> {
         path: &[u8],
         cwd: &[u8],
     ) -> Result<Option<PathText>, ReadError>
-        ensures state { self.new
-            ≡ naming self.new.first_fault (counted_call (is_fault result) self.old) }
-        ensures named { NamesFirst (is_fault result) path.now self.old self.new.first_fault }
+        ensures state { self.new ≡ with_first_fault_path self.new.first_fault
+            (disk_counts_after_call (is_fault result) self.old) }
+        ensures named { KeepsFirstFaultPath (is_fault result) path.now self.old
+            self.new.first_fault }
         ensures later { self.old.faults ≤ self.new.faults }
         ensures cause { IsErrOf result ReadError.Fault
-            → Increased self.old.faults self.new.faults }
-        ensures unfaulted { UnlessFault result (self.new.faults ≡ self.old.faults) }
-        ensures unaskable { IsTrue (is_unaskable (from_directory path.now cwd.now))
-            → IfOk result (λ _. ⊥) }
-        ensures nowhere { IsTrue (has_nul (from_directory path.now cwd.now))
+            → CountIncreasedOrSaturated self.old.faults self.new.faults }
+        ensures unfaulted { HoldsUnlessFault result (self.new.faults ≡ self.old.faults) }
+        ensures unaskable { IsTrue (is_non_utf8_without_nul (resolve_path_from_directory path.now
+            cwd.now)) → IfOk result (λ _. ⊥) }
+        ensures nowhere { IsTrue (has_nul (resolve_path_from_directory path.now cwd.now))
             → MatchResult result (λ real. real ≡ None) (λ error. error ≡ ReadError.OutOfMemory) }
     {
         let real = real_path(self.rt, alloc, path, cwd);
@@ -317,14 +326,16 @@ impl<'a> Worktree for DiskWorktree<'a> {
 
     /// One call of the system.
     fn make_dir(&mut self, alloc: Global, path: &[u8]) -> Result<MakeAnswer, ReadError>
-        ensures state { self.new
-            ≡ naming self.new.first_fault (counted_call (is_fault result) self.old) }
-        ensures named { NamesFirst (is_fault result) path.now self.old self.new.first_fault }
+        ensures state { self.new ≡ with_first_fault_path self.new.first_fault
+            (disk_counts_after_call (is_fault result) self.old) }
+        ensures named { KeepsFirstFaultPath (is_fault result) path.now self.old
+            self.new.first_fault }
         ensures later { self.old.faults ≤ self.new.faults }
         ensures cause { IsErrOf result ReadError.Fault
-            → Increased self.old.faults self.new.faults }
-        ensures unfaulted { UnlessFault result (self.new.faults ≡ self.old.faults) }
-        ensures unaskable { IsTrue (is_unaskable path.now) → IsErrOf result ReadError.Fault }
+            → CountIncreasedOrSaturated self.old.faults self.new.faults }
+        ensures unfaulted { HoldsUnlessFault result (self.new.faults ≡ self.old.faults) }
+        ensures unaskable { IsTrue (is_non_utf8_without_nul path.now)
+            → IsErrOf result ReadError.Fault }
         ensures nowhere { IsTrue (has_nul path.now) → result ≡ Ok MakeAnswer.NoParent }
     {
         let answer = make_dir(self.rt, alloc, self.composes, path);
@@ -334,15 +345,17 @@ impl<'a> Worktree for DiskWorktree<'a> {
 
     /// The node is looked at before it is removed. Never answers `OutOfMemory`.
     fn remove_node(&mut self, _alloc: Global, path: &[u8]) -> Result<RemoveAnswer, ReadError>
-        ensures state { self.new
-            ≡ naming self.new.first_fault (counted_call (is_fault result) self.old) }
-        ensures named { NamesFirst (is_fault result) path.now self.old self.new.first_fault }
+        ensures state { self.new ≡ with_first_fault_path self.new.first_fault
+            (disk_counts_after_call (is_fault result) self.old) }
+        ensures named { KeepsFirstFaultPath (is_fault result) path.now self.old
+            self.new.first_fault }
         ensures wants_none { IsErrOf result ReadError.OutOfMemory → ⊥ }
         ensures later { self.old.faults ≤ self.new.faults }
         ensures cause { IsErrOf result ReadError.Fault
-            → Increased self.old.faults self.new.faults }
-        ensures unfaulted { UnlessFault result (self.new.faults ≡ self.old.faults) }
-        ensures unaskable { IsTrue (is_unaskable path.now) → IsErrOf result ReadError.Fault }
+            → CountIncreasedOrSaturated self.old.faults self.new.faults }
+        ensures unfaulted { HoldsUnlessFault result (self.new.faults ≡ self.old.faults) }
+        ensures unaskable { IsTrue (is_non_utf8_without_nul path.now)
+            → IsErrOf result ReadError.Fault }
         ensures nowhere { IsTrue (has_nul path.now) → result ≡ Ok RemoveAnswer.Absent }
     {
         let answer = remove_node(self.rt, self.current, path);
@@ -352,7 +365,7 @@ impl<'a> Worktree for DiskWorktree<'a> {
 
     /// Never answers `OutOfMemory`.
     fn fork(&self, _alloc: Global) -> Result<DiskWorktree<'a>, OutOfMemory>
-        ensures { result ≡ Ok (uncounted self.now) }
+        ensures { result ≡ Ok (with_counts_reset self.now) }
     {
         Ok(DiskWorktree {
             rt: self.rt,

@@ -1,8 +1,8 @@
 //! Whether a long call is to stop.
 ghost use Rattle.std.specs.Prelude.{◌≡◌, ℕ, ◌≤◌, if◌then◌else◌, Some, None, Ok, IfOk};
 ghost use Rattle.std.specs.Bool.{OnTrue, OnFalse};
-ghost use Rattle.worktree_fs.specs.Causes.{Incremented};
-ghost use Rattle.worktree_fs.specs.Ends.{is_due, next, with_more, asked_again, unasked};
+ghost use Rattle.worktree_fs.specs.Causes.{CountIncrementedOrSaturated};
+ghost use Rattle.worktree_fs.specs.Ends.{is_call_at_or_after_planned, saturating_increment, saturating_sum, interrupt_after_question, interrupt_with_counts_reset};
 
 use gitbase_core::OutOfMemory;
 use std::alloc::Global;
@@ -23,9 +23,10 @@ pub trait Interrupt {
 
     /// Whether to stop now.
     fn is_raised(&mut self) -> bool
-        ensures questions { Incremented (questions self.old) (questions self.new) }
+        ensures questions { CountIncrementedOrSaturated (questions self.old) (questions self.new) }
         ensures asked_later { questions self.old ≤ questions self.new }
-        ensures cause { OnTrue result (Incremented (raised self.old) (raised self.new)) }
+        ensures cause { OnTrue result (CountIncrementedOrSaturated (raised self.old)
+            (raised self.new)) }
         ensures kept { OnFalse result (raised self.new ≡ raised self.old) }
         ensures later { raised self.old ≤ raised self.new };
 
@@ -43,9 +44,10 @@ pub trait Interrupt {
 
     /// Adds the counts of a fork, and lets it go.
     fn absorb(&mut self, other: Self)
-        ensures questions { questions self.new ≡ with_more (questions self.old) (questions other) }
+        ensures questions { questions self.new ≡ saturating_sum (questions self.old)
+            (questions other) }
         ensures asked_later { questions self.old ≤ questions self.new }
-        ensures raised { raised self.new ≡ with_more (raised self.old) (raised other) }
+        ensures raised { raised self.new ≡ saturating_sum (raised self.old) (raised other) }
         ensures later { raised self.old ≤ raised self.new };
 }
 
@@ -60,9 +62,9 @@ pub struct PlannedInterrupt {
 }
 
 impl Model for PlannedInterrupt {
-    ghost use Rattle.worktree_fs.specs.Ends.{InterruptModel};
+    ghost use Rattle.worktree_fs.specs.Ends.{PlannedInterruptModel};
 
-    ghost Value = { InterruptModel };
+    ghost Value = { PlannedInterruptModel };
 
     ghost view = { λ i. record { first = i.first; questions = i.questions; raised = i.raised } };
 }
@@ -80,7 +82,7 @@ impl PlannedInterrupt {
     }
 
     /// One that is raised from the `nth` question on, counted from 1.
-    pub fn raised_from(nth: u64) -> PlannedInterrupt
+    pub fn raised_from_nth_question(nth: u64) -> PlannedInterrupt
         ensures { result ≡ record { first = Some nth; questions = 0; raised = 0 } }
     {
         PlannedInterrupt {
@@ -97,8 +99,9 @@ impl Interrupt for PlannedInterrupt {
     ghost raised = { λ i. i.raised };
 
     fn is_raised(&mut self) -> bool
-        ensures due { result ≡ is_due self.old.first (next self.old.questions) }
-        ensures state { self.new ≡ asked_again self.old }
+        ensures due { result ≡ is_call_at_or_after_planned self.old.first
+            (saturating_increment self.old.questions) }
+        ensures state { self.new ≡ interrupt_after_question self.old }
         ensures asked_later { self.old.questions ≤ self.new.questions }
         ensures later { self.old.raised ≤ self.new.raised }
     {
@@ -115,7 +118,7 @@ impl Interrupt for PlannedInterrupt {
 
     /// Raised from the fork's own question of the same number on.
     fn fork(&self, _alloc: Global) -> Result<PlannedInterrupt, OutOfMemory>
-        ensures { result ≡ Ok (unasked self.now) }
+        ensures { result ≡ Ok (interrupt_with_counts_reset self.now) }
     {
         Ok(PlannedInterrupt {
             first: self.first,
@@ -128,8 +131,8 @@ impl Interrupt for PlannedInterrupt {
         ensures state { self.new
             ≡ record {
               first = self.old.first;
-              questions = with_more self.old.questions other.questions;
-              raised = with_more self.old.raised other.raised;
+              questions = saturating_sum self.old.questions other.questions;
+              raised = saturating_sum self.old.raised other.raised;
             } }
         ensures asked_later { self.old.questions ≤ self.new.questions }
         ensures later { self.old.raised ≤ self.new.raised }
@@ -188,8 +191,8 @@ impl Interrupt for FlagInterrupt {
     fn is_raised(&mut self) -> bool
         ensures state { self.new
             ≡ record {
-              questions = next self.old.questions;
-              raised = if result then next self.old.raised else self.old.raised;
+              questions = saturating_increment self.old.questions;
+              raised = if result then saturating_increment self.old.raised else self.old.raised;
             } }
         ensures asked_later { self.old.questions ≤ self.new.questions }
         ensures later { self.old.raised ≤ self.new.raised }
@@ -216,8 +219,8 @@ impl Interrupt for FlagInterrupt {
     fn absorb(&mut self, other: FlagInterrupt)
         ensures state { self.new
             ≡ record {
-              questions = with_more self.old.questions other.questions;
-              raised = with_more self.old.raised other.raised;
+              questions = saturating_sum self.old.questions other.questions;
+              raised = saturating_sum self.old.raised other.raised;
             } }
         ensures asked_later { self.old.questions ≤ self.new.questions }
         ensures later { self.old.raised ≤ self.new.raised }

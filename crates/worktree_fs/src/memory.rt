@@ -1,17 +1,17 @@
 //! A tree in memory, whose calls can be planned to fail.
 ghost use Rattle.std.specs.Prelude.{◌≡◌, ◌≤◌, ◌↔◌, ◌&&◌, not, true, false, [], Ok, Err, Some, None, All, IfOk, IfErr, OnOk, OnErr, IsErrOf, IsTrue, MatchResult, IfNone, IfSome, ◌++◌, ◌∷◌, if◌then◌else◌};
 ghost use Rattle.std.specs.List.{AllByRecursion, list_all};
-ghost use Rattle.gitbase_core.specs.Path.{components, pieces};
-ghost use Rattle.worktree_fs.specs.Tree.{directory, file, found, look, spot, none};
-ghost use Rattle.worktree_fs.specs.Naming.{IsName, is_name, AreNames};
-ghost use Rattle.worktree_fs.specs.Answers.{kind_of, read_of, UnlessRead, ListRefuses, OnListFault, UnlessListFault};
-ghost use Rattle.worktree_fs.specs.Causes.{Increased};
-ghost use Rattle.worktree_fs.specs.Ends.{next, with_more};
-ghost use Rattle.worktree_fs.specs.Changes.{real_path, make_answer, after_make, remove_answer, after_remove};
-ghost use Rattle.worktree_fs.specs.MadeAndRemoved.{AnswersInside, Removes};
-ghost use Rattle.worktree_fs.specs.Composed.{as_kept, IsKept};
-ghost use Rattle.worktree_fs.specs.Grow.{grown, is_full_path, add_refusal, IsRefusedBy, node_of_new};
-ghost use Rattle.worktree_fs.specs.Memory.{no_calls, count_call_and_check_fault, with_call, listed, told_by, ListsInOrder, AreSortedBy};
+ghost use Rattle.gitbase_core.specs.Path.{components, pieces_between_slashes};
+ghost use Rattle.worktree_fs.specs.Tree.{directory, file, found, look, resolution_of_path, none};
+ghost use Rattle.worktree_fs.specs.Naming.{IsValidEntryName, is_valid_entry_name, AreDistinctValidEntryNames};
+ghost use Rattle.worktree_fs.specs.Answers.{kind_of_lookup, read_answer_of_lookup, HoldsUnlessFileRead, ListErrorFitsLookup, HoldsOnListFault, HoldsUnlessListFault};
+ghost use Rattle.worktree_fs.specs.Causes.{CountIncreasedOrSaturated};
+ghost use Rattle.worktree_fs.specs.Ends.{saturating_increment, saturating_sum};
+ghost use Rattle.worktree_fs.specs.Changes.{real_path, answer_to_make_dir, entries_after_make_dir, answer_to_remove_node, entries_after_remove_node};
+ghost use Rattle.worktree_fs.specs.MadeAndRemoved.{AnswersMakeInExistingParent, NodeRemovedAtPath};
+ghost use Rattle.worktree_fs.specs.Composed.{nfc_if_composing, IsComponentOfComposedText};
+ghost use Rattle.worktree_fs.specs.Grow.{node_with_descendant_added, is_absolute_path_of_valid_names, add_error_at_path, IsAddErrorUnlessOutOfMemory, tree_node_of_new_node};
+ghost use Rattle.worktree_fs.specs.Memory.{zero_call_counts, is_next_call_planned_to_fail, memory_after_call, memory_after_listing, tree_if_valid, ListsDirectoryNamesInOrder, AreSortedForwardOrReversed};
 
 mod found;
 mod grow;
@@ -25,16 +25,16 @@ mod spell;
 mod stored;
 mod trace;
 
-use crate::composed::as_kept;
-use crate::names::{from_directory, is_name};
+use crate::composed::nfc_if_composing;
+use crate::names::{is_valid_entry_name, resolve_path_from_directory};
 use crate::{
     ListError, MakeAnswer, NameList, NodeKind, ReadAnswer, ReadError, RemoveAnswer, Worktree,
 };
 use gitbase_core::{Bytes, OutOfMemory, PathText, is_absolute};
-use grow::stored_of;
+use grow::store_new_node;
 pub use grow::{AddError, NewNode};
 pub use plan::CallKind;
-use plan::{CallCounts, Plan, is_call_planned};
+use plan::{CallCounts, Plan, is_nth_call_planned_to_fail};
 use root::Root;
 use std::alloc::Global;
 use std::marker::Model;
@@ -64,15 +64,15 @@ pub struct MemoryWorktree {
 
 impl Model for MemoryWorktree {
     ghost use Rattle.std.specs.Coded.{codes};
-    ghost use Rattle.worktree_fs.specs.Codes.{coded_names};
-    ghost use Rattle.worktree_fs.specs.Composed.{AreKept};
-    ghost use Rattle.worktree_fs.specs.Memory.{Memory};
+    ghost use Rattle.worktree_fs.specs.Codes.{entries_coding};
+    ghost use Rattle.worktree_fs.specs.Composed.{EntriesHaveComposedNames};
+    ghost use Rattle.worktree_fs.specs.Memory.{MemoryWorktreeModel};
 
-    ghost Value = { Memory };
+    ghost Value = { MemoryWorktreeModel };
 
-    ghost coded = { Prim.hlevel (codes, coded_names) };
+    ghost coded = { Prim.hlevel (codes, entries_coding) };
 
-    ghost invariant = { λ m. AreKept m.composes m.root };
+    ghost invariant = { λ m. EntriesHaveComposedNames m.composes m.root };
 
     ghost view = { λ m. record {
       tree = m.root;
@@ -96,13 +96,13 @@ impl MemoryWorktree {
               composes = composes;
               is_reversed = false;
               plans = [];
-              calls = no_calls;
+              calls = zero_call_counts;
               faults = 0;
               list_faults = 0;
               reads = 0;
               lists = 0;
             } }
-        ensures told { told_by result.tree ≡ Some none }
+        ensures told { tree_if_valid result.tree ≡ Some none }
     {
         MemoryWorktree {
             root: Root::new(alloc),
@@ -131,24 +131,24 @@ impl MemoryWorktree {
     ///
     /// See docs/DECISIONS.md#add-root.
     pub fn add(&mut self, alloc: Global, path: &[u8], node: NewNode<'_>) -> Result<(), AddError>
-        ensures added { OnOk result (directory self.new.tree
-            ≡ grown (components (as_kept self.old.composes path.now)) (node_of_new node.entry)
-            (Some (directory self.old.tree))) }
-        ensures fits { OnOk result (add_refusal self.old.tree
-            (as_kept self.old.composes path.now) ≡ None) }
-        ensures refused { IfErr result (IsRefusedBy (add_refusal self.old.tree
-            (as_kept self.old.composes path.now))) }
+        ensures added { OnOk result (directory self.new.tree ≡ node_with_descendant_added
+            (components (nfc_if_composing self.old.composes path.now))
+            (tree_node_of_new_node node.entry) (Some (directory self.old.tree))) }
+        ensures fits { OnOk result (add_error_at_path self.old.tree
+            (nfc_if_composing self.old.composes path.now) ≡ None) }
+        ensures refused { IfErr result (IsAddErrorUnlessOutOfMemory (add_error_at_path self.old.tree
+            (nfc_if_composing self.old.composes path.now))) }
         ensures unchanged { OnErr result (self.new ≡ self.old) }
         ensures rest { self.new ≡ record self.old { tree = self.new.tree } }
-        ensures told { OnOk result (told_by self.new.tree ≡ Some self.new.tree) }
+        ensures told { OnOk result (tree_if_valid self.new.tree ≡ Some self.new.tree) }
     {
-        let kept = as_kept(alloc, self.composes, path)?;
-        let Some(below) = below_root(kept.as_bytes()) else {
+        let kept = nfc_if_composing(alloc, self.composes, path)?;
+        let Some(below) = path_below_root_if_normal(kept.as_bytes()) else {
             return Err(AddError::NotNormal);
         };
-        let node = stored_of(alloc, node)?;
+        let node = store_new_node(alloc, node)?;
         self.root.add(alloc, below, node)?;
-        self.assert_tree_told();
+        self.assert_tree_is_valid();
         Ok(())
     }
 
@@ -157,7 +157,7 @@ impl MemoryWorktree {
     /// # Errors
     ///
     /// - `OutOfMemory` for want of memory; what was planned stays.
-    pub fn plan_fault(
+    pub fn plan_fault_of_nth_call(
         &mut self,
         _alloc: Global,
         call: CallKind,
@@ -175,7 +175,7 @@ impl MemoryWorktree {
     }
 
     /// Whether names are listed from last to first.
-    pub fn set_reversed(&mut self, on: bool)
+    pub fn set_listing_reversed(&mut self, on: bool)
         ensures { self.new ≡ record self.old { is_reversed = on } }
     {
         self.is_reversed = on;
@@ -184,15 +184,15 @@ impl MemoryWorktree {
     /// How many calls failed. A tree in memory tells all that it holds, whatever failed.
     pub fn fault_count(&self) -> u64
         ensures count { result ≡ self.now.faults }
-        ensures told { told_by self.now.tree ≡ Some self.now.tree }
+        ensures told { tree_if_valid self.now.tree ≡ Some self.now.tree }
     {
-        self.assert_tree_told();
+        self.assert_tree_is_valid();
         self.faults
     }
 
     /// That the tree is told, whatever was done to it.
-    fn assert_tree_told(&self)
-        ensures { told_by self.now.tree ≡ Some self.now.tree }
+    fn assert_tree_is_valid(&self)
+        ensures { tree_if_valid self.now.tree ≡ Some self.now.tree }
     {
         let _entries = self.root.entries();
     }
@@ -210,33 +210,34 @@ impl MemoryWorktree {
         alloc: Global,
         path: &[u8],
     ) -> Result<MakeAnswer, ReadError>
-        ensures fault { IsErrOf result ReadError.Fault ↔ IsTrue (count_call_and_check_fault self.old CallKind.MakeDir) }
-        ensures answer { IfOk result (λ answer. answer
-            ≡ make_answer self.old.composes self.old.tree (spot self.old.tree path.now false)) }
-        ensures made { OnOk result (self.new.tree
-            ≡ after_make self.old.composes self.old.tree (spot self.old.tree path.now false)) }
+        ensures fault { IsErrOf result ReadError.Fault ↔ IsTrue (is_next_call_planned_to_fail
+            self.old CallKind.MakeDir) }
+        ensures answer { IfOk result (λ answer. answer ≡ answer_to_make_dir self.old.composes
+            self.old.tree (resolution_of_path self.old.tree path.now false)) }
+        ensures made { OnOk result (self.new.tree ≡ entries_after_make_dir self.old.composes
+            self.old.tree (resolution_of_path self.old.tree path.now false)) }
         ensures refused { OnErr result (self.new.tree ≡ self.old.tree) }
         ensures rest { self.new
-            ≡ record (with_call self.old CallKind.MakeDir) { tree = self.new.tree } }
+            ≡ record (memory_after_call self.old CallKind.MakeDir) { tree = self.new.tree } }
         ensures later { self.old.faults ≤ self.new.faults }
     {
         if self.count_call_and_check_fault(CallKind::MakeDir) {
             return Err(ReadError::Fault);
         }
-        self.assert_tree_told();
+        self.assert_tree_is_valid();
         Ok(self.root.make_dir(alloc, self.composes, path)?)
     }
 
     /// Removes a node, unless that is planned to fail.
-    fn remove_unless_planned_fault(&mut self, path: &[u8]) -> Result<RemoveAnswer, ReadError>
-        ensures answer { result
-            ≡ (if count_call_and_check_fault self.old CallKind.RemoveNode then Err ReadError.Fault else Ok
-            (remove_answer (spot self.old.tree path.now false))) }
-        ensures tree { self.new.tree
-            ≡ (if count_call_and_check_fault self.old CallKind.RemoveNode then self.old.tree
-            else after_remove self.old.tree (spot self.old.tree path.now false)) }
+    fn remove_node_unless_planned_fault(&mut self, path: &[u8]) -> Result<RemoveAnswer, ReadError>
+        ensures answer { result ≡ (if is_next_call_planned_to_fail self.old CallKind.RemoveNode then
+            Err ReadError.Fault else Ok (answer_to_remove_node (resolution_of_path self.old.tree
+            path.now false))) }
+        ensures tree { self.new.tree ≡ (if is_next_call_planned_to_fail self.old CallKind.RemoveNode
+            then self.old.tree else entries_after_remove_node self.old.tree
+            (resolution_of_path self.old.tree path.now false)) }
         ensures rest { self.new
-            ≡ record (with_call self.old CallKind.RemoveNode) { tree = self.new.tree } }
+            ≡ record (memory_after_call self.old CallKind.RemoveNode) { tree = self.new.tree } }
         ensures later { self.old.faults ≤ self.new.faults }
     {
         if self.count_call_and_check_fault(CallKind::RemoveNode) {
@@ -247,12 +248,12 @@ impl MemoryWorktree {
 
     /// Counts a call, and whether it is planned to fail, which is counted too.
     fn count_call_and_check_fault(&mut self, call: CallKind) -> bool
-        ensures planned { result ≡ count_call_and_check_fault self.old call }
-        ensures state { self.new ≡ with_call self.old call }
+        ensures planned { result ≡ is_next_call_planned_to_fail self.old call }
+        ensures state { self.new ≡ memory_after_call self.old call }
         ensures later { self.old.faults ≤ self.new.faults }
     {
         let nth = self.calls.count(call);
-        let fails = is_call_planned(&self.plans, call, nth);
+        let fails = is_nth_call_planned_to_fail(&self.plans, call, nth);
         if fails {
             self.faults = self.faults.saturating_add(1);
         }
@@ -261,7 +262,7 @@ impl MemoryWorktree {
 }
 
 impl Worktree for MemoryWorktree {
-    ghost told = { λ w. told_by w.tree };
+    ghost told = { λ w. tree_if_valid w.tree };
 
     ghost faults = { λ w. w.faults };
 
@@ -273,9 +274,9 @@ impl Worktree for MemoryWorktree {
 
     ghost precomposes = { λ w. w.composes };
 
-    ghost use Rattle.worktree_fs.specs.Told.{told_tree};
+    ghost use Rattle.worktree_fs.specs.Told.{told_tree_is_valid};
 
-    ghost is_tree = { λ w t e. told_tree w.tree t e };
+    ghost is_tree = { λ w t e. told_tree_is_valid w.tree t e };
 
     fn precomposes(&self) -> bool {
         self.composes
@@ -283,10 +284,9 @@ impl Worktree for MemoryWorktree {
 
     /// Never answers `OutOfMemory`.
     fn kind(&mut self, _alloc: Global, path: &[u8]) -> Result<Option<NodeKind>, ReadError>
-        ensures answer { result
-            ≡ (if count_call_and_check_fault self.old CallKind.Kind then Err ReadError.Fault else Ok (kind_of
-            (look self.old.tree path.now false))) }
-        ensures state { self.new ≡ with_call self.old CallKind.Kind }
+        ensures answer { result ≡ (if is_next_call_planned_to_fail self.old CallKind.Kind then Err
+            ReadError.Fault else Ok (kind_of_lookup (look self.old.tree path.now false))) }
+        ensures state { self.new ≡ memory_after_call self.old CallKind.Kind }
         ensures later { self.old.faults ≤ self.new.faults }
     {
         if self.count_call_and_check_fault(CallKind::Kind) {
@@ -297,10 +297,9 @@ impl Worktree for MemoryWorktree {
 
     /// Never answers `OutOfMemory`.
     fn kind_following(&mut self, _alloc: Global, path: &[u8]) -> Result<Option<NodeKind>, ReadError>
-        ensures answer { result
-            ≡ (if count_call_and_check_fault self.old CallKind.KindFollowing then Err ReadError.Fault else Ok (kind_of
-            (look self.old.tree path.now true))) }
-        ensures state { self.new ≡ with_call self.old CallKind.KindFollowing }
+        ensures answer { result ≡ (if is_next_call_planned_to_fail self.old CallKind.KindFollowing
+            then Err ReadError.Fault else Ok (kind_of_lookup (look self.old.tree path.now true))) }
+        ensures state { self.new ≡ memory_after_call self.old CallKind.KindFollowing }
         ensures later { self.old.faults ≤ self.new.faults }
     {
         if self.count_call_and_check_fault(CallKind::KindFollowing) {
@@ -313,23 +312,25 @@ impl Worktree for MemoryWorktree {
     /// `make_dir` put each name before the first greater one.
     fn list(&mut self, alloc: Global, path: &[u8], follow: bool) -> Result<NameList, ListError>
         ensures opened { IsErrOf result ListError.OpenFault ↔ IsTrue
-            (count_call_and_check_fault self.old CallKind.ListOpen) }
-        ensures read { IsErrOf result ListError.EntryFault ↔ IsTrue (not
-            (count_call_and_check_fault self.old CallKind.ListOpen) && count_call_and_check_fault self.old CallKind.ListEntry) }
-        ensures answer { MatchResult result (ListsInOrder self.old.is_reversed
-            (look self.old.tree path.now follow)) (ListRefuses
+            (is_next_call_planned_to_fail self.old CallKind.ListOpen) }
+        ensures read { IsErrOf result ListError.EntryFault ↔ IsTrue
+            (not (is_next_call_planned_to_fail self.old CallKind.ListOpen) &&
+            is_next_call_planned_to_fail self.old CallKind.ListEntry) }
+        ensures answer { MatchResult result (ListsDirectoryNamesInOrder self.old.is_reversed
+            (look self.old.tree path.now follow)) (ListErrorFitsLookup
             (look self.old.tree path.now follow)) }
-        ensures state { self.new ≡ listed self.old }
-        ensures names { IfOk result AreNames }
-        ensures kept { IfOk result (All (IsKept self.old.composes)) }
-        ensures sorted { IfOk result (AreSortedBy self.old.is_reversed) }
-        ensures cause { OnListFault result (Increased self.old.faults self.new.faults) }
-        ensures unfaulted { UnlessListFault result (self.new.faults ≡ self.old.faults) }
+        ensures state { self.new ≡ memory_after_listing self.old }
+        ensures names { IfOk result AreDistinctValidEntryNames }
+        ensures kept { IfOk result (All (IsComponentOfComposedText self.old.composes)) }
+        ensures sorted { IfOk result (AreSortedForwardOrReversed self.old.is_reversed) }
+        ensures cause { HoldsOnListFault result (CountIncreasedOrSaturated self.old.faults
+            self.new.faults) }
+        ensures unfaulted { HoldsUnlessListFault result (self.new.faults ≡ self.old.faults) }
         ensures faults { self.old.faults ≤ self.new.faults }
-        ensures list_cause { OnListFault result
-            (Increased self.old.list_faults self.new.list_faults) }
+        ensures list_cause { HoldsOnListFault result
+            (CountIncreasedOrSaturated self.old.list_faults self.new.list_faults) }
         ensures list_faults { self.old.list_faults ≤ self.new.list_faults }
-        ensures list_faults_kept { UnlessListFault result (self.new.list_faults
+        ensures list_faults_kept { HoldsUnlessListFault result (self.new.list_faults
             ≡ self.old.list_faults) }
         ensures lists_later { self.old.lists ≤ self.new.lists }
     {
@@ -352,15 +353,18 @@ impl Worktree for MemoryWorktree {
         follow: bool,
         into: &mut Bytes,
     ) -> Result<ReadAnswer, ReadError>
-        ensures fault { IsErrOf result ReadError.Fault ↔ IsTrue (count_call_and_check_fault self.old CallKind.Read) }
+        ensures fault { IsErrOf result ReadError.Fault ↔ IsTrue (is_next_call_planned_to_fail
+            self.old CallKind.Read) }
         ensures answer { IfOk result (λ answer. answer
-            ≡ read_of (look self.old.tree path.now follow)) }
+            ≡ read_answer_of_lookup (look self.old.tree path.now follow)) }
         ensures bytes { result ≡ Ok ReadAnswer.Read → look self.old.tree path.now follow
             ≡ found (file into.new) }
-        ensures into { UnlessRead result (into.new ≡ into.old) }
+        ensures into { HoldsUnlessFileRead result (into.new ≡ into.old) }
         ensures link { result ≡ Ok ReadAnswer.IsLink → follow ≡ false }
-        ensures state { self.new
-            ≡ with_call (record self.old { reads = next self.old.reads }) CallKind.Read }
+        ensures state { self.new ≡ memory_after_call (record self.old {
+          reads = saturating_increment
+              self.old.reads;
+        }) CallKind.Read }
         ensures later { self.old.faults ≤ self.new.faults }
         ensures reads_later { self.old.reads ≤ self.new.reads }
     {
@@ -377,57 +381,60 @@ impl Worktree for MemoryWorktree {
         path: &[u8],
         cwd: &[u8],
     ) -> Result<Option<PathText>, ReadError>
-        ensures fault { IsErrOf result ReadError.Fault ↔ IsTrue (count_call_and_check_fault self.old CallKind.RealPath) }
+        ensures fault { IsErrOf result ReadError.Fault ↔ IsTrue (is_next_call_planned_to_fail
+            self.old CallKind.RealPath) }
         ensures answer { IfOk result (λ real. real ≡ real_path self.old.tree path.now cwd.now) }
-        ensures state { self.new ≡ with_call self.old CallKind.RealPath }
+        ensures state { self.new ≡ memory_after_call self.old CallKind.RealPath }
         ensures later { self.old.faults ≤ self.new.faults }
     {
         if self.count_call_and_check_fault(CallKind::RealPath) {
             return Err(ReadError::Fault);
         }
-        let full = from_directory(alloc, path, cwd)?;
+        let full = resolve_path_from_directory(alloc, path, cwd)?;
         Ok(self.root.real_path(alloc, full.as_bytes())?)
     }
 
     fn make_dir(&mut self, alloc: Global, path: &[u8]) -> Result<MakeAnswer, ReadError>
-        ensures fault { IsErrOf result ReadError.Fault ↔ IsTrue (count_call_and_check_fault self.old CallKind.MakeDir) }
-        ensures answer { IfOk result (λ answer. answer
-            ≡ make_answer self.old.composes self.old.tree (spot self.old.tree path.now false)) }
-        ensures inside { IfOk result (AnswersInside self.old.composes self.old.tree path.now) }
-        ensures made { OnOk result (self.new.tree
-            ≡ after_make self.old.composes self.old.tree (spot self.old.tree path.now false)) }
+        ensures fault { IsErrOf result ReadError.Fault ↔ IsTrue (is_next_call_planned_to_fail
+            self.old CallKind.MakeDir) }
+        ensures answer { IfOk result (λ answer. answer ≡ answer_to_make_dir self.old.composes
+            self.old.tree (resolution_of_path self.old.tree path.now false)) }
+        ensures inside { IfOk result (AnswersMakeInExistingParent self.old.composes self.old.tree
+            path.now) }
+        ensures made { OnOk result (self.new.tree ≡ entries_after_make_dir self.old.composes
+            self.old.tree (resolution_of_path self.old.tree path.now false)) }
         ensures refused { OnErr result (self.new.tree ≡ self.old.tree) }
         ensures rest { self.new
-            ≡ record (with_call self.old CallKind.MakeDir) { tree = self.new.tree } }
-        ensures told_before { told_by self.old.tree ≡ Some self.old.tree }
-        ensures told { told_by self.new.tree ≡ Some self.new.tree }
+            ≡ record (memory_after_call self.old CallKind.MakeDir) { tree = self.new.tree } }
+        ensures told_before { tree_if_valid self.old.tree ≡ Some self.old.tree }
+        ensures told { tree_if_valid self.new.tree ≡ Some self.new.tree }
         ensures later { self.old.faults ≤ self.new.faults }
     {
-        self.assert_tree_told();
+        self.assert_tree_is_valid();
         let answer = self.make_dir_unless_planned_fault(alloc, path);
-        self.assert_tree_told();
+        self.assert_tree_is_valid();
         answer
     }
 
     /// Never answers `OutOfMemory`.
     fn remove_node(&mut self, _alloc: Global, path: &[u8]) -> Result<RemoveAnswer, ReadError>
-        ensures answer { result
-            ≡ (if count_call_and_check_fault self.old CallKind.RemoveNode then Err ReadError.Fault else Ok
-            (remove_answer (spot self.old.tree path.now false))) }
-        ensures tree { self.new.tree
-            ≡ (if count_call_and_check_fault self.old CallKind.RemoveNode then self.old.tree
-            else after_remove self.old.tree (spot self.old.tree path.now false)) }
+        ensures answer { result ≡ (if is_next_call_planned_to_fail self.old CallKind.RemoveNode then
+            Err ReadError.Fault else Ok (answer_to_remove_node (resolution_of_path self.old.tree
+            path.now false))) }
+        ensures tree { self.new.tree ≡ (if is_next_call_planned_to_fail self.old CallKind.RemoveNode
+            then self.old.tree else entries_after_remove_node self.old.tree
+            (resolution_of_path self.old.tree path.now false)) }
         ensures gone { result ≡ Ok RemoveAnswer.Removed
-            → Removes path.now self.old.tree self.new.tree }
+            → NodeRemovedAtPath path.now self.old.tree self.new.tree }
         ensures rest { self.new
-            ≡ record (with_call self.old CallKind.RemoveNode) { tree = self.new.tree } }
-        ensures told_before { told_by self.old.tree ≡ Some self.old.tree }
-        ensures told { told_by self.new.tree ≡ Some self.new.tree }
+            ≡ record (memory_after_call self.old CallKind.RemoveNode) { tree = self.new.tree } }
+        ensures told_before { tree_if_valid self.old.tree ≡ Some self.old.tree }
+        ensures told { tree_if_valid self.new.tree ≡ Some self.new.tree }
         ensures later { self.old.faults ≤ self.new.faults }
     {
-        self.assert_tree_told();
-        let answer = self.remove_unless_planned_fault(path);
-        self.assert_tree_told();
+        self.assert_tree_is_valid();
+        let answer = self.remove_node_unless_planned_fault(path);
+        self.assert_tree_is_valid();
         answer
     }
 
@@ -439,7 +446,7 @@ impl Worktree for MemoryWorktree {
               composes = self.now.composes;
               is_reversed = self.now.is_reversed;
               plans = [];
-              calls = no_calls;
+              calls = zero_call_counts;
               faults = 0;
               list_faults = 0;
               reads = 0;
@@ -462,9 +469,9 @@ impl Worktree for MemoryWorktree {
     fn absorb(&mut self, other: MemoryWorktree)
         ensures state { self.new
             ≡ record self.old {
-              faults = with_more self.old.faults other.faults;
-              list_faults = with_more self.old.list_faults other.list_faults;
-              reads = with_more self.old.reads other.reads;
+              faults = saturating_sum self.old.faults other.faults;
+              list_faults = saturating_sum self.old.list_faults other.list_faults;
+              reads = saturating_sum self.old.reads other.reads;
             } }
         ensures later { self.old.faults ≤ self.new.faults }
         ensures list_faults_later { self.old.list_faults ≤ self.new.list_faults }
@@ -477,22 +484,29 @@ impl Worktree for MemoryWorktree {
 }
 
 /// What stands behind the first slash of a normal path.
-fn below_root(path: &[u8]) -> Option<&[u8]>
-    ensures none { IfNone result (is_full_path path.now ≡ false) }
-    ensures normal { IfSome result (λ below. is_full_path path.now ≡ true) }
-    ensures names { IfSome result (λ below. AllByRecursion IsName (pieces below.now)) }
-    ensures pieces { IfSome result (λ below. components path.now ≡ pieces below.now) }
+fn path_below_root_if_normal(path: &[u8]) -> Option<&[u8]>
+    ensures none { IfNone result (is_absolute_path_of_valid_names path.now ≡ false) }
+    ensures normal { IfSome result (λ below. is_absolute_path_of_valid_names path.now ≡ true) }
+    ensures names { IfSome result (λ below. AllByRecursion IsValidEntryName (pieces_between_slashes
+        below.now)) }
+    ensures pieces { IfSome result (λ below. components path.now ≡ pieces_between_slashes
+        below.now) }
 {
     if !is_absolute(path) {
         return None;
     }
     let (_, below) = path.split_at(1);
-    if are_names(below) { Some(below) } else { None }
+    if has_only_valid_names(below) {
+        Some(below)
+    } else {
+        None
+    }
 }
 
 /// Whether each piece between slashes is a name.
-fn are_names(path: &[u8]) -> bool
-    ensures { result ≡ list_all is_name (pieces path.now) }
+fn has_only_valid_names(path: &[u8]) -> bool
+    ensures { result ≡ list_all is_valid_entry_name (pieces_between_slashes path.now) }
 {
-    path.split(|b| *b == b'/').all(|name| is_name(name))
+    path.split(|b| *b == b'/')
+        .all(|name| is_valid_entry_name(name))
 }

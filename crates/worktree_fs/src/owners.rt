@@ -1,7 +1,7 @@
 //! Who owns the nodes of a file system, and on which file system they lie: asked beside a worktree, which does not tell it.
 ghost use Rattle.std.specs.Prelude.{◌≡◌, ◌≤◌, ℕ, Option, Some, IfOk, IsErrOf};
-ghost use Rattle.worktree_fs.specs.Answers.{UnlessFault};
-ghost use Rattle.worktree_fs.specs.Causes.{Increased};
+ghost use Rattle.worktree_fs.specs.Answers.{HoldsUnlessFault};
+ghost use Rattle.worktree_fs.specs.Causes.{CountIncreasedOrSaturated};
 ghost use Rattle.worktree_fs.specs.Owners.{OwnershipByPath};
 
 pub mod disk;
@@ -27,12 +27,16 @@ pub trait Owners {
     ///
     /// - `Fault` only where it was counted.
     /// - `OutOfMemory` for want of memory.
-    fn ownership(&mut self, path: &[u8], follow: bool) -> Result<Option<Ownership>, ReadError>
+    fn ownership_at_path(
+        &mut self,
+        path: &[u8],
+        follow: bool,
+    ) -> Result<Option<Ownership>, ReadError>
         ensures answer { (owned : OwnershipByPath) → told self.old ≡ Some owned
             → IfOk result (λ found. found ≡ owned path.now follow) }
         ensures kept { told self.new ≡ told self.old }
         ensures cause { IsErrOf result ReadError.Fault
-            → Increased (faults self.old) (faults self.new) }
-        ensures unfaulted { UnlessFault result (faults self.new ≡ faults self.old) }
+            → CountIncreasedOrSaturated (faults self.old) (faults self.new) }
+        ensures unfaulted { HoldsUnlessFault result (faults self.new ≡ faults self.old) }
         ensures faults { faults self.old ≤ faults self.new };
 }

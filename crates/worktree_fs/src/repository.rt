@@ -2,14 +2,14 @@
 ghost use Rattle.std.specs.Prelude.{◌≡◌, ◌≤◌, ◌<◌, ◌+◌, Some, None, Ok, IfOk, IsErrOf, if◌then◌else◌, unwrap_or, option_and_then, [], true, false};
 ghost use Rattle.gitbase_core.specs.Path.{parent};
 ghost use Rattle.worktree_fs.specs.Tree.{Names, look};
-ghost use Rattle.worktree_fs.specs.Answers.{kind_of, UnlessFault};
-ghost use Rattle.worktree_fs.specs.Causes.{NotIncreased, Increased};
-ghost use Rattle.worktree_fs.specs.Kept.{Asks};
-ghost use Rattle.worktree_fs.specs.Changes.{real_path, from_directory};
-ghost use Rattle.worktree_fs.specs.Repository.{is_path, is_git, is_git_directory, is_git_file, is_git_directory_by_commondir, gitdir_path, is_directory_at, file_at, is_head_at, common_of};
+ghost use Rattle.worktree_fs.specs.Answers.{kind_of_lookup, HoldsUnlessFault};
+ghost use Rattle.worktree_fs.specs.Causes.{CountNotIncreased, CountIncreasedOrSaturated};
+ghost use Rattle.worktree_fs.specs.Kept.{KeepsTreeAndListCounts};
+ghost use Rattle.worktree_fs.specs.Changes.{real_path, resolve_path_from_directory};
+ghost use Rattle.worktree_fs.specs.Repository.{is_same_path_if_present, is_git, is_git_directory, is_file_naming_git_directory, is_git_directory_by_commondir, gitdir_path, is_lookup_of_directory, bytes_of_file_lookup, is_present_head_file_text, common_git_directory};
 
-use crate::git_texts::{gitdir_path, is_head, trimmed};
-use crate::names::from_directory;
+use crate::git_texts::{gitdir_path, is_head_file_text, without_trailing_line_ends};
+use crate::names::resolve_path_from_directory;
 use crate::{NodeKind, ReadAnswer, ReadError, Worktree};
 use gitbase_core::{Bytes, OutOfMemory, PathText};
 use std::alloc::Global;
@@ -28,12 +28,12 @@ pub fn real_path_is<W: Worktree>(
     own: &[u8],
 ) -> Result<bool, OutOfMemory>
     ensures answer { (t : Names) → W.told worktree.old ≡ Some t
-        → NotIncreased (W.faults worktree.old) (W.faults worktree.new)
-        → IfOk result (λ is. is ≡ is_path (real_path t path.now cwd.now) own.now) }
+        → CountNotIncreased (W.faults worktree.old) (W.faults worktree.new)
+        → IfOk result (λ is. is ≡ is_same_path_if_present (real_path t path.now cwd.now) own.now) }
     ensures true_only { (t : Names) → W.told worktree.old ≡ Some t → result ≡ Ok true
-        → is_path (real_path t path.now cwd.now) own.now ≡ true }
+        → is_same_path_if_present (real_path t path.now cwd.now) own.now ≡ true }
     ensures faulted { W.faults worktree.old < W.faults worktree.new → result ≡ Ok false }
-    ensures kept { Asks W.Worktree worktree.old worktree.new }
+    ensures kept { KeepsTreeAndListCounts W.Worktree worktree.old worktree.new }
     ensures reads { W.reads worktree.new ≡ W.reads worktree.old }
 {
     match worktree.real_path(alloc, path, cwd) {
@@ -61,17 +61,18 @@ pub fn is_git<W: Worktree>(
     path: &[u8],
 ) -> Result<bool, OutOfMemory>
     ensures answer { (t : Names) → W.told worktree.old ≡ Some t
-        → NotIncreased (W.faults worktree.old) (W.faults worktree.new)
+        → CountNotIncreased (W.faults worktree.old) (W.faults worktree.new)
         → IfOk result (λ is. is ≡ is_git t path.now) }
     ensures true_only { (t : Names) → W.told worktree.old ≡ Some t → result ≡ Ok true
         → is_git t path.now ≡ true }
     ensures faulted { W.faults worktree.old < W.faults worktree.new → result ≡ Ok false }
-    ensures kept { Asks W.Worktree worktree.old worktree.new }
+    ensures kept { KeepsTreeAndListCounts W.Worktree worktree.old worktree.new }
     ensures unread { (t : Names) → W.told worktree.old ≡ Some t
-        → kind_of (look t path.now true) ≡ None → W.reads worktree.new ≡ W.reads worktree.old }
+        → kind_of_lookup (look t path.now true) ≡ None → W.reads worktree.new
+        ≡ W.reads worktree.old }
     ensures reads_most { W.reads worktree.new ≤ W.reads worktree.old + 3 }
 {
-    match is_repository(alloc, worktree, path) {
+    match try_is_git_repository(alloc, worktree, path) {
         Ok(is) => Ok(is),
         Err(ReadError::Fault) => Ok(false),
         Err(ReadError::OutOfMemory) => Err(OutOfMemory),
@@ -85,24 +86,25 @@ pub fn is_git<W: Worktree>(
 ///
 /// - `Fault`: the worktree failed, which it counted.
 /// - `OutOfMemory` for want of memory.
-pub fn is_repository<W: Worktree>(
+pub fn try_is_git_repository<W: Worktree>(
     alloc: Global,
     worktree: &mut W,
     path: &[u8],
 ) -> Result<bool, ReadError>
     ensures answer { (t : Names) → W.told worktree.old ≡ Some t
         → IfOk result (λ is. is ≡ is_git t path.now) }
-    ensures kept { Asks W.Worktree worktree.old worktree.new }
+    ensures kept { KeepsTreeAndListCounts W.Worktree worktree.old worktree.new }
     ensures unread { (t : Names) → W.told worktree.old ≡ Some t
-        → kind_of (look t path.now true) ≡ None → W.reads worktree.new ≡ W.reads worktree.old }
+        → kind_of_lookup (look t path.now true) ≡ None → W.reads worktree.new
+        ≡ W.reads worktree.old }
     ensures cause { IsErrOf result ReadError.Fault
-        → Increased (W.faults worktree.old) (W.faults worktree.new) }
-    ensures unfaulted { UnlessFault result (W.faults worktree.new ≡ W.faults worktree.old) }
+        → CountIncreasedOrSaturated (W.faults worktree.old) (W.faults worktree.new) }
+    ensures unfaulted { HoldsUnlessFault result (W.faults worktree.new ≡ W.faults worktree.old) }
     ensures reads_most { W.reads worktree.new ≤ W.reads worktree.old + 3 }
 {
     match worktree.kind_following(alloc, path)? {
         Some(NodeKind::Directory) => is_git_directory(alloc, worktree, path, path),
-        Some(NodeKind::File) => is_git_file(alloc, worktree, path),
+        Some(NodeKind::File) => is_file_naming_git_directory(alloc, worktree, path),
         Some(NodeKind::Symlink) => Ok(false),
         Some(NodeKind::Untrackable) => Ok(false),
         None => Ok(false),
@@ -110,18 +112,22 @@ pub fn is_repository<W: Worktree>(
 }
 
 /// Whether a file names a git directory.
-fn is_git_file<W: Worktree>(alloc: Global, worktree: &mut W, path: &[u8]) -> Result<bool, ReadError>
-    ensures answer { (t : Names) → W.told worktree.old ≡ Some t
-        → IfOk result (λ is. is ≡ is_git_file t path.now (option_and_then gitdir_path
-        (file_at (look t path.now true)))) }
-    ensures kept { Asks W.Worktree worktree.old worktree.new }
+fn is_file_naming_git_directory<W: Worktree>(
+    alloc: Global,
+    worktree: &mut W,
+    path: &[u8],
+) -> Result<bool, ReadError>
+    ensures answer { (t : Names) → W.told worktree.old ≡ Some t → IfOk result (λ is. is
+        ≡ is_file_naming_git_directory t path.now (option_and_then gitdir_path
+        (bytes_of_file_lookup (look t path.now true)))) }
+    ensures kept { KeepsTreeAndListCounts W.Worktree worktree.old worktree.new }
     ensures cause { IsErrOf result ReadError.Fault
-        → Increased (W.faults worktree.old) (W.faults worktree.new) }
-    ensures unfaulted { UnlessFault result (W.faults worktree.new ≡ W.faults worktree.old) }
+        → CountIncreasedOrSaturated (W.faults worktree.old) (W.faults worktree.new) }
+    ensures unfaulted { HoldsUnlessFault result (W.faults worktree.new ≡ W.faults worktree.old) }
     ensures reads_most { W.reads worktree.new ≤ W.reads worktree.old + 3 }
 {
     let mut bytes = Bytes::new(alloc);
-    if !read_file(alloc, worktree, path, &mut bytes)? {
+    if !read_file_if_present(alloc, worktree, path, &mut bytes)? {
         return Ok(false);
     }
     match gitdir_path(bytes.as_bytes()) {
@@ -146,13 +152,13 @@ pub fn is_git_directory_by_commondir<W: Worktree>(
 ) -> Result<bool, ReadError>
     ensures answer { (t : Names) → W.told worktree.old ≡ Some t
         → IfOk result (λ is. is ≡ is_git_directory_by_commondir t git.now) }
-    ensures kept { Asks W.Worktree worktree.old worktree.new }
+    ensures kept { KeepsTreeAndListCounts W.Worktree worktree.old worktree.new }
     ensures cause { IsErrOf result ReadError.Fault
-        → Increased (W.faults worktree.old) (W.faults worktree.new) }
-    ensures unfaulted { UnlessFault result (W.faults worktree.new ≡ W.faults worktree.old) }
+        → CountIncreasedOrSaturated (W.faults worktree.old) (W.faults worktree.new) }
+    ensures unfaulted { HoldsUnlessFault result (W.faults worktree.new ≡ W.faults worktree.old) }
     ensures reads_most { W.reads worktree.new ≤ W.reads worktree.old + 2 }
 {
-    let common = common_of(alloc, worktree, git)?;
+    let common = common_git_directory(alloc, worktree, git)?;
     is_git_directory(alloc, worktree, git, common.as_bytes())
 }
 
@@ -163,23 +169,27 @@ pub fn is_git_directory_by_commondir<W: Worktree>(
 ///
 /// - `Fault`: the worktree failed, which it counted.
 /// - `OutOfMemory` for want of memory.
-pub fn common_of<W: Worktree>(
+pub fn common_git_directory<W: Worktree>(
     alloc: Global,
     worktree: &mut W,
     git: &[u8],
 ) -> Result<Bytes, ReadError>
     ensures answer { (t : Names) → W.told worktree.old ≡ Some t
-        → IfOk result (λ common. common ≡ common_of t git.now) }
-    ensures kept { Asks W.Worktree worktree.old worktree.new }
+        → IfOk result (λ common. common ≡ common_git_directory t git.now) }
+    ensures kept { KeepsTreeAndListCounts W.Worktree worktree.old worktree.new }
     ensures cause { IsErrOf result ReadError.Fault
-        → Increased (W.faults worktree.old) (W.faults worktree.new) }
-    ensures unfaulted { UnlessFault result (W.faults worktree.new ≡ W.faults worktree.old) }
+        → CountIncreasedOrSaturated (W.faults worktree.old) (W.faults worktree.new) }
+    ensures unfaulted { HoldsUnlessFault result (W.faults worktree.new ≡ W.faults worktree.old) }
     ensures reads_most { W.reads worktree.new ≤ W.reads worktree.old + 1 }
 {
-    let path = from_directory(alloc, b"commondir".as_slice(), git)?;
+    let path = resolve_path_from_directory(alloc, b"commondir".as_slice(), git)?;
     let mut bytes = Bytes::new(alloc);
-    if read_file(alloc, worktree, path.as_bytes(), &mut bytes)? {
-        return Ok(from_directory(alloc, trimmed(bytes.as_bytes()), git)?);
+    if read_file_if_present(alloc, worktree, path.as_bytes(), &mut bytes)? {
+        return Ok(resolve_path_from_directory(
+            alloc,
+            without_trailing_line_ends(bytes.as_bytes()),
+            git,
+        )?);
     }
     Ok(Bytes::from_slice(alloc, git)?)
 }
@@ -199,53 +209,57 @@ pub fn is_git_directory<W: Worktree>(
 ) -> Result<bool, ReadError>
     ensures answer { (t : Names) → W.told worktree.old ≡ Some t
         → IfOk result (λ is. is ≡ is_git_directory t git.now common.now) }
-    ensures kept { Asks W.Worktree worktree.old worktree.new }
+    ensures kept { KeepsTreeAndListCounts W.Worktree worktree.old worktree.new }
     ensures cause { IsErrOf result ReadError.Fault
-        → Increased (W.faults worktree.old) (W.faults worktree.new) }
-    ensures unfaulted { UnlessFault result (W.faults worktree.new ≡ W.faults worktree.old) }
+        → CountIncreasedOrSaturated (W.faults worktree.old) (W.faults worktree.new) }
+    ensures unfaulted { HoldsUnlessFault result (W.faults worktree.new ≡ W.faults worktree.old) }
     ensures reads_most { W.reads worktree.new ≤ W.reads worktree.old + 1 }
 {
-    let head = from_directory(alloc, b"HEAD".as_slice(), git)?;
-    if !has_head(alloc, worktree, head.as_bytes())? {
+    let head = resolve_path_from_directory(alloc, b"HEAD".as_slice(), git)?;
+    if !is_well_formed_head_file(alloc, worktree, head.as_bytes())? {
         return Ok(false);
     }
-    let objects = from_directory(alloc, b"objects".as_slice(), common)?;
-    if !is_directory(alloc, worktree, objects.as_bytes())? {
+    let objects = resolve_path_from_directory(alloc, b"objects".as_slice(), common)?;
+    if !is_directory_at_path(alloc, worktree, objects.as_bytes())? {
         return Ok(false);
     }
-    let refs = from_directory(alloc, b"refs".as_slice(), common)?;
-    is_directory(alloc, worktree, refs.as_bytes())
+    let refs = resolve_path_from_directory(alloc, b"refs".as_slice(), common)?;
+    is_directory_at_path(alloc, worktree, refs.as_bytes())
 }
 
 /// Whether a file has the text of a `HEAD`.
-fn has_head<W: Worktree>(alloc: Global, worktree: &mut W, path: &[u8]) -> Result<bool, ReadError>
-    ensures answer { (t : Names) → W.told worktree.old ≡ Some t
-        → IfOk result (λ is. is ≡ is_head_at (file_at (look t path.now true))) }
-    ensures kept { Asks W.Worktree worktree.old worktree.new }
+fn is_well_formed_head_file<W: Worktree>(
+    alloc: Global,
+    worktree: &mut W,
+    path: &[u8],
+) -> Result<bool, ReadError>
+    ensures answer { (t : Names) → W.told worktree.old ≡ Some t → IfOk result (λ is. is
+        ≡ is_present_head_file_text (bytes_of_file_lookup (look t path.now true))) }
+    ensures kept { KeepsTreeAndListCounts W.Worktree worktree.old worktree.new }
     ensures cause { IsErrOf result ReadError.Fault
-        → Increased (W.faults worktree.old) (W.faults worktree.new) }
-    ensures unfaulted { UnlessFault result (W.faults worktree.new ≡ W.faults worktree.old) }
+        → CountIncreasedOrSaturated (W.faults worktree.old) (W.faults worktree.new) }
+    ensures unfaulted { HoldsUnlessFault result (W.faults worktree.new ≡ W.faults worktree.old) }
     ensures reads_most { W.reads worktree.new ≤ W.reads worktree.old + 1 }
 {
     let mut bytes = Bytes::new(alloc);
-    if !read_file(alloc, worktree, path, &mut bytes)? {
+    if !read_file_if_present(alloc, worktree, path, &mut bytes)? {
         return Ok(false);
     }
-    Ok(is_head(bytes.as_bytes()))
+    Ok(is_head_file_text(bytes.as_bytes()))
 }
 
 /// Whether a path leads to a directory.
-fn is_directory<W: Worktree>(
+fn is_directory_at_path<W: Worktree>(
     alloc: Global,
     worktree: &mut W,
     path: &[u8],
 ) -> Result<bool, ReadError>
     ensures answer { (t : Names) → W.told worktree.old ≡ Some t
-        → IfOk result (λ is. is ≡ is_directory_at (look t path.now true)) }
-    ensures kept { Asks W.Worktree worktree.old worktree.new }
+        → IfOk result (λ is. is ≡ is_lookup_of_directory (look t path.now true)) }
+    ensures kept { KeepsTreeAndListCounts W.Worktree worktree.old worktree.new }
     ensures cause { IsErrOf result ReadError.Fault
-        → Increased (W.faults worktree.old) (W.faults worktree.new) }
-    ensures unfaulted { UnlessFault result (W.faults worktree.new ≡ W.faults worktree.old) }
+        → CountIncreasedOrSaturated (W.faults worktree.old) (W.faults worktree.new) }
+    ensures unfaulted { HoldsUnlessFault result (W.faults worktree.new ≡ W.faults worktree.old) }
     ensures reads { W.reads worktree.new ≡ W.reads worktree.old }
 {
     let kind = worktree.kind_following(alloc, path)?;
@@ -259,19 +273,19 @@ fn is_directory<W: Worktree>(
 ///
 /// - `Fault`: the worktree failed, which it counted.
 /// - `OutOfMemory` for want of memory.
-pub fn read_file<W: Worktree>(
+pub fn read_file_if_present<W: Worktree>(
     alloc: Global,
     worktree: &mut W,
     path: &[u8],
     into: &mut Bytes,
 ) -> Result<bool, ReadError>
     ensures answer { (t : Names) → W.told worktree.old ≡ Some t
-        → IfOk result (λ is. file_at (look t path.now true)
+        → IfOk result (λ is. bytes_of_file_lookup (look t path.now true)
         ≡ (if is then Some into.new else None)) }
-    ensures kept { Asks W.Worktree worktree.old worktree.new }
+    ensures kept { KeepsTreeAndListCounts W.Worktree worktree.old worktree.new }
     ensures cause { IsErrOf result ReadError.Fault
-        → Increased (W.faults worktree.old) (W.faults worktree.new) }
-    ensures unfaulted { UnlessFault result (W.faults worktree.new ≡ W.faults worktree.old) }
+        → CountIncreasedOrSaturated (W.faults worktree.old) (W.faults worktree.new) }
+    ensures unfaulted { HoldsUnlessFault result (W.faults worktree.new ≡ W.faults worktree.old) }
     ensures reads_most { W.reads worktree.new ≤ W.reads worktree.old + 1 }
 {
     match worktree.read(alloc, path, true, into)? {
@@ -292,12 +306,12 @@ pub fn resolve_from_file_parent(
     file: &[u8],
 ) -> Result<Bytes, OutOfMemory>
     ensures { IfOk result (λ full. full
-        ≡ from_directory path.now (unwrap_or (parent file.now) [])) }
+        ≡ resolve_path_from_directory path.now (unwrap_or (parent file.now) [])) }
 {
     let file = PathText::from_bytes(alloc, file)?;
     let directory: &[u8] = match file.parent() {
         Some(directory) => directory,
         None => &[],
     };
-    from_directory(alloc, path, directory)
+    resolve_path_from_directory(alloc, path, directory)
 }

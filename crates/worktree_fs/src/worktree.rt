@@ -1,12 +1,12 @@
 //! A tree of files as code above sees it, call by call.
 ghost use Rattle.std.specs.Prelude.{◌≡◌, ◌≤◌, ℕ, Bool, true, false, Option, Some, None, All, IfOk, OnOk, OnErr, IsErrOf, MatchResult, Ok};
-ghost use Rattle.worktree_fs.specs.Tree.{Names, look, spot, found, file, directory};
-ghost use Rattle.worktree_fs.specs.Naming.{AreNames, IsTree};
-ghost use Rattle.worktree_fs.specs.Answers.{kind_of, read_of, UnlessRead, UnlessFault, ListsNames, ListRefuses, OnListFault, UnlessListFault};
-ghost use Rattle.worktree_fs.specs.Changes.{real_path, make_answer, after_make, remove_answer, after_remove};
-ghost use Rattle.worktree_fs.specs.MadeAndRemoved.{AnswersInside, Removes};
-ghost use Rattle.worktree_fs.specs.Composed.{IsKept};
-ghost use Rattle.worktree_fs.specs.Causes.{Incremented, Increased, with_more};
+ghost use Rattle.worktree_fs.specs.Tree.{Names, look, resolution_of_path, found, file, directory};
+ghost use Rattle.worktree_fs.specs.Naming.{AreDistinctValidEntryNames, IsValidTree};
+ghost use Rattle.worktree_fs.specs.Answers.{kind_of_lookup, read_answer_of_lookup, HoldsUnlessFileRead, HoldsUnlessFault, ListsDirectoryNamesInAnyOrder, ListErrorFitsLookup, HoldsOnListFault, HoldsUnlessListFault};
+ghost use Rattle.worktree_fs.specs.Changes.{real_path, answer_to_make_dir, entries_after_make_dir, answer_to_remove_node, entries_after_remove_node};
+ghost use Rattle.worktree_fs.specs.MadeAndRemoved.{AnswersMakeInExistingParent, NodeRemovedAtPath};
+ghost use Rattle.worktree_fs.specs.Composed.{IsComponentOfComposedText};
+ghost use Rattle.worktree_fs.specs.Causes.{CountIncrementedOrSaturated, CountIncreasedOrSaturated, saturating_sum};
 
 use crate::{ListError, MakeAnswer, NameList, NodeKind, ReadAnswer, ReadError, RemoveAnswer};
 use gitbase_core::{Bytes, OutOfMemory, PathText};
@@ -58,11 +58,11 @@ pub trait Worktree {
     /// See docs/DECISIONS.md#one-look-a-name.
     fn kind(&mut self, alloc: Global, path: &[u8]) -> Result<Option<NodeKind>, ReadError>
         ensures answer { (t : Names) → told self.old ≡ Some t
-            → IfOk result (λ kind. kind ≡ kind_of (look t path.now false)) }
+            → IfOk result (λ kind. kind ≡ kind_of_lookup (look t path.now false)) }
         ensures tree { told self.new ≡ told self.old }
         ensures cause { IsErrOf result ReadError.Fault
-            → Increased (faults self.old) (faults self.new) }
-        ensures unfaulted { UnlessFault result (faults self.new ≡ faults self.old) }
+            → CountIncreasedOrSaturated (faults self.old) (faults self.new) }
+        ensures unfaulted { HoldsUnlessFault result (faults self.new ≡ faults self.old) }
         ensures faults { faults self.old ≤ faults self.new }
         ensures list_faults { list_faults self.new ≡ list_faults self.old }
         ensures reads { reads self.new ≡ reads self.old }
@@ -78,11 +78,11 @@ pub trait Worktree {
     /// - `OutOfMemory` for want of memory.
     fn kind_following(&mut self, alloc: Global, path: &[u8]) -> Result<Option<NodeKind>, ReadError>
         ensures answer { (t : Names) → told self.old ≡ Some t
-            → IfOk result (λ kind. kind ≡ kind_of (look t path.now true)) }
+            → IfOk result (λ kind. kind ≡ kind_of_lookup (look t path.now true)) }
         ensures tree { told self.new ≡ told self.old }
         ensures cause { IsErrOf result ReadError.Fault
-            → Increased (faults self.old) (faults self.new) }
-        ensures unfaulted { UnlessFault result (faults self.new ≡ faults self.old) }
+            → CountIncreasedOrSaturated (faults self.old) (faults self.new) }
+        ensures unfaulted { HoldsUnlessFault result (faults self.new ≡ faults self.old) }
         ensures faults { faults self.old ≤ faults self.new }
         ensures list_faults { list_faults self.new ≡ list_faults self.old }
         ensures reads { reads self.new ≡ reads self.old }
@@ -105,22 +105,23 @@ pub trait Worktree {
     /// See docs/DECISIONS.md#listing-counts.
     /// See docs/DECISIONS.md#listed-names-kept.
     fn list(&mut self, alloc: Global, path: &[u8], follow: bool) -> Result<NameList, ListError>
-        ensures answer { (t : Names) → told self.old ≡ Some t
-            → MatchResult result (ListsNames (look t path.now follow)) (ListRefuses
-            (look t path.now follow)) }
-        ensures names { IfOk result AreNames }
-        ensures composed { IfOk result (All (IsKept (precomposes self.old))) }
+        ensures answer { (t : Names) → told self.old ≡ Some t → MatchResult result
+            (ListsDirectoryNamesInAnyOrder (look t path.now follow))
+            (ListErrorFitsLookup (look t path.now follow)) }
+        ensures names { IfOk result AreDistinctValidEntryNames }
+        ensures composed { IfOk result (All (IsComponentOfComposedText (precomposes self.old))) }
         ensures tree { told self.new ≡ told self.old }
-        ensures cause { OnListFault result (Increased (faults self.old) (faults self.new)) }
-        ensures unfaulted { UnlessListFault result (faults self.new ≡ faults self.old) }
+        ensures cause { HoldsOnListFault result (CountIncreasedOrSaturated (faults self.old)
+            (faults self.new)) }
+        ensures unfaulted { HoldsUnlessListFault result (faults self.new ≡ faults self.old) }
         ensures faults { faults self.old ≤ faults self.new }
-        ensures list_cause { OnListFault result (Increased (list_faults self.old)
-            (list_faults self.new)) }
+        ensures list_cause { HoldsOnListFault result (CountIncreasedOrSaturated
+            (list_faults self.old) (list_faults self.new)) }
         ensures list_faults { list_faults self.old ≤ list_faults self.new }
-        ensures list_faults_kept { UnlessListFault result (list_faults self.new
+        ensures list_faults_kept { HoldsUnlessListFault result (list_faults self.new
             ≡ list_faults self.old) }
         ensures reads { reads self.new ≡ reads self.old }
-        ensures lists { Incremented (lists self.old) (lists self.new) }
+        ensures lists { CountIncrementedOrSaturated (lists self.old) (lists self.new) }
         ensures lists_later { lists self.old ≤ lists self.new }
         ensures precomposes { precomposes self.new ≡ precomposes self.old };
 
@@ -139,18 +140,18 @@ pub trait Worktree {
         into: &mut Bytes,
     ) -> Result<ReadAnswer, ReadError>
         ensures answer { (t : Names) → told self.old ≡ Some t
-            → IfOk result (λ answer. answer ≡ read_of (look t path.now follow)) }
+            → IfOk result (λ answer. answer ≡ read_answer_of_lookup (look t path.now follow)) }
         ensures bytes { (t : Names) → told self.old ≡ Some t → result ≡ Ok ReadAnswer.Read
             → look t path.now follow ≡ found (file into.new) }
-        ensures into { UnlessRead result (into.new ≡ into.old) }
+        ensures into { HoldsUnlessFileRead result (into.new ≡ into.old) }
         ensures link { result ≡ Ok ReadAnswer.IsLink → follow ≡ false }
         ensures tree { told self.new ≡ told self.old }
         ensures cause { IsErrOf result ReadError.Fault
-            → Increased (faults self.old) (faults self.new) }
-        ensures unfaulted { UnlessFault result (faults self.new ≡ faults self.old) }
+            → CountIncreasedOrSaturated (faults self.old) (faults self.new) }
+        ensures unfaulted { HoldsUnlessFault result (faults self.new ≡ faults self.old) }
         ensures faults { faults self.old ≤ faults self.new }
         ensures list_faults { list_faults self.new ≡ list_faults self.old }
-        ensures reads { Incremented (reads self.old) (reads self.new) }
+        ensures reads { CountIncrementedOrSaturated (reads self.old) (reads self.new) }
         ensures reads_later { reads self.old ≤ reads self.new }
         ensures lists { lists self.new ≡ lists self.old }
         ensures precomposes { precomposes self.new ≡ precomposes self.old };
@@ -172,8 +173,8 @@ pub trait Worktree {
             → IfOk result (λ real. real ≡ real_path t path.now cwd.now) }
         ensures tree { told self.new ≡ told self.old }
         ensures cause { IsErrOf result ReadError.Fault
-            → Increased (faults self.old) (faults self.new) }
-        ensures unfaulted { UnlessFault result (faults self.new ≡ faults self.old) }
+            → CountIncreasedOrSaturated (faults self.old) (faults self.new) }
+        ensures unfaulted { HoldsUnlessFault result (faults self.new ≡ faults self.old) }
         ensures faults { faults self.old ≤ faults self.new }
         ensures list_faults { list_faults self.new ≡ list_faults self.old }
         ensures reads { reads self.new ≡ reads self.old }
@@ -195,17 +196,17 @@ pub trait Worktree {
     fn make_dir(&mut self, alloc: Global, path: &[u8]) -> Result<MakeAnswer, ReadError>
         ensures answer { (t : Names) → told self.old ≡ Some t
             → IfOk result (λ answer. answer
-            ≡ make_answer (precomposes self.old) t (spot t path.now false)) }
+            ≡ answer_to_make_dir (precomposes self.old) t (resolution_of_path t path.now false)) }
         ensures inside { (t : Names) → told self.old ≡ Some t
-            → IfOk result (AnswersInside (precomposes self.old) t path.now) }
-        ensures made { (t : Names) → told self.old ≡ Some t
-            → OnOk result (told self.new
-            ≡ Some (after_make (precomposes self.old) t (spot t path.now false))) }
+            → IfOk result (AnswersMakeInExistingParent (precomposes self.old) t path.now) }
+        ensures made { (t : Names) → told self.old ≡ Some t → OnOk result (told self.new
+            ≡ Some (entries_after_make_dir (precomposes self.old) t (resolution_of_path t path.now
+            false))) }
         ensures kept { OnErr result (told self.new ≡ told self.old) }
         ensures untold { told self.old ≡ None → told self.new ≡ None }
         ensures cause { IsErrOf result ReadError.Fault
-            → Increased (faults self.old) (faults self.new) }
-        ensures unfaulted { UnlessFault result (faults self.new ≡ faults self.old) }
+            → CountIncreasedOrSaturated (faults self.old) (faults self.new) }
+        ensures unfaulted { HoldsUnlessFault result (faults self.new ≡ faults self.old) }
         ensures faults { faults self.old ≤ faults self.new }
         ensures list_faults { list_faults self.new ≡ list_faults self.old }
         ensures reads { reads self.new ≡ reads self.old }
@@ -225,17 +226,17 @@ pub trait Worktree {
     ///
     /// See docs/DECISIONS.md#removal-by-names.
     fn remove_node(&mut self, alloc: Global, path: &[u8]) -> Result<RemoveAnswer, ReadError>
-        ensures answer { (t : Names) → told self.old ≡ Some t
-            → IfOk result (λ answer. answer ≡ remove_answer (spot t path.now false)) }
-        ensures removed { (t : Names) → told self.old ≡ Some t
-            → OnOk result (told self.new ≡ Some (after_remove t (spot t path.now false))) }
+        ensures answer { (t : Names) → told self.old ≡ Some t → IfOk result (λ answer. answer
+            ≡ answer_to_remove_node (resolution_of_path t path.now false)) }
+        ensures removed { (t : Names) → told self.old ≡ Some t → OnOk result (told self.new
+            ≡ Some (entries_after_remove_node t (resolution_of_path t path.now false))) }
         ensures gone { (t now : Names) → told self.old ≡ Some t → told self.new ≡ Some now
-            → result ≡ Ok RemoveAnswer.Removed → Removes path.now t now }
+            → result ≡ Ok RemoveAnswer.Removed → NodeRemovedAtPath path.now t now }
         ensures kept { OnErr result (told self.new ≡ told self.old) }
         ensures untold { told self.old ≡ None → told self.new ≡ None }
         ensures cause { IsErrOf result ReadError.Fault
-            → Increased (faults self.old) (faults self.new) }
-        ensures unfaulted { UnlessFault result (faults self.new ≡ faults self.old) }
+            → CountIncreasedOrSaturated (faults self.old) (faults self.new) }
+        ensures unfaulted { HoldsUnlessFault result (faults self.new ≡ faults self.old) }
         ensures faults { faults self.old ≤ faults self.new }
         ensures list_faults { list_faults self.new ≡ list_faults self.old }
         ensures reads { reads self.new ≡ reads self.old }
@@ -261,16 +262,16 @@ pub trait Worktree {
     /// See docs/DECISIONS.md#lost-fork.
     fn absorb(&mut self, other: Self)
         ensures tree { told self.new ≡ told self.old }
-        ensures faults { faults self.new ≡ with_more (faults self.old) (faults other) }
+        ensures faults { faults self.new ≡ saturating_sum (faults self.old) (faults other) }
         ensures later { faults self.old ≤ faults self.new }
         ensures list_faults { list_faults self.new
-            ≡ with_more (list_faults self.old) (list_faults other) }
+            ≡ saturating_sum (list_faults self.old) (list_faults other) }
         ensures list_faults_later { list_faults self.old ≤ list_faults self.new }
-        ensures reads { reads self.new ≡ with_more (reads self.old) (reads other) }
+        ensures reads { reads self.new ≡ saturating_sum (reads self.old) (reads other) }
         ensures reads_later { reads self.old ≤ reads self.new }
         ensures lists { lists self.new ≡ lists self.old }
         ensures precomposes { precomposes self.new ≡ precomposes self.old };
 
     /// Each told tree has, in every directory, names that may stand there, none of them twice.
-    ghost is_tree: { (w : Self) (t : Names) → told w ≡ Some t → IsTree (directory t) };
+    ghost is_tree: { (w : Self) (t : Names) → told w ≡ Some t → IsValidTree (directory t) };
 }

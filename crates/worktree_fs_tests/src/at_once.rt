@@ -1,8 +1,8 @@
 //! Jobs over forks of a worktree, a store and an interrupt, one after another; every fork is
 //! absorbed.
 ghost use Rattle.std.specs.Prelude.{◌≡◌, ◌≤◌, IsErrOf};
-ghost use Rattle.gitbase_core.specs.Causes.{next, Increased};
-ghost use Rattle.worktree_fs.specs.Kept.{Lists, AsksStore};
+ghost use Rattle.gitbase_core.specs.Causes.{saturating_increment, CountIncreasedOrSaturated};
+ghost use Rattle.worktree_fs.specs.Kept.{KeepsTreeWhileCountsMayRise, KeepsStoredObjects};
 
 use gitbase_core::{Bytes, Find, FindError, ObjectId, OutOfMemory};
 use std::alloc::Global;
@@ -42,16 +42,16 @@ pub fn walk_at_once<W: Worktree, F: Find, I: Interrupt>(
     interrupt: &mut I,
     root: &[u8],
 ) -> Result<usize, WalkError>
-    ensures tree { Lists W.Worktree worktree.old worktree.new }
-    ensures store { AsksStore F.Find store.old store.new }
+    ensures tree { KeepsTreeWhileCountsMayRise W.Worktree worktree.old worktree.new }
+    ensures store { KeepsStoredObjects F.Find store.old store.new }
     ensures raised { I.raised interrupt.old ≤ I.raised interrupt.new }
-    ensures lists { W.lists worktree.new ≡ next (W.lists worktree.old) }
+    ensures lists { W.lists worktree.new ≡ saturating_increment (W.lists worktree.old) }
     ensures listing { IsErrOf result WalkError.List
-        → Increased (W.faults worktree.old) (W.faults worktree.new) }
+        → CountIncreasedOrSaturated (W.faults worktree.old) (W.faults worktree.new) }
     ensures blob { IsErrOf result WalkError.Blob
-        → Increased (F.faults store.old) (F.faults store.new) }
+        → CountIncreasedOrSaturated (F.faults store.old) (F.faults store.new) }
     ensures stopped { IsErrOf result WalkError.Interrupted
-        → Increased (I.raised interrupt.old) (I.raised interrupt.new) }
+        → CountIncreasedOrSaturated (I.raised interrupt.old) (I.raised interrupt.new) }
 {
     let names = match worktree.list(alloc, root, true) {
         Ok(names) => names,
@@ -75,16 +75,16 @@ fn on_worktree<W: Worktree, F: Find, I: Interrupt>(
     interrupt: &mut I,
     name: &[u8],
 ) -> Result<usize, WalkError>
-    ensures tree { Lists W.Worktree worktree.old worktree.new }
-    ensures store { AsksStore F.Find store.old store.new }
+    ensures tree { KeepsTreeWhileCountsMayRise W.Worktree worktree.old worktree.new }
+    ensures store { KeepsStoredObjects F.Find store.old store.new }
     ensures raised { I.raised interrupt.old ≤ I.raised interrupt.new }
     ensures lists { W.lists worktree.new ≡ W.lists worktree.old }
     ensures listing { IsErrOf result WalkError.List
-        → Increased (W.faults worktree.old) (W.faults worktree.new) }
+        → CountIncreasedOrSaturated (W.faults worktree.old) (W.faults worktree.new) }
     ensures blob { IsErrOf result WalkError.Blob
-        → Increased (F.faults store.old) (F.faults store.new) }
+        → CountIncreasedOrSaturated (F.faults store.old) (F.faults store.new) }
     ensures stopped { IsErrOf result WalkError.Interrupted
-        → Increased (I.raised interrupt.old) (I.raised interrupt.new) }
+        → CountIncreasedOrSaturated (I.raised interrupt.old) (I.raised interrupt.new) }
 {
     let mut fork = worktree.fork(alloc)?;
     let result = on_store(alloc, &mut fork, store, interrupt, name);
@@ -100,15 +100,15 @@ fn on_store<W: Worktree, F: Find, I: Interrupt>(
     interrupt: &mut I,
     name: &[u8],
 ) -> Result<usize, WalkError>
-    ensures tree { Lists W.Worktree worktree.old worktree.new }
-    ensures store { AsksStore F.Find store.old store.new }
+    ensures tree { KeepsTreeWhileCountsMayRise W.Worktree worktree.old worktree.new }
+    ensures store { KeepsStoredObjects F.Find store.old store.new }
     ensures raised { I.raised interrupt.old ≤ I.raised interrupt.new }
     ensures listing { IsErrOf result WalkError.List
-        → Increased (W.faults worktree.old) (W.faults worktree.new) }
+        → CountIncreasedOrSaturated (W.faults worktree.old) (W.faults worktree.new) }
     ensures blob { IsErrOf result WalkError.Blob
-        → Increased (F.faults store.old) (F.faults store.new) }
+        → CountIncreasedOrSaturated (F.faults store.old) (F.faults store.new) }
     ensures stopped { IsErrOf result WalkError.Interrupted
-        → Increased (I.raised interrupt.old) (I.raised interrupt.new) }
+        → CountIncreasedOrSaturated (I.raised interrupt.old) (I.raised interrupt.new) }
 {
     let mut fork = store.fork(alloc)?;
     let result = on_interrupt(alloc, worktree, &mut fork, interrupt, name);
@@ -124,15 +124,15 @@ fn on_interrupt<W: Worktree, F: Find, I: Interrupt>(
     interrupt: &mut I,
     name: &[u8],
 ) -> Result<usize, WalkError>
-    ensures tree { Lists W.Worktree worktree.old worktree.new }
-    ensures store { AsksStore F.Find store.old store.new }
+    ensures tree { KeepsTreeWhileCountsMayRise W.Worktree worktree.old worktree.new }
+    ensures store { KeepsStoredObjects F.Find store.old store.new }
     ensures raised { I.raised interrupt.old ≤ I.raised interrupt.new }
     ensures listing { IsErrOf result WalkError.List
-        → Increased (W.faults worktree.old) (W.faults worktree.new) }
+        → CountIncreasedOrSaturated (W.faults worktree.old) (W.faults worktree.new) }
     ensures blob { IsErrOf result WalkError.Blob
-        → Increased (F.faults store.old) (F.faults store.new) }
+        → CountIncreasedOrSaturated (F.faults store.old) (F.faults store.new) }
     ensures stopped { IsErrOf result WalkError.Interrupted
-        → Increased (I.raised interrupt.old) (I.raised interrupt.new) }
+        → CountIncreasedOrSaturated (I.raised interrupt.old) (I.raised interrupt.new) }
 {
     let mut fork = interrupt.fork(alloc)?;
     let result = work(alloc, worktree, store, &mut fork, name);
@@ -148,15 +148,15 @@ fn work<W: Worktree, F: Find, I: Interrupt>(
     interrupt: &mut I,
     name: &[u8],
 ) -> Result<usize, WalkError>
-    ensures tree { Lists W.Worktree worktree.old worktree.new }
-    ensures store { AsksStore F.Find store.old store.new }
+    ensures tree { KeepsTreeWhileCountsMayRise W.Worktree worktree.old worktree.new }
+    ensures store { KeepsStoredObjects F.Find store.old store.new }
     ensures raised { I.raised interrupt.old ≤ I.raised interrupt.new }
     ensures listing { IsErrOf result WalkError.List
-        → Increased (W.faults worktree.old) (W.faults worktree.new) }
+        → CountIncreasedOrSaturated (W.faults worktree.old) (W.faults worktree.new) }
     ensures blob { IsErrOf result WalkError.Blob
-        → Increased (F.faults store.old) (F.faults store.new) }
+        → CountIncreasedOrSaturated (F.faults store.old) (F.faults store.new) }
     ensures stopped { IsErrOf result WalkError.Interrupted
-        → Increased (I.raised interrupt.old) (I.raised interrupt.new) }
+        → CountIncreasedOrSaturated (I.raised interrupt.old) (I.raised interrupt.new) }
 {
     if interrupt.is_raised() {
         return Err(WalkError::Interrupted);

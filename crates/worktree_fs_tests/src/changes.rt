@@ -81,9 +81,15 @@ fn trees_change(rt: HostRuntime) {
 /// The calls that change a tree fail as planned, and leave it.
 fn fails_as_planned(alloc: Global) -> bool {
     let mut tree = sample(alloc, false);
-    let is_planned = tree.plan_fault(alloc, CallKind::MakeDir, 1).is_ok()
-        && tree.plan_fault(alloc, CallKind::RemoveNode, 1).is_ok()
-        && tree.plan_fault(alloc, CallKind::RealPath, 1).is_ok();
+    let is_planned = tree
+        .plan_fault_of_nth_call(alloc, CallKind::MakeDir, 1)
+        .is_ok()
+        && tree
+            .plan_fault_of_nth_call(alloc, CallKind::RemoveNode, 1)
+            .is_ok()
+        && tree
+            .plan_fault_of_nth_call(alloc, CallKind::RealPath, 1)
+            .is_ok();
     let is_refused = tree.make_dir(alloc, b"/w/m") == Err(ReadError::Fault)
         && tree.remove_node(alloc, b"/w/f") == Err(ReadError::Fault)
         && tree.real_path(alloc, b"/w/f", b"/").is_err();

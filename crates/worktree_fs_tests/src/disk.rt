@@ -164,8 +164,8 @@ fn listing_faults(want: &[u8], faults: &[u8]) -> u64 {
 /// Whether the path of the first fault is named, and none where there is no fault.
 fn names_first(disk: &DiskWorktree<'_>, path: &[u8]) -> bool {
     match disk.fault_count() {
-        0 => disk.first_fault().is_empty(),
-        _ => disk.first_fault() == path,
+        0 => disk.path_of_first_fault().is_empty(),
+        _ => disk.path_of_first_fault() == path,
     }
 }
 

@@ -26,7 +26,7 @@ fn fork_says<I: Interrupt>(alloc: Global, interrupt: &mut I, wants: &[bool]) -> 
 
 fn plans(alloc: Global) -> bool {
     let mut never = PlannedInterrupt::never();
-    let mut third = PlannedInterrupt::raised_from(3);
+    let mut third = PlannedInterrupt::raised_from_nth_question(3);
     says(&mut never, &[false, false, false])
         && says(&mut third, &[false, false, true, true])
         && fork_says(alloc, &mut third, &[false, false, true])
@@ -74,7 +74,7 @@ fn fills(alloc: Global) -> bool {
                 && sink.write(b"defg") == Ok(2)
                 && sink.write(b"h") == Ok(0)
                 && sink.write(b"") == Err(Fault)
-                && sink.written() == b"abcde".as_slice()
+                && sink.written_bytes() == b"abcde".as_slice()
                 && sink.room() == 0
         }
         Err(_) => false,

@@ -17,7 +17,7 @@ fn root(alloc: Global) -> MemoryWorktree {
 fn counts(alloc: Global, stop: u64) -> Result<usize, WalkError> {
     let mut tree = root(alloc);
     let mut store = MemoryStore::new(alloc);
-    let mut interrupt = PlannedInterrupt::raised_from(stop);
+    let mut interrupt = PlannedInterrupt::raised_from_nth_question(stop);
     walk_at_once(alloc, &mut tree, &mut store, &mut interrupt, b"/")
 }
 
@@ -26,7 +26,9 @@ fn fails(alloc: Global) -> bool {
     let mut tree = root(alloc);
     let mut store = MemoryStore::new(alloc);
     let mut interrupt = PlannedInterrupt::never();
-    let is_planned = tree.plan_fault(alloc, CallKind::ListOpen, 1).is_ok();
+    let is_planned = tree
+        .plan_fault_of_nth_call(alloc, CallKind::ListOpen, 1)
+        .is_ok();
     let walked = walk_at_once(alloc, &mut tree, &mut store, &mut interrupt, b"/");
     is_planned && walked == Err(WalkError::List) && tree.fault_count() == 1
 }

@@ -153,7 +153,9 @@ fn a_resolution_follows_32_links(rt: HostRuntime) {
 /// itself.
 fn counts_faults(alloc: Global) -> bool {
     let mut tree = sample(alloc, false);
-    let is_planned = tree.plan_fault(alloc, CallKind::Kind, 2).is_ok();
+    let is_planned = tree
+        .plan_fault_of_nth_call(alloc, CallKind::Kind, 2)
+        .is_ok();
     match tree.fork(alloc) {
         Ok(other) => {
             let mut fork = other;
@@ -212,9 +214,15 @@ fn fails_to_list(alloc: Global, tree: &mut MemoryWorktree) -> bool {
 /// The calls that ask fail where that is planned of their own kind, the first time alone.
 fn asks_fail_as_planned(alloc: Global) -> bool {
     let mut tree = sample(alloc, false);
-    let is_planned = tree.plan_fault(alloc, CallKind::KindFollowing, 1).is_ok()
-        && tree.plan_fault(alloc, CallKind::ListEntry, 1).is_ok()
-        && tree.plan_fault(alloc, CallKind::Read, 1).is_ok();
+    let is_planned = tree
+        .plan_fault_of_nth_call(alloc, CallKind::KindFollowing, 1)
+        .is_ok()
+        && tree
+            .plan_fault_of_nth_call(alloc, CallKind::ListEntry, 1)
+            .is_ok()
+        && tree
+            .plan_fault_of_nth_call(alloc, CallKind::Read, 1)
+            .is_ok();
     is_planned
         && has_kind(alloc, &mut tree, b"/w/f", false, b"file")
         && tree.kind_following(alloc, b"/w/f") == Err(ReadError::Fault)
@@ -238,7 +246,7 @@ fn forks_are_absorbed(rt: HostRuntime) {
 
 fn lists_backwards(alloc: Global) -> bool {
     let mut tree = sample(alloc, false);
-    tree.set_reversed(true);
+    tree.set_listing_reversed(true);
     lists(alloc, &mut tree, b"/w/d", false, b"g B ")
 }
 

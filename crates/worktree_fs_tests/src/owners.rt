@@ -4,7 +4,7 @@ use std::alloc::Global;
 use worktree_fs::{DiskOwners, MemoryOwners, OwnedNode, Owners, Ownership, ReadError};
 
 fn device(owners: &mut DiskOwners<'_>, path: &[u8]) -> Option<u64> {
-    match owners.ownership(path, true) {
+    match owners.ownership_at_path(path, true) {
         Ok(Some(found)) => Some(found.device),
         _ => None,
     }
@@ -17,11 +17,11 @@ fn tells_devices(owners: &mut DiskOwners<'_>) -> bool {
 }
 
 fn tells_nothing(owners: &mut DiskOwners<'_>, path: &[u8]) -> bool {
-    owners.ownership(path, false) == Ok(None)
+    owners.ownership_at_path(path, false) == Ok(None)
 }
 
 fn fails(owners: &mut DiskOwners<'_>, path: &[u8]) -> bool {
-    owners.ownership(path, false) == Err(ReadError::Fault)
+    owners.ownership_at_path(path, false) == Err(ReadError::Fault)
 }
 
 #[test]
@@ -56,7 +56,7 @@ fn is_owned_by(alloc: Global, path: &[u8], follow: bool, want: Option<u32>) -> b
     match one_owner(alloc) {
         Some(owners) => {
             let mut owners = owners;
-            match owners.ownership(path, follow) {
+            match owners.ownership_at_path(path, follow) {
                 Ok(found) => found.map(|found| found.owner) == want,
                 Err(_) => false,
             }

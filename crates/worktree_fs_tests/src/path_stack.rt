@@ -1,6 +1,6 @@
 //! Lookups of a stack of paths, with a delegate that keeps what it is told.
 ghost use Rattle.std.specs.Prelude.{◌≡◌, ◌+◌, ◌-◌, ◌^◌, ◌<◌, ◌≤◌, ◌++◌, ◌∷◌, [], min, if◌then◌else◌, length, map, take};
-ghost use Rattle.worktree_fs.specs.PathStack.{push_directory, push, pop_directory, called};
+ghost use Rattle.worktree_fs.specs.PathStack.{push_directory, push, pop_directory, call_with_refusal};
 
 use gitbase_core::{OutOfMemory, PathText};
 use std::alloc::Global;
@@ -114,7 +114,7 @@ fn sign(told: &Told) -> u8 {
 impl<'a, A: Abort> PathDelegate for Recorder<'a, A> {
     type Error = Planned;
 
-    ghost given = { λ r. map (λ t. called
+    ghost given = { λ r. map (λ t. call_with_refusal
         (if t.is_pop then pop_directory else if t.is_directory then push_directory t.path
         else push t.path t.is_last)
         t.is_refused) r.calls.items };
@@ -198,7 +198,7 @@ fn holds<A: Abort>(rt: &A, alloc: Global, stack: &mut PathStack, row: &[u8]) -> 
     let (calls, rest) = split_at_byte(rest, b'`');
     let (pushed, current) = split_at_byte(rest, b'`');
     looks_up(rt, alloc, stack, path, refused.len(), want, calls)
-        && stack.pushed() == pushed.len()
+        && stack.count_pushed_directories() == pushed.len()
         && stack.current() == current
 }
 
@@ -226,17 +226,17 @@ fn lookups(rt: HostRuntime) {
 
 /// Goes down along a path without a delegate.
 fn goes_down(alloc: Global, stack: &mut PathStack, path: &[u8]) -> bool {
-    stack.enter_root();
+    stack.push_root_without_delegate();
     let mut rest = path;
     for _ in 0..3u8 {
         let Some(next) = next_component(rest) else {
             return false;
         };
-        if stack.set_current(alloc, next.name).is_err() {
+        if stack.set_current_to_child(alloc, next.name).is_err() {
             return false;
         }
         if !next.is_last {
-            stack.enter_current();
+            stack.push_current_as_directory();
         }
         rest = next.rest;
     }
@@ -247,7 +247,7 @@ fn stands(stack: &PathStack) -> bool {
     stack.root() == b"/".as_slice()
         && stack.current() == b"/a/b/c".as_slice()
         && stack.current_relative() == b"a/b/c".as_slice()
-        && stack.deepest() == b"a/b".as_slice()
+        && stack.deepest_pushed_directory() == b"a/b".as_slice()
         && stack.count_directories_to_pop(b"a/c") == 1
 }
 
@@ -256,7 +256,11 @@ fn goes_up(stack: &mut PathStack) -> bool {
     let is_left = stack.current() == b"/a/b".as_slice();
     let is_popped = stack.pop() && stack.components_to_push(b"a/b/c") == b"/b/c".as_slice();
     let is_root = stack.pop() && stack.pop() && !stack.pop();
-    is_left && is_popped && is_root && stack.pushed() == 0 && stack.current() == b"/".as_slice()
+    is_left
+        && is_popped
+        && is_root
+        && stack.count_pushed_directories() == 0
+        && stack.current() == b"/".as_slice()
 }
 
 /// The steps that a caller takes without a delegate.

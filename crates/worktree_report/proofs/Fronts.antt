@@ -1,9 +1,9 @@
 -- Paths below a directory, component by component.
 use Rattle.std.proofs.Common.{◌≡◌, ◌<◌, ◌-◌, ℕ, zero, suc, List, [], ◌∷◌, refl, arith}
-use Rattle.gitbase_core.specs.Path.{joined}
+use Rattle.gitbase_core.specs.Path.{path_joined_with_slash}
 use Rattle.worktree_report.specs.Below.{join_first_components}
 
-pub below-step : (directory : List ℕ) (n : ℕ) (name : List ℕ) (names : List (List ℕ)) → 0 < n → join_first_components directory n (name ∷ names) ≡ join_first_components (joined directory name) (n - 1) names
+pub below-step : (directory : List ℕ) (n : ℕ) (name : List ℕ) (names : List (List ℕ)) → 0 < n → join_first_components directory n (name ∷ names) ≡ join_first_components (path_joined_with_slash directory name) (n - 1) names
 unfolding join_first_components
 below-step directory zero name names some = absurd (omega (arith, some))
 below-step directory (suc n) name names some = let e : suc n - 1 ≡ n = omega arith in rw e refl

@@ -5,11 +5,11 @@ use Rattle.gitbase_core.specs.declared.entry.IndexEntry.{IndexEntry}
 use Rattle.worktree_report.specs.declared.setup.option.SetupOption.{SetupOption}
 use Rattle.worktree_report.specs.declared.setup.files.SetupBlob.{SetupBlob}
 use Rattle.worktree_report.specs.ConfigFiles.{ConfigFile}
-use Rattle.worktree_report.specs.SetupSaid.{Said, nothing, merge_said}
-use Rattle.worktree_report.specs.SetupKeywords.{line_of}
-use Rattle.worktree_report.specs.SetupText.{said_by_line, said, is_refused, add_setup_line, first_outside}
+use Rattle.worktree_report.specs.SetupSaid.{SetupDraft, empty_setup_draft, merge_setup_drafts}
+use Rattle.worktree_report.specs.SetupKeywords.{parse_setup_line}
+use Rattle.worktree_report.specs.SetupText.{draft_of_setup_line, draft_of_lines, is_line_refused_behind_draft, add_setup_line, number_of_first_bad_line}
 
-abbrev said_of : List SetupOption → List IndexEntry → List SetupBlob → List ℕ → List ℕ → List (List ℕ) → List (List ℕ) → List ConfigFile → Said
+abbrev said_of : List SetupOption → List IndexEntry → List SetupBlob → List ℕ → List ℕ → List (List ℕ) → List (List ℕ) → List ConfigFile → SetupDraft
 said_of options index blobs overrides globals specs worktrees configs =
     record { options = options; index = index; blobs = blobs; overrides = overrides; globals = globals; specs = specs; worktrees = worktrees; configs = configs }
 
@@ -19,24 +19,24 @@ same : {o1 o2 : List SetupOption} {i1 i2 : List IndexEntry} {b1 b2 : List SetupB
 same o i b r g s w c = cc
 
 -- saying nothing more is saying no more
-both-nothing : (a : Said) → merge_said a nothing ≡ a
+both-nothing : (a : SetupDraft) → merge_setup_drafts a empty_setup_draft ≡ a
 both-nothing a =
     same (append-nil a.options) (append-nil a.index) (append-nil a.blobs) (append-nil a.overrides) (append-nil a.globals) (append-nil a.specs) (append-nil a.worktrees) (append-nil a.configs)
 
-both-assoc : (a b c : Said) → merge_said (merge_said a b) c ≡ merge_said a (merge_said b c)
+both-assoc : (a b c : SetupDraft) → merge_setup_drafts (merge_setup_drafts a b) c ≡ merge_setup_drafts a (merge_setup_drafts b c)
 both-assoc a b c =
     same (append_assoc a.options b.options c.options) (append_assoc a.index b.index c.index) (append_assoc a.blobs b.blobs c.blobs) (append_assoc a.overrides b.overrides c.overrides)
     (append_assoc a.globals b.globals c.globals) (append_assoc a.specs b.specs c.specs) (append_assoc a.worktrees b.worktrees c.worktrees) (append_assoc a.configs b.configs c.configs)
 
-said-append : (lines : List (List ℕ)) (line : List ℕ) → said (lines ++ line ∷ []) ≡ merge_said (said lines) (said_by_line (line_of line))
-unfolding said
-said-append [] line = both-nothing (said_by_line (line_of line))
+said-append : (lines : List (List ℕ)) (line : List ℕ) → draft_of_lines (lines ++ line ∷ []) ≡ merge_setup_drafts (draft_of_lines lines) (draft_of_setup_line (parse_setup_line line))
+unfolding draft_of_lines
+said-append [] line = both-nothing (draft_of_setup_line (parse_setup_line line))
 said-append (first ∷ lines) line =
-    ap (merge_said (said_by_line (line_of first))) (said-append lines line) ∙ sym (both-assoc (said_by_line (line_of first)) (said lines) (said_by_line (line_of line)))
+    ap (merge_setup_drafts (draft_of_setup_line (parse_setup_line first))) (said-append lines line) ∙ sym (both-assoc (draft_of_setup_line (parse_setup_line first)) (draft_of_lines lines) (draft_of_setup_line (parse_setup_line line)))
 
 -- the step of the code is that of the definition
-taken-said : (earlier : List (List ℕ)) (line : List ℕ) → add_setup_line (said earlier) (line_of line) ≡ cond (is_refused (said earlier) (line_of line)) None (Some (said (earlier ++ line ∷ [])))
-taken-said earlier line = ap (λ (s : Said). cond (is_refused (said earlier) (line_of line)) None (Some s)) (sym (said-append earlier line))
+taken-said : (earlier : List (List ℕ)) (line : List ℕ) → add_setup_line (draft_of_lines earlier) (parse_setup_line line) ≡ cond (is_line_refused_behind_draft (draft_of_lines earlier) (parse_setup_line line)) None (Some (draft_of_lines (earlier ++ line ∷ [])))
+taken-said earlier line = ap (λ (s : SetupDraft). cond (is_line_refused_behind_draft (draft_of_lines earlier) (parse_setup_line line)) None (Some s)) (sym (said-append earlier line))
 
 refused_is : {X : Type 0} (b : Bool) (x : X) → cond b None (Some x) ≡ None → b ≡ true
 refused_is true x e = refl
@@ -46,49 +46,49 @@ taken_is : {X : Type 0} (b : Bool) (x y : X) → cond b None (Some x) ≡ Some y
 taken_is true x y e = absurd cc
 taken_is false x y e = (refl, cc)
 
-module _ (lines : List (List ℕ)) (i : ℕ) (line : List ℕ) (all : Said) (within : i < length lines) (is : line ≡ get_or lines i line)
-    (so_far : all ≡ said (take i lines)) (same : first_outside (take i lines) (drop i lines) ≡ first_outside [] lines) where
-  step : first_outside [] lines ≡ cond (is_refused (said (take i lines)) (line_of line)) (Some (length (take i lines) + 1)) (first_outside (take i lines ++ line ∷ []) (drop (suc i) lines))
-  unfolding first_outside
-  step = sym same ∙ ap (first_outside (take i lines)) (drop-cons lines i line within ∙ ap (λ (x : List ℕ). x ∷ drop (suc i) lines) (sym is))
+module _ (lines : List (List ℕ)) (i : ℕ) (line : List ℕ) (all : SetupDraft) (within : i < length lines) (is : line ≡ get_or lines i line)
+    (so_far : all ≡ draft_of_lines (take i lines)) (same : number_of_first_bad_line (take i lines) (drop i lines) ≡ number_of_first_bad_line [] lines) where
+  step : number_of_first_bad_line [] lines ≡ cond (is_line_refused_behind_draft (draft_of_lines (take i lines)) (parse_setup_line line)) (Some (length (take i lines) + 1)) (number_of_first_bad_line (take i lines ++ line ∷ []) (drop (suc i) lines))
+  unfolding number_of_first_bad_line
+  step = sym same ∙ ap (number_of_first_bad_line (take i lines)) (drop-cons lines i line within ∙ ap (λ (x : List ℕ). x ∷ drop (suc i) lines) (sym is))
 
-  by_meaning : add_setup_line all (line_of line) ≡ cond (is_refused (said (take i lines)) (line_of line)) None (Some (said (take i lines ++ line ∷ [])))
-  by_meaning = ap (λ (s : Said). add_setup_line s (line_of line)) so_far ∙ taken-said (take i lines) line
+  by_meaning : add_setup_line all (parse_setup_line line) ≡ cond (is_line_refused_behind_draft (draft_of_lines (take i lines)) (parse_setup_line line)) None (Some (draft_of_lines (take i lines ++ line ∷ [])))
+  by_meaning = ap (λ (s : SetupDraft). add_setup_line s (parse_setup_line line)) so_far ∙ taken-said (take i lines) line
 
   -- a line that is not taken is the first one outside
-  pub refused : add_setup_line all (line_of line) ≡ None → first_outside [] lines ≡ Some (i + 1)
+  pub refused : add_setup_line all (parse_setup_line line) ≡ None → number_of_first_bad_line [] lines ≡ Some (i + 1)
   refused none =
-      let outside : is_refused (said (take i lines)) (line_of line) ≡ true = refused_is (is_refused (said (take i lines)) (line_of line)) (said (take i lines ++ line ∷ [])) (sym by_meaning ∙ none) in
-      let here : first_outside [] lines ≡ Some (length (take i lines) + 1) = step ∙ ap (λ b. cond b (Some (length (take i lines) + 1)) (first_outside (take i lines ++ line ∷ []) (drop (suc i) lines))) outside in
+      let outside : is_line_refused_behind_draft (draft_of_lines (take i lines)) (parse_setup_line line) ≡ true = refused_is (is_line_refused_behind_draft (draft_of_lines (take i lines)) (parse_setup_line line)) (draft_of_lines (take i lines ++ line ∷ [])) (sym by_meaning ∙ none) in
+      let here : number_of_first_bad_line [] lines ≡ Some (length (take i lines) + 1) = step ∙ ap (λ b. cond b (Some (length (take i lines) + 1)) (number_of_first_bad_line (take i lines ++ line ∷ []) (drop (suc i) lines))) outside in
       let number : length (take i lines) + 1 ≡ i + 1 = omega (arith, length-take i lines) in
       here ∙ ap (λ (n : ℕ). Some n) number
 
   -- behind a line that is taken the search goes on
-  pub goes_on : (next : Said) → add_setup_line all (line_of line) ≡ Some next → (next ≡ said (take (i + 1) lines)) × (first_outside (take (i + 1) lines) (drop (i + 1) lines) ≡ first_outside [] lines)
+  pub goes_on : (next : SetupDraft) → add_setup_line all (parse_setup_line line) ≡ Some next → (next ≡ draft_of_lines (take (i + 1) lines)) × (number_of_first_bad_line (take (i + 1) lines) (drop (i + 1) lines) ≡ number_of_first_bad_line [] lines)
   goes_on next some =
-      let h = taken_is (is_refused (said (take i lines)) (line_of line)) (said (take i lines ++ line ∷ [])) next (sym by_meaning ∙ some) in
+      let h = taken_is (is_line_refused_behind_draft (draft_of_lines (take i lines)) (parse_setup_line line)) (draft_of_lines (take i lines ++ line ∷ [])) next (sym by_meaning ∙ some) in
       let longer : take (i + 1) lines ≡ take i lines ++ line ∷ [] = take_more lines i line within ∙ ap (λ (x : List ℕ). take i lines ++ x ∷ []) (sym is) in
-      let more : first_outside [] lines ≡ first_outside (take i lines ++ line ∷ []) (drop (suc i) lines) =
-      step ∙ ap (λ b. cond b (Some (length (take i lines) + 1)) (first_outside (take i lines ++ line ∷ []) (drop (suc i) lines))) h.0 in
-      (h.1 ∙ ap said (sym longer), rw (longer, add-one) (sym more))
+      let more : number_of_first_bad_line [] lines ≡ number_of_first_bad_line (take i lines ++ line ∷ []) (drop (suc i) lines) =
+      step ∙ ap (λ b. cond b (Some (length (take i lines) + 1)) (number_of_first_bad_line (take i lines ++ line ∷ []) (drop (suc i) lines))) h.0 in
+      (h.1 ∙ ap draft_of_lines (sym longer), rw (longer, add-one) (sym more))
 
 -- behind the last line no line is outside
-pub all_read : (lines : List (List ℕ)) (i : ℕ) (all : Said) → length lines ≤ i → all ≡ said (take i lines) → first_outside (take i lines) (drop i lines) ≡ first_outside [] lines
-    → (first_outside [] lines ≡ None) × (all ≡ said lines)
-unfolding first_outside
-all_read lines i all past so_far same = (sym same ∙ ap (first_outside (take i lines)) (drop_all i lines past), so_far ∙ ap said (take_all i lines past))
+pub all_read : (lines : List (List ℕ)) (i : ℕ) (all : SetupDraft) → length lines ≤ i → all ≡ draft_of_lines (take i lines) → number_of_first_bad_line (take i lines) (drop i lines) ≡ number_of_first_bad_line [] lines
+    → (number_of_first_bad_line [] lines ≡ None) × (all ≡ draft_of_lines lines)
+unfolding number_of_first_bad_line
+all_read lines i all past so_far same = (sym same ∙ ap (number_of_first_bad_line (take i lines)) (drop_all i lines past), so_far ∙ ap draft_of_lines (take_all i lines past))
 
 -- the same, where the lines are slices
-module _ (refs : List (Bor (List ℕ))) (d : Bor (List ℕ)) (i : ℕ) (all : Said) (within : i < length refs)
-    (so_far : all ≡ said (take i (map (λ r. r.now) refs))) (same : first_outside (take i (map (λ r. r.now) refs)) (drop i (map (λ r. r.now) refs)) ≡ first_outside [] (map (λ r. r.now) refs)) where
+module _ (refs : List (Bor (List ℕ))) (d : Bor (List ℕ)) (i : ℕ) (all : SetupDraft) (within : i < length refs)
+    (so_far : all ≡ draft_of_lines (take i (map (λ r. r.now) refs))) (same : number_of_first_bad_line (take i (map (λ r. r.now) refs)) (drop i (map (λ r. r.now) refs)) ≡ number_of_first_bad_line [] (map (λ r. r.now) refs)) where
   inside : i < length (map (λ (r : Bor (List ℕ)). r.now) refs)
   inside = omega (arith, length-map refs (λ (r : Bor (List ℕ)). r.now))
 
   read : (get_or refs i d).now ≡ get_or (map (λ r. r.now) refs) i (get_or refs i d).now
   read = sym (get_or-map (λ (r : Bor (List ℕ)). r.now) refs i d (get_or refs i d).now within)
 
-  pub refused_ref : add_setup_line all (line_of (get_or refs i d).now) ≡ None → first_outside [] (map (λ r. r.now) refs) ≡ Some (i + 1)
+  pub refused_ref : add_setup_line all (parse_setup_line (get_or refs i d).now) ≡ None → number_of_first_bad_line [] (map (λ r. r.now) refs) ≡ Some (i + 1)
   refused_ref = refused (map (λ r. r.now) refs) i (get_or refs i d).now all inside read so_far same
 
-  pub goes_on_ref : (next : Said) → add_setup_line all (line_of (get_or refs i d).now) ≡ Some next → (next ≡ said (take (i + 1) (map (λ r. r.now) refs))) × (first_outside (take (i + 1) (map (λ r. r.now) refs)) (drop (i + 1) (map (λ r. r.now) refs)) ≡ first_outside [] (map (λ r. r.now) refs))
+  pub goes_on_ref : (next : SetupDraft) → add_setup_line all (parse_setup_line (get_or refs i d).now) ≡ Some next → (next ≡ draft_of_lines (take (i + 1) (map (λ r. r.now) refs))) × (number_of_first_bad_line (take (i + 1) (map (λ r. r.now) refs)) (drop (i + 1) (map (λ r. r.now) refs)) ≡ number_of_first_bad_line [] (map (λ r. r.now) refs))
   goes_on_ref = goes_on (map (λ r. r.now) refs) i (get_or refs i d).now all inside read so_far same

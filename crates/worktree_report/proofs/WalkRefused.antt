@@ -10,19 +10,19 @@ use Rattle.dir_classify.specs.declared.error.Error.{Error}
 use Rattle.dir_classify.specs.declared.error.Error.TheVariants as walk
 use Rattle.dir_classify.specs.declared.error.MetadataWhy.TheVariants as metadata
 use Rattle.dir_classify.specs.declared.error.ReadWhy.TheVariants as why
-use Rattle.dir_classify.specs.Refused.{OnFault}
+use Rattle.dir_classify.specs.Refused.{HoldsIfFaultError}
 use Rattle.dir_walk.specs.declared.report.Report.{Report as WalkReport}
-use Rattle.dir_walk.specs.Unopened.{deep_answer, unlisted_answer}
+use Rattle.dir_walk.specs.Unopened.{count_too_deep_in_answer, count_unlisted_in_answer}
 use Rattle.worktree_report.specs.declared.known.Known.{Known}
 use Rattle.worktree_report.specs.declared.refusal.Misread.{Misread}
 use Rattle.worktree_report.specs.declared.report.Report.{Report}
 use Rattle.worktree_report.specs.declared.setup.Setup.{Setup}
-use Rattle.worktree_report.specs.Loads.{of_walk}
-use Rattle.worktree_report.specs.Outside.{OnMisread, OnReading, Stops}
-use Rattle.worktree_report.specs.Reported.{Misreads, OnReportFault, OnWalk}
-use Rattle.worktree_report.specs.Unopened.{deep_report, unlisted_report}
+use Rattle.worktree_report.specs.Loads.{report_error_of_walk_error}
+use Rattle.worktree_report.specs.Outside.{HoldsOfMisread, HoldsIfReadingError, StopsReadingAtError}
+use Rattle.worktree_report.specs.Reported.{MisreadsExactlyWhereSaid, HoldsIfReportFault, HoldsOfWalkError}
+use Rattle.worktree_report.specs.Unopened.{count_too_deep_in_report, count_unlisted_in_report}
 
-pub on_walk : (Holds : Error → Type 0) (e : Error) → Holds e → OnWalk Holds (of_walk e)
+pub on_walk : (Holds : Error → Type 0) (e : Error) → Holds e → HoldsOfWalkError Holds (report_error_of_walk_error e)
 on_walk Holds walk.Interrupted h = h
 on_walk Holds (walk.WorktreeRootIsFile root) h = h
 on_walk Holds (walk.NormalizeRoot root) h = h
@@ -34,7 +34,7 @@ on_walk Holds (walk.DirEntry path) h = h
 on_walk Holds (walk.TooDeep path) h = h
 on_walk Holds walk.OutOfMemory h = tt
 
-pub unlisted_so_too : (e : Error) → unlisted_answer {T = WalkReport} (Err e) ≤ unlisted_report {T = Report} (Err (of_walk e))
+pub unlisted_so_too : (e : Error) → count_unlisted_in_answer {T = WalkReport} (Err e) ≤ count_unlisted_in_report {T = Report} (Err (report_error_of_walk_error e))
 unlisted_so_too walk.Interrupted = omega arith
 unlisted_so_too (walk.WorktreeRootIsFile root) = omega arith
 unlisted_so_too (walk.NormalizeRoot root) = omega arith
@@ -46,7 +46,7 @@ unlisted_so_too (walk.DirEntry path) = omega arith
 unlisted_so_too (walk.TooDeep path) = omega arith
 unlisted_so_too walk.OutOfMemory = omega arith
 
-pub deep_so_too : (e : Error) → deep_report {T = Report} (Err (of_walk e)) ≤ deep_answer {T = WalkReport} (Err e)
+pub deep_so_too : (e : Error) → count_too_deep_in_report {T = Report} (Err (report_error_of_walk_error e)) ≤ count_too_deep_in_answer {T = WalkReport} (Err e)
 deep_so_too walk.Interrupted = omega arith
 deep_so_too (walk.WorktreeRootIsFile root) = omega arith
 deep_so_too (walk.NormalizeRoot root) = omega arith
@@ -58,7 +58,7 @@ deep_so_too (walk.DirEntry path) = omega arith
 deep_so_too (walk.TooDeep path) = omega arith
 deep_so_too walk.OutOfMemory = omega arith
 
-failed_lookup : (Failed Failed' Stored : Type 0) (e : AtPathError) → (Failed → Failed') → lookups.OnFault Failed Stored e → lookups.OnFault Failed' Stored e
+failed_lookup : (Failed Failed' Stored : Type 0) (e : AtPathError) → (Failed → Failed') → lookups.HoldsOnFaultError Failed Stored e → lookups.HoldsOnFaultError Failed' Stored e
 failed_lookup Failed Failed' Stored inner.NotNormal wide h = tt
 failed_lookup Failed Failed' Stored (inner.Component c) wide h = tt
 failed_lookup Failed Failed' Stored (inner.Collision path) wide h = tt
@@ -72,7 +72,7 @@ failed_lookup Failed Failed' Stored (inner.Blob id blobs.NotABlob) wide h = tt
 failed_lookup Failed Failed' Stored (inner.Blob id blobs.Fault) wide h = h
 failed_lookup Failed Failed' Stored inner.OutOfMemory wide h = tt
 
-pub failed_walk : (Failed Failed' Stored : Type 0) (e : Error) → (Failed → Failed') → OnFault Failed Stored e → OnReportFault Failed' Stored (of_walk e)
+pub failed_walk : (Failed Failed' Stored : Type 0) (e : Error) → (Failed → Failed') → HoldsIfFaultError Failed Stored e → HoldsIfReportFault Failed' Stored (report_error_of_walk_error e)
 failed_walk Failed Failed' Stored walk.Interrupted wide h = tt
 failed_walk Failed Failed' Stored (walk.WorktreeRootIsFile root) wide h = tt
 failed_walk Failed Failed' Stored (walk.NormalizeRoot root) wide h = tt
@@ -87,7 +87,7 @@ failed_walk Failed Failed' Stored (walk.DirEntry path) wide h = wide h
 failed_walk Failed Failed' Stored (walk.TooDeep path) wide h = tt
 failed_walk Failed Failed' Stored walk.OutOfMemory wide h = tt
 
-pub walk_is_later : (given : Result (Option Known) Misread) (known : Option Known) → given ≡ Ok known → (e : Error) → Misreads given (of_walk e)
+pub walk_is_later : (given : Result (Option Known) Misread) (known : Option Known) → given ≡ Ok known → (e : Error) → MisreadsExactlyWhereSaid given (report_error_of_walk_error e)
 walk_is_later given known is walk.Interrupted = (known, is)
 walk_is_later given known is (walk.WorktreeRootIsFile root) = (known, is)
 walk_is_later given known is (walk.NormalizeRoot root) = (known, is)
@@ -99,7 +99,7 @@ walk_is_later given known is (walk.DirEntry path) = (known, is)
 walk_is_later given known is (walk.TooDeep path) = (known, is)
 walk_is_later given known is walk.OutOfMemory = tt
 
-pub walk_is_inside : (Holds : Misread → Type 0) (e : Error) → OnMisread Holds (of_walk e)
+pub walk_is_inside : (Holds : Misread → Type 0) (e : Error) → HoldsOfMisread Holds (report_error_of_walk_error e)
 walk_is_inside Holds walk.Interrupted = tt
 walk_is_inside Holds (walk.WorktreeRootIsFile root) = tt
 walk_is_inside Holds (walk.NormalizeRoot root) = tt
@@ -111,7 +111,7 @@ walk_is_inside Holds (walk.DirEntry path) = tt
 walk_is_inside Holds (walk.TooDeep path) = tt
 walk_is_inside Holds walk.OutOfMemory = tt
 
-pub walk_is_no_reading : (Holds : Type 0) (e : Error) → OnReading Holds (of_walk e)
+pub walk_is_no_reading : (Holds : Type 0) (e : Error) → HoldsIfReadingError Holds (report_error_of_walk_error e)
 walk_is_no_reading Holds walk.Interrupted = tt
 walk_is_no_reading Holds (walk.WorktreeRootIsFile root) = tt
 walk_is_no_reading Holds (walk.NormalizeRoot root) = tt
@@ -123,7 +123,7 @@ walk_is_no_reading Holds (walk.DirEntry path) = tt
 walk_is_no_reading Holds (walk.TooDeep path) = tt
 walk_is_no_reading Holds walk.OutOfMemory = tt
 
-pub walk_stops_nothing : {W : Type 0} (w : WorktreeOf W) (w0 w1 : W) (setup : Setup) (e : Error) → Stops w w0 w1 setup (of_walk e)
+pub walk_stops_nothing : {W : Type 0} (w : WorktreeOf W) (w0 w1 : W) (setup : Setup) (e : Error) → StopsReadingAtError w w0 w1 setup (report_error_of_walk_error e)
 walk_stops_nothing w w0 w1 setup walk.Interrupted = tt
 walk_stops_nothing w w0 w1 setup (walk.WorktreeRootIsFile root) = tt
 walk_stops_nothing w w0 w1 setup (walk.NormalizeRoot root) = tt

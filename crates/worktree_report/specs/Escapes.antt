@@ -7,47 +7,47 @@ abbrev pub hex_digit : ℕ → ℕ
 hex_digit n = if nat_lt n 10 then 48 + n else 87 + n
 
 -- a control byte, DEL or the backslash
-abbrev pub is_escaped : ℕ → Bool
-is_escaped b = nat_lt b 32 || (b == 127 || b == 92)
+abbrev pub needs_escape : ℕ → Bool
+needs_escape b = nat_lt b 32 || (b == 127 || b == 92)
 
 -- a byte as a backslash and two digits
-abbrev pub spelled_out : ℕ → List ℕ
-spelled_out b = 92 ∷ hex_digit (b / 16) ∷ hex_digit (b % 16) ∷ []
+abbrev pub hex_escape_of_byte : ℕ → List ℕ
+hex_escape_of_byte b = 92 ∷ hex_digit (b / 16) ∷ hex_digit (b % 16) ∷ []
 
-abbrev pub escaped_byte : ℕ → List ℕ
-escaped_byte b = if is_escaped b then spelled_out b else b ∷ []
+abbrev pub byte_escaped_if_needed : ℕ → List ℕ
+byte_escaped_if_needed b = if needs_escape b then hex_escape_of_byte b else b ∷ []
 
 -- a path as the report writes it
-abbrev pub escaped : List ℕ → List ℕ
-escaped bytes = flat_map escaped_byte bytes
+abbrev pub path_escaped : List ℕ → List ℕ
+path_escaped bytes = flat_map byte_escaped_if_needed bytes
 
 -- the same within a word, which spaces end
-abbrev pub escaped_byte_in_word : ℕ → List ℕ
-escaped_byte_in_word b = if is_escaped b || b == 32 then spelled_out b else b ∷ []
+abbrev pub byte_escaped_in_word : ℕ → List ℕ
+byte_escaped_in_word b = if needs_escape b || b == 32 then hex_escape_of_byte b else b ∷ []
 
-abbrev pub escaped_in_word : List ℕ → List ℕ
-escaped_in_word bytes = flat_map escaped_byte_in_word bytes
+abbrev pub path_escaped_in_word : List ℕ → List ℕ
+path_escaped_in_word bytes = flat_map byte_escaped_in_word bytes
 
 -- the value of a lower-case hexadecimal digit
-abbrev pub digit_value : ℕ → Option ℕ
-digit_value b =
+abbrev pub value_of_hex_digit : ℕ → Option ℕ
+value_of_hex_digit b =
     if nat_le 48 b && nat_le b 57 then Some (b - 48)
     else if nat_le 97 b && nat_le b 102 then Some (b - 87)
     else None
 
 -- the byte that the first two bytes write as hexadecimal digits
-abbrev pub hex_byte : List ℕ → Option ℕ
-hex_byte (high ∷ low ∷ rest) = option_and_then (λ (h : ℕ). option_map (λ (l : ℕ). 16 * h + l) (digit_value low)) (digit_value high)
-hex_byte _ = None
+abbrev pub byte_from_two_hex_digits : List ℕ → Option ℕ
+byte_from_two_hex_digits (high ∷ low ∷ rest) = option_and_then (λ (h : ℕ). option_map (λ (l : ℕ). 16 * h + l) (value_of_hex_digit low)) (value_of_hex_digit high)
+byte_from_two_hex_digits _ = None
 
 -- the bytes behind those that are still to be skipped, each backslash with its two digits read as one
-unfoldable pub unescaped_from : ℕ → List ℕ → Option (List ℕ)
-unescaped_from skip [] = Some []
-unescaped_from (suc skip) (b ∷ bytes) = unescaped_from skip bytes
-unescaped_from zero (b ∷ bytes) =
-    if b == 92 then option_and_then (λ (c : ℕ). option_map (λ (text : List ℕ). c ∷ text) (unescaped_from 2 bytes)) (hex_byte bytes)
-    else option_map (λ (text : List ℕ). b ∷ text) (unescaped_from 0 bytes)
+unfoldable pub unescape_after_skipping : ℕ → List ℕ → Option (List ℕ)
+unescape_after_skipping skip [] = Some []
+unescape_after_skipping (suc skip) (b ∷ bytes) = unescape_after_skipping skip bytes
+unescape_after_skipping zero (b ∷ bytes) =
+    if b == 92 then option_and_then (λ (c : ℕ). option_map (λ (text : List ℕ). c ∷ text) (unescape_after_skipping 2 bytes)) (byte_from_two_hex_digits bytes)
+    else option_map (λ (text : List ℕ). b ∷ text) (unescape_after_skipping 0 bytes)
 
 -- The bytes that a text stands for. None where a backslash is not followed by two lower-case hexadecimal digits.
-abbrev pub unescaped : List ℕ → Option (List ℕ)
-unescaped bytes = unescaped_from 0 bytes
+abbrev pub unescape_path : List ℕ → Option (List ℕ)
+unescape_path bytes = unescape_after_skipping 0 bytes

@@ -2,11 +2,11 @@
 use Rattle.worktree_report.specs.declared.words.Command as code
 use Rattle.worktree_report.specs.declared.words.Command.TheVariants as commands
 use Rattle.worktree_report.specs.declared.words.Places as declared
-use Rattle.worktree_report.specs.Words.{Command, Places, report, generate}
+use Rattle.worktree_report.specs.Words.{Command, RootAndSetupPaths, report, generate}
 
-abbrev pub named_by : declared.Places → Places
-named_by places = record { root = places.root.now; setup = places.setup.now }
+abbrev pub places_of_borrowed : declared.Places → RootAndSetupPaths
+places_of_borrowed places = record { root = places.root.now; setup = places.setup.now }
 
-abbrev pub asked_by : code.Command → Command
-asked_by (commands.Report places) = report (named_by places)
-asked_by (commands.Generate count) = generate count
+abbrev pub command_of_borrowed : code.Command → Command
+command_of_borrowed (commands.Report places) = report (places_of_borrowed places)
+command_of_borrowed (commands.Generate count) = generate count

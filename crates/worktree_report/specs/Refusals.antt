@@ -1,14 +1,14 @@
 -- Why there is no report: the status and the line of each refusal.
 use Rattle.std.specs.Prelude.{◌≡◌, ◌⊎◌, ℕ, List, [], ◌∷◌, ◌++◌, Bool, true, false, codes, decimal, Option, Some, None}
-use Rattle.worktree_fs.specs.Causes.{Incremented}
+use Rattle.worktree_fs.specs.Causes.{CountIncrementedOrSaturated}
 use Rattle.worktree_report.specs.declared.refusal.WalkWord.{WalkWord}
 use Rattle.worktree_report.specs.declared.refusal.WalkWord.TheVariants as words
 use Rattle.worktree_report.specs.declared.refusal.Misread.{Misread}
 use Rattle.worktree_report.specs.declared.refusal.Misread.TheVariants as misread
 use Rattle.worktree_report.specs.declared.refusal.Refusal.{Refusal}
 use Rattle.worktree_report.specs.declared.refusal.Refusal.TheVariants as refusals
-use Rattle.worktree_report.specs.Escapes.{escaped}
-use Rattle.worktree_report.specs.Written.{Appends, AppendsPart}
+use Rattle.worktree_report.specs.Escapes.{path_escaped}
+use Rattle.worktree_report.specs.Written.{AppendsWholeBytes, AppendsFrontOfBytes}
 
 -- the status that the program ends with
 abbrev pub status_of : Refusal → ℕ
@@ -21,54 +21,54 @@ status_of refusals.Fault = 6
 status_of refusals.Output = 7
 status_of refusals.OutOfMemory = 8
 
-abbrev pub word_of : WalkWord → List ℕ
-word_of words.RootIsFile = codes "root-is-file"
-word_of words.OutsideRoot = codes "outside-root"
-word_of words.SymlinkInRoot = codes "symlink-in-root"
-word_of words.MissingRoot = codes "missing-root"
-word_of words.AbsentDirectory = codes "absent-directory"
-word_of words.NotADirectory = codes "not-a-directory"
-word_of words.RulesFile = codes "rules-file"
-word_of words.Blob = codes "blob"
-word_of words.Lookup = codes "lookup"
-word_of words.TooDeep = codes "too-deep"
+abbrev pub bytes_of_walk_word : WalkWord → List ℕ
+bytes_of_walk_word words.RootIsFile = codes "root-is-file"
+bytes_of_walk_word words.OutsideRoot = codes "outside-root"
+bytes_of_walk_word words.SymlinkInRoot = codes "symlink-in-root"
+bytes_of_walk_word words.MissingRoot = codes "missing-root"
+bytes_of_walk_word words.AbsentDirectory = codes "absent-directory"
+bytes_of_walk_word words.NotADirectory = codes "not-a-directory"
+bytes_of_walk_word words.RulesFile = codes "rules-file"
+bytes_of_walk_word words.Blob = codes "blob"
+bytes_of_walk_word words.Lookup = codes "lookup"
+bytes_of_walk_word words.TooDeep = codes "too-deep"
 
 -- what is outside its grammar, and where
-abbrev pub misread_line : Misread → List ℕ
-misread_line (misread.Config at line) = codes "config " ++ decimal at ++ codes ": line " ++ decimal line ++ 10 ∷ []
-misread_line (misread.Modules line) = codes "modules: line " ++ decimal line ++ 10 ∷ []
-misread_line (misread.ActiveSpec at) = codes "active: value " ++ decimal at ++ 10 ∷ []
+abbrev pub line_of_misread : Misread → List ℕ
+line_of_misread (misread.Config at line) = codes "config " ++ decimal at ++ codes ": line " ++ decimal line ++ 10 ∷ []
+line_of_misread (misread.Modules line) = codes "modules: line " ++ decimal line ++ 10 ∷ []
+line_of_misread (misread.ActiveSpec at) = codes "active: value " ++ decimal at ++ 10 ∷ []
 
 -- the line on standard error, its line feed included; that of words that ask for nothing is the command's own
-abbrev pub line_of : List ℕ → Refusal → List ℕ
-line_of usage refusals.Interrupted = codes "interrupted\n"
-line_of usage refusals.Usage = usage
-line_of usage (refusals.Setup line) = codes "setup: line " ++ decimal line ++ 10 ∷ []
-line_of usage (refusals.Misread which) = misread_line which
-line_of usage (refusals.Walk word path) = codes "walk: " ++ word_of word ++ 32 ∷ [] ++ escaped path ++ 10 ∷ []
-line_of usage refusals.Fault = codes "worktree fault\n"
-line_of usage refusals.Output = codes "output fault\n"
-line_of usage refusals.OutOfMemory = codes "out of memory\n"
+abbrev pub line_of_refusal : List ℕ → Refusal → List ℕ
+line_of_refusal usage refusals.Interrupted = codes "interrupted\n"
+line_of_refusal usage refusals.Usage = usage
+line_of_refusal usage (refusals.Setup line) = codes "setup: line " ++ decimal line ++ 10 ∷ []
+line_of_refusal usage (refusals.Misread which) = line_of_misread which
+line_of_refusal usage (refusals.Walk word path) = codes "walk: " ++ bytes_of_walk_word word ++ 32 ∷ [] ++ path_escaped path ++ 10 ∷ []
+line_of_refusal usage refusals.Fault = codes "worktree fault\n"
+line_of_refusal usage refusals.Output = codes "output fault\n"
+line_of_refusal usage refusals.OutOfMemory = codes "out of memory\n"
 
 -- The line stands behind what was written before, where that is told, and no write was refused; or one was, behind a front of the line
 -- that is not all of it.
-abbrev pub Says : Option (List ℕ) → Option (List ℕ) → ℕ → ℕ → List ℕ → Type 0
-Says before after refusals_before refusals_after line =
-    (Appends before after line × (refusals_after ≡ refusals_before))
-    ⊎ (AppendsPart before after line × Incremented refusals_before refusals_after)
+abbrev pub WritesLineOrRefusedFront : Option (List ℕ) → Option (List ℕ) → ℕ → ℕ → List ℕ → Type 0
+WritesLineOrRefusedFront before after refusals_before refusals_after line =
+    (AppendsWholeBytes before after line × (refusals_after ≡ refusals_before))
+    ⊎ (AppendsFrontOfBytes before after line × CountIncrementedOrSaturated refusals_before refusals_after)
 
 -- whether the line of a refusal has to be made, which takes memory
-abbrev pub is_made : Refusal → Bool
-is_made (refusals.Setup line) = true
-is_made (refusals.Misread which) = true
-is_made (refusals.Walk word path) = true
-is_made refusals.Interrupted = false
-is_made refusals.Usage = false
-is_made refusals.Fault = false
-is_made refusals.Output = false
-is_made refusals.OutOfMemory = false
+abbrev pub takes_memory_for_line : Refusal → Bool
+takes_memory_for_line (refusals.Setup line) = true
+takes_memory_for_line (refusals.Misread which) = true
+takes_memory_for_line (refusals.Walk word path) = true
+takes_memory_for_line refusals.Interrupted = false
+takes_memory_for_line refusals.Usage = false
+takes_memory_for_line refusals.Fault = false
+takes_memory_for_line refusals.Output = false
+takes_memory_for_line refusals.OutOfMemory = false
 
 -- the line, where it has to be made
-abbrev pub IsLineIfMade : Option (List ℕ) → Refusal → Type 0
-IsLineIfMade None refusal = is_made refusal ≡ false
-IsLineIfMade (Some line) refusal = (line ≡ line_of [] refusal) × (is_made refusal ≡ true)
+abbrev pub IsLineIfTakesMemory : Option (List ℕ) → Refusal → Type 0
+IsLineIfTakesMemory None refusal = takes_memory_for_line refusal ≡ false
+IsLineIfTakesMemory (Some line) refusal = (line ≡ line_of_refusal [] refusal) × (takes_memory_for_line refusal ≡ true)

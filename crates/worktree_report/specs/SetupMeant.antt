@@ -21,88 +21,88 @@ use Rattle.worktree_report.specs.declared.setup.Setup.{Setup}
 use Rattle.worktree_report.specs.declared.setup.meant.Looking.{Looking}
 use Rattle.worktree_report.specs.declared.setup.meant.Reporting.{Reporting}
 use Rattle.worktree_report.specs.Permissions.{all_permissions, isolated_permissions}
-use Rattle.worktree_report.specs.SetupDepth.{depth_of}
-use Rattle.worktree_report.specs.SetupFiles.{stored_after}
-use Rattle.worktree_report.specs.SetupOptions.{is_set_to, option_named}
-use Rattle.worktree_report.specs.SetupSaid.{Said}
-use Rattle.worktree_report.specs.SetupSpecs.{specs_in}
+use Rattle.worktree_report.specs.SetupDepth.{parse_depth_limit}
+use Rattle.worktree_report.specs.SetupFiles.{objects_with_blobs_added}
+use Rattle.worktree_report.specs.SetupOptions.{is_option_set_to, first_option_of_name}
+use Rattle.worktree_report.specs.SetupSaid.{SetupDraft}
+use Rattle.worktree_report.specs.SetupSpecs.{parse_valid_specs}
 
 -- ---- the options, each with its default where no line sets it
 
 -- how untracked paths are reported
-abbrev pub emit_untracked_of : List SetupOption → EmissionMode
-emit_untracked_of options = if is_set_to (codes "emit_untracked") (codes "collapse") options then CollapseDirectory else Matching
+abbrev pub emit_untracked_from_options : List SetupOption → EmissionMode
+emit_untracked_from_options options = if is_option_set_to (codes "emit_untracked") (codes "collapse") options then CollapseDirectory else Matching
 
 -- whether and how ignored paths are
-abbrev pub emit_ignored_of : List SetupOption → Option EmissionMode
-emit_ignored_of options =
-    if is_set_to (codes "emit_ignored") (codes "matching") options then Some Matching
-    else if is_set_to (codes "emit_ignored") (codes "collapse") options then Some CollapseDirectory
+abbrev pub emit_ignored_from_options : List SetupOption → Option EmissionMode
+emit_ignored_from_options options =
+    if is_option_set_to (codes "emit_ignored") (codes "matching") options then Some Matching
+    else if is_option_set_to (codes "emit_ignored") (codes "collapse") options then Some CollapseDirectory
     else None
 
 -- which paths are besides the directory that was folded over them
-abbrev pub emit_collapsed_of : List SetupOption → Option CollapsedEntriesEmissionMode
-emit_collapsed_of options =
-    if is_set_to (codes "emit_collapsed") (codes "mismatch") options then Some OnStatusMismatch
-    else if is_set_to (codes "emit_collapsed") (codes "all") options then Some All
+abbrev pub emit_collapsed_from_options : List SetupOption → Option CollapsedEntriesEmissionMode
+emit_collapsed_from_options options =
+    if is_option_set_to (codes "emit_collapsed") (codes "mismatch") options then Some OnStatusMismatch
+    else if is_option_set_to (codes "emit_collapsed") (codes "all") options then Some All
     else None
 
 -- whether the paths are to be deleted, and how ignored directories are looked into
-abbrev pub for_deletion_of : List SetupOption → Option ForDeletionMode
-for_deletion_of options =
-    if is_set_to (codes "for_deletion") (codes "hide") options then Some IgnoredDirectoriesCanHideNestedRepositories
-    else if is_set_to (codes "for_deletion") (codes "nonbare") options then Some FindNonBareRepositoriesInIgnoredDirectories
-    else if is_set_to (codes "for_deletion") (codes "all") options then Some FindRepositoriesInIgnoredDirectories
+abbrev pub for_deletion_from_options : List SetupOption → Option ForDeletionMode
+for_deletion_from_options options =
+    if is_option_set_to (codes "for_deletion") (codes "hide") options then Some IgnoredDirectoriesCanHideNestedRepositories
+    else if is_option_set_to (codes "for_deletion") (codes "nonbare") options then Some FindNonBareRepositoriesInIgnoredDirectories
+    else if is_option_set_to (codes "for_deletion") (codes "all") options then Some FindRepositoriesInIgnoredDirectories
     else None
 
 -- where rules files are read
-abbrev pub ignore_source_of : List SetupOption → IgnoreSource
-ignore_source_of options =
-    if is_set_to (codes "ignore_source") (codes "mapping") options then ignore_sources.IdMapping
+abbrev pub ignore_source_from_options : List SetupOption → IgnoreSource
+ignore_source_from_options options =
+    if is_option_set_to (codes "ignore_source") (codes "mapping") options then ignore_sources.IdMapping
     else ignore_sources.WorktreeThenIdMappingIfNotSkipped
 
 -- which configurations are read; what is safe in a repository of anybody is all, since nothing that is read is run
-abbrev pub permissions_of : List SetupOption → Permissions
-permissions_of options = if is_set_to (codes "permissions") (codes "isolated") options then isolated_permissions else all_permissions
+abbrev pub permissions_from_options : List SetupOption → Permissions
+permissions_from_options options = if is_option_set_to (codes "permissions") (codes "isolated") options then isolated_permissions else all_permissions
 
 -- how the walk goes
-abbrev pub strategy_of : List SetupOption → Strategy
-strategy_of options = if is_set_to (codes "strategy") (codes "at_once") options then AtOnce else Held
+abbrev pub strategy_from_options : List SetupOption → Strategy
+strategy_from_options options = if is_option_set_to (codes "strategy") (codes "at_once") options then AtOnce else Held
 
 -- those that say how paths are looked at
-unfoldable pub looking_of : List SetupOption → Looking
-looking_of options =
+unfoldable pub classification_options : List SetupOption → Looking
+classification_options options =
     record {
-      ignore_case = is_set_to (codes "ignore_case") (codes "yes") options;
-      recurse_repositories = is_set_to (codes "recurse_repositories") (codes "yes") options;
-      classify_untracked_bare_repositories = is_set_to (codes "classify_untracked_bare_repositories") (codes "yes") options;
-      symlinks_to_directories_are_ignored_like_directories = is_set_to (codes "symlinks_to_directories_are_ignored_like_directories") (codes "yes") options;
-      excludes = not (is_set_to (codes "excludes") (codes "no") options);
-      precious = is_set_to (codes "precious") (codes "yes") options;
-      strict_parents = is_set_to (codes "strict_parents") (codes "yes") options;
-      for_deletion = for_deletion_of options;
-      ignore_source = ignore_source_of options;
-      strategy = strategy_of options;
+      ignore_case = is_option_set_to (codes "ignore_case") (codes "yes") options;
+      recurse_repositories = is_option_set_to (codes "recurse_repositories") (codes "yes") options;
+      classify_untracked_bare_repositories = is_option_set_to (codes "classify_untracked_bare_repositories") (codes "yes") options;
+      symlinks_to_directories_are_ignored_like_directories = is_option_set_to (codes "symlinks_to_directories_are_ignored_like_directories") (codes "yes") options;
+      excludes = not (is_option_set_to (codes "excludes") (codes "no") options);
+      precious = is_option_set_to (codes "precious") (codes "yes") options;
+      strict_parents = is_option_set_to (codes "strict_parents") (codes "yes") options;
+      for_deletion = for_deletion_from_options options;
+      ignore_source = ignore_source_from_options options;
+      strategy = strategy_from_options options;
     }
 
 -- and those that say what is reported
-unfoldable pub reporting_of : List SetupOption → Reporting
-reporting_of options =
+unfoldable pub reporting_options : List SetupOption → Reporting
+reporting_options options =
     record {
-      emit_pruned = is_set_to (codes "emit_pruned") (codes "yes") options;
-      emit_tracked = is_set_to (codes "emit_tracked") (codes "yes") options;
-      emit_untracked = emit_untracked_of options;
-      emit_ignored = emit_ignored_of options;
-      emit_collapsed = emit_collapsed_of options;
-      emit_empty_directories = is_set_to (codes "emit_empty_directories") (codes "yes") options;
-      origins = is_set_to (codes "origins") (codes "yes") options;
-      submodules = is_set_to (codes "submodules") (codes "yes") options;
-      permissions = permissions_of options;
-      print_outcome = is_set_to (codes "print_outcome") (codes "yes") options;
+      emit_pruned = is_option_set_to (codes "emit_pruned") (codes "yes") options;
+      emit_tracked = is_option_set_to (codes "emit_tracked") (codes "yes") options;
+      emit_untracked = emit_untracked_from_options options;
+      emit_ignored = emit_ignored_from_options options;
+      emit_collapsed = emit_collapsed_from_options options;
+      emit_empty_directories = is_option_set_to (codes "emit_empty_directories") (codes "yes") options;
+      origins = is_option_set_to (codes "origins") (codes "yes") options;
+      submodules = is_option_set_to (codes "submodules") (codes "yes") options;
+      permissions = permissions_from_options options;
+      print_outcome = is_option_set_to (codes "print_outcome") (codes "yes") options;
     }
 
-abbrev pub options_from : Looking → Reporting → SetupOptions
-options_from l r =
+abbrev pub merge_option_groups : Looking → Reporting → SetupOptions
+merge_option_groups l r =
     record {
       ignore_case = l.ignore_case;
       recurse_repositories = l.recurse_repositories;
@@ -126,42 +126,42 @@ options_from l r =
       strategy = l.strategy;
     }
 
-unfoldable pub options_meant : List SetupOption → SetupOptions
-options_meant options = options_from (looking_of options) (reporting_of options)
+unfoldable pub setup_options_from_lines : List SetupOption → SetupOptions
+setup_options_from_lines options = merge_option_groups (classification_options options) (reporting_options options)
 
 -- ---- the rest
 
 -- what stands once, by its keyword
-unfoldable pub value_of : List ℕ → List SetupOption → Option (List ℕ)
-value_of name options = option_map (λ (o : SetupOption). o.value) (option_named name options)
+unfoldable pub value_of_named_option : List ℕ → List SetupOption → Option (List ℕ)
+value_of_named_option name options = option_map (λ (o : SetupOption). o.value) (first_option_of_name name options)
 
 -- the depth limit, and its default
-abbrev pub depth_or : Option ℕ → ℕ
-depth_or None = 256
-depth_or (Some depth) = depth
+abbrev pub depth_limit_or_default : Option ℕ → ℕ
+depth_limit_or_default None = 256
+depth_limit_or_default (Some depth) = depth
 
-unfoldable pub depth_meant : List SetupOption → ℕ
-depth_meant options = depth_or (option_and_then depth_of (value_of (codes "depth") options))
+unfoldable pub depth_limit_from_options : List SetupOption → ℕ
+depth_limit_from_options options = depth_limit_or_default (option_and_then parse_depth_limit (value_of_named_option (codes "depth") options))
 
 -- paths in the order of their bytes, each once, with some more in their places
-abbrev pub ordered_after : List (List ℕ) → List (List ℕ) → List (List ℕ)
-ordered_after paths [] = paths
-ordered_after paths (path ∷ more) = ordered_after (insert_key (slice_cmp nat_cmp) paths path) more
+abbrev pub insert_paths_in_order : List (List ℕ) → List (List ℕ) → List (List ℕ)
+insert_paths_in_order paths [] = paths
+insert_paths_in_order paths (path ∷ more) = insert_paths_in_order (insert_key (slice_cmp nat_cmp) paths path) more
 
 -- the setup that is meant by what the lines say
-abbrev pub setup_from_draft : Said → Setup
+abbrev pub setup_from_draft : SetupDraft → Setup
 setup_from_draft all =
     record {
-      git_dir = value_of (codes "git_dir") all.options;
-      current_dir = value_of (codes "current_dir") all.options;
-      root = value_of (codes "root") all.options;
-      depth = depth_meant all.options;
+      git_dir = value_of_named_option (codes "git_dir") all.options;
+      current_dir = value_of_named_option (codes "current_dir") all.options;
+      root = value_of_named_option (codes "root") all.options;
+      depth = depth_limit_from_options all.options;
       index = all.index;
-      blobs = stored_after empty all.blobs;
+      blobs = objects_with_blobs_added empty all.blobs;
       overrides = all.overrides;
       globals = all.globals;
-      specs = specs_in (options_meant all.options).ignore_case all.specs;
-      worktrees = record { keys = ordered_after [] all.worktrees };
+      specs = parse_valid_specs (setup_options_from_lines all.options).ignore_case all.specs;
+      worktrees = record { keys = insert_paths_in_order [] all.worktrees };
       configs = all.configs;
-      options = options_meant all.options;
+      options = setup_options_from_lines all.options;
     }

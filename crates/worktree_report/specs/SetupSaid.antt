@@ -7,7 +7,7 @@ use Rattle.worktree_report.specs.ConfigFiles.{ConfigFile}
 
 -- the options that are set, the entries of the index, the blobs, two texts of ignore rules, the texts of path specs, the paths of
 -- directories that are worktrees of their own, and the configurations
-pub record Said : Type 0 where
+pub record SetupDraft : Type 0 where
   pub options : List SetupOption
   pub index : List IndexEntry
   pub blobs : List SetupBlob
@@ -17,12 +17,12 @@ pub record Said : Type 0 where
   pub worktrees : List (List ℕ)
   pub configs : List ConfigFile
 
-abbrev pub nothing : Said
-nothing = record { options = []; index = []; blobs = []; overrides = []; globals = []; specs = []; worktrees = []; configs = [] }
+abbrev pub empty_setup_draft : SetupDraft
+empty_setup_draft = record { options = []; index = []; blobs = []; overrides = []; globals = []; specs = []; worktrees = []; configs = [] }
 
 -- what is said, and behind it what is said later
-abbrev pub merge_said : Said → Said → Said
-merge_said a b =
+abbrev pub merge_setup_drafts : SetupDraft → SetupDraft → SetupDraft
+merge_setup_drafts a b =
     record {
       options = a.options ++ b.options;
       index = a.index ++ b.index;

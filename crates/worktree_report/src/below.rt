@@ -3,7 +3,7 @@ ghost use Rattle.std.specs.Prelude.{◌≡◌, ℕ, length, drop, IfOk};
 ghost use Rattle.gitbase_core.specs.Path.{components};
 ghost use Rattle.worktree_report.specs.Below.{join_first_components, join_components_through};
 
-use gitbase_core::{OutOfMemory, PathText, split_component};
+use gitbase_core::{OutOfMemory, PathText, split_first_component};
 use std::alloc::Global;
 
 /// A directory and the first components of a path below it, so many of them, or all where there are
@@ -21,7 +21,7 @@ pub fn join_first_components(
     let mut left = count;
     let mut rest = path;
     while left > 0 {
-        let Some((name, after)) = split_component(rest) else {
+        let Some((name, after)) = split_first_component(rest) else {
             return Ok(front);
         };
         front.push_component(alloc, name)?;
@@ -42,7 +42,7 @@ pub fn join_components_through(
         path.now)) }
 {
     let mut front = PathText::from_bytes(alloc, directory)?;
-    let Some((name, after)) = split_component(path) else {
+    let Some((name, after)) = split_first_component(path) else {
         return Ok(front);
     };
     front.push_component(alloc, name)?;
@@ -50,7 +50,7 @@ pub fn join_components_through(
 }
 
 /// What stands behind so many bytes of a path.
-pub fn behind(path: &[u8], length: usize) -> &[u8]
+pub fn bytes_behind_length(path: &[u8], length: usize) -> &[u8]
     ensures { result.now ≡ drop length path.now }
 {
     if path.len() < length {

@@ -1,8 +1,8 @@
 //! The report of a work tree as a setup asks for it.
-ghost use Rattle.worktree_report.specs.Reported.{Describes, MakesReport};
+ghost use Rattle.worktree_report.specs.Reported.{IsReportOfWalkResult, MakesReportBySetup};
 
 use crate::error::ReportError;
-use crate::known::{Known, known_in};
+use crate::known::{Known, load_known_submodules};
 use crate::report::{Report, report_with_submodules};
 use crate::setup::Setup;
 use crate::walk_by_setup::walk_by_setup;
@@ -13,12 +13,12 @@ use std::alloc::Global;
 use worktree_fs::{Interrupt, Worktree};
 
 /// The report of what a walk gave, or why there is none.
-fn report_by(
+fn report_of_walk_result(
     alloc: Global,
     mut known: Option<Known>,
     walked: Result<walk::Report, Error>,
 ) -> Result<Report, ReportError>
-    ensures { Describes result known walked }
+    ensures { IsReportOfWalkResult result known walked }
 {
     match walked {
         Ok(walked) => Ok(report_with_submodules(alloc, &mut known, walked)?),
@@ -51,10 +51,10 @@ pub fn worktree_report<W: Worktree, F: Find, I: Interrupt>(
     worktree_root: &[u8],
     setup: &Setup,
 ) -> Result<Report, ReportError>
-    ensures { MakesReport W.Worktree F.Find I.Interrupt worktree.old worktree.new objects.old
+    ensures { MakesReportBySetup W.Worktree F.Find I.Interrupt worktree.old worktree.new objects.old
         objects.new interrupt.old interrupt.new worktree_root.now setup.now result }
 {
-    let known = known_in(alloc, worktree, worktree_root, setup)?;
+    let known = load_known_submodules(alloc, worktree, worktree_root, setup)?;
     let walked = walk_by_setup(alloc, worktree, objects, interrupt, worktree_root, setup);
-    report_by(alloc, known, walked)
+    report_of_walk_result(alloc, known, walked)
 }

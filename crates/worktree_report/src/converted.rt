@@ -1,9 +1,9 @@
 //! Why there is no report, where the walk was refused.
 ghost use Rattle.std.specs.Prelude.{◌≡◌, IfOk};
 ghost use Rattle.worktree_report.specs.Refusals.{status_of};
-ghost use Rattle.worktree_report.specs.Converted.{of_lookup, refusal_of_walk_error, refusal_of_report_error, component_path};
+ghost use Rattle.worktree_report.specs.Converted.{refusal_of_lookup_error, refusal_of_walk_error, refusal_of_report_error, path_of_root_component};
 
-use crate::below::{behind, join_components_through};
+use crate::below::{bytes_behind_length, join_components_through};
 use crate::error::ReportError;
 use crate::refusal::{Misread, Refusal, WalkWord};
 use dir_classify::{Error, MetadataWhy, ReadWhy};
@@ -12,7 +12,7 @@ use std::alloc::Global;
 use worktree_stack::{AtPathError, BlobWhy, RulesWhy};
 
 /// That the walk was refused for what is at a path.
-fn walk_refused(alloc: Global, word: WalkWord, path: &[u8]) -> Result<Refusal, OutOfMemory>
+fn walk_refusal_at_path(alloc: Global, word: WalkWord, path: &[u8]) -> Result<Refusal, OutOfMemory>
     ensures { IfOk result (λ refusal. refusal ≡ Refusal.Walk word path.now) }
 {
     Ok(Refusal::Walk {
@@ -22,45 +22,50 @@ fn walk_refused(alloc: Global, word: WalkWord, path: &[u8]) -> Result<Refusal, O
 }
 
 /// Why there is no report, where the blob of a rules file was not read.
-fn of_blob(alloc: Global, id: &ObjectId, why: BlobWhy) -> Result<Refusal, OutOfMemory>
-    ensures { IfOk result (λ refusal. refusal ≡ of_lookup (AtPathError.Blob id.now why)) }
+fn refusal_of_blob_error(alloc: Global, id: &ObjectId, why: BlobWhy) -> Result<Refusal, OutOfMemory>
+    ensures { IfOk result (λ refusal. refusal ≡ refusal_of_lookup_error (AtPathError.Blob id.now
+        why)) }
 {
     match why {
-        BlobWhy::Missing => walk_refused(alloc, WalkWord::Blob, &id.to_hex()),
-        BlobWhy::NotABlob => walk_refused(alloc, WalkWord::Blob, &id.to_hex()),
+        BlobWhy::Missing => walk_refusal_at_path(alloc, WalkWord::Blob, &id.to_hex()),
+        BlobWhy::NotABlob => walk_refusal_at_path(alloc, WalkWord::Blob, &id.to_hex()),
         BlobWhy::Fault => Ok(Refusal::Fault),
     }
 }
 
 /// Why there is no report, where the ignore rules could not be asked.
-fn of_lookup(alloc: Global, refused: &AtPathError) -> Result<Refusal, OutOfMemory>
-    ensures { IfOk result (λ refusal. refusal ≡ of_lookup refused.now) }
+fn refusal_of_lookup_error(alloc: Global, refused: &AtPathError) -> Result<Refusal, OutOfMemory>
+    ensures { IfOk result (λ refusal. refusal ≡ refusal_of_lookup_error refused.now) }
 {
     match refused {
-        AtPathError::Blob { id, why } => of_blob(alloc, id, *why),
+        AtPathError::Blob { id, why } => refusal_of_blob_error(alloc, id, *why),
         AtPathError::RulesFile {
             path: _,
             why: RulesWhy::Fault,
         } => Ok(Refusal::Fault),
-        AtPathError::RulesFile { path, why: _ } => walk_refused(
+        AtPathError::RulesFile { path, why: _ } => walk_refusal_at_path(
             alloc,
             WalkWord::RulesFile,
             path.as_bytes(),
         ),
-        AtPathError::Collision { path } => walk_refused(alloc, WalkWord::Lookup, path.as_bytes()),
-        AtPathError::Directory { path, why: _ } => walk_refused(
+        AtPathError::Collision { path } => walk_refusal_at_path(
             alloc,
             WalkWord::Lookup,
             path.as_bytes(),
         ),
-        AtPathError::NotNormal => walk_refused(alloc, WalkWord::Lookup, b""),
-        AtPathError::Component(_) => walk_refused(alloc, WalkWord::Lookup, b""),
+        AtPathError::Directory { path, why: _ } => walk_refusal_at_path(
+            alloc,
+            WalkWord::Lookup,
+            path.as_bytes(),
+        ),
+        AtPathError::NotNormal => walk_refusal_at_path(alloc, WalkWord::Lookup, b""),
+        AtPathError::Component(_) => walk_refusal_at_path(alloc, WalkWord::Lookup, b""),
         AtPathError::OutOfMemory => Ok(Refusal::OutOfMemory),
     }
 }
 
 /// Why there is no report, where a listing was refused.
-fn of_listing(path: PathText, why: ReadWhy) -> Refusal
+fn refusal_of_read_dir_error(path: PathText, why: ReadWhy) -> Refusal
     ensures { result ≡ refusal_of_walk_error (Error.ReadDir path why) }
 {
     match why {
@@ -77,7 +82,7 @@ fn of_listing(path: PathText, why: ReadWhy) -> Refusal
 }
 
 /// Why there is no report, where the kind of a component of the traversal root could not be had.
-fn of_metadata(path: PathText, why: MetadataWhy) -> Refusal
+fn refusal_of_symlink_metadata_error(path: PathText, why: MetadataWhy) -> Refusal
     ensures { result ≡ refusal_of_walk_error (Error.SymlinkMetadata path why) }
 {
     match why {
@@ -97,10 +102,10 @@ fn refusal_of_root_link(
     number: usize,
 ) -> Result<Refusal, OutOfMemory>
     ensures { IfOk result (λ refusal. refusal ≡ Refusal.Walk WalkWord.SymlinkInRoot
-        (component_path whole worktree_root number)) }
+        (path_of_root_component whole worktree_root number)) }
 {
     let root = worktree_root.as_bytes();
-    let rest = behind(whole.as_bytes(), root.len());
+    let rest = bytes_behind_length(whole.as_bytes(), root.len());
     Ok(Refusal::Walk {
         word: WalkWord::SymlinkInRoot,
         path: join_components_through(alloc, root, number, rest)?,
@@ -121,8 +126,8 @@ pub fn refusal_of_walk_error(alloc: Global, error: Error) -> Result<Refusal, Out
             word: WalkWord::RootIsFile,
             path: root,
         }),
-        Error::ExcludesAccess(refused) => of_lookup(alloc, &refused),
-        Error::ReadDir { path, why } => Ok(of_listing(path, why)),
+        Error::ExcludesAccess(refused) => refusal_of_lookup_error(alloc, &refused),
+        Error::ReadDir { path, why } => Ok(refusal_of_read_dir_error(path, why)),
         Error::DirEntry {
             parent_directory: _,
         } => Ok(Refusal::Fault),
@@ -139,7 +144,7 @@ pub fn refusal_of_walk_error(alloc: Global, error: Error) -> Result<Refusal, Out
             worktree_root,
             component_index,
         } => refusal_of_root_link(alloc, root, worktree_root, component_index),
-        Error::SymlinkMetadata { path, why } => Ok(of_metadata(path, why)),
+        Error::SymlinkMetadata { path, why } => Ok(refusal_of_symlink_metadata_error(path, why)),
         Error::OutOfMemory => Ok(Refusal::OutOfMemory),
     }
 }
@@ -163,8 +168,8 @@ pub fn refusal_of_report_error(alloc: Global, error: ReportError) -> Result<Refu
 }
 
 /// The status that the program ends with where the ignore rules could not be asked.
-fn lookup_status(refused: &AtPathError) -> u8
-    ensures { result ≡ status_of (of_lookup refused.now) }
+fn exit_status_of_lookup_error(refused: &AtPathError) -> u8
+    ensures { result ≡ status_of (refusal_of_lookup_error refused.now) }
 {
     match refused {
         AtPathError::RulesFile {
@@ -186,7 +191,7 @@ fn lookup_status(refused: &AtPathError) -> u8
 }
 
 /// The status that the program ends with where the walk was refused.
-fn walk_status(error: &Error) -> u8
+fn exit_status_of_walk_error(error: &Error) -> u8
     ensures { result ≡ status_of (refusal_of_walk_error error.now) }
 {
     match error {
@@ -203,7 +208,7 @@ fn walk_status(error: &Error) -> u8
             why: MetadataWhy::Fault,
         } => 6,
         Error::SymlinkMetadata { path: _, why: _ } => 4,
-        Error::ExcludesAccess(refused) => lookup_status(refused),
+        Error::ExcludesAccess(refused) => exit_status_of_lookup_error(refused),
         Error::ReadDir {
             path: _,
             why: ReadWhy::Fault,
@@ -226,7 +231,7 @@ fn walk_status(error: &Error) -> u8
 /// | 5 | a configuration, `.gitmodules` or a value of `submodule.active` is outside its grammar |
 /// | 6 | the worktree or the store failed |
 /// | 8 | want of memory |
-pub fn report_status(error: &ReportError) -> u8
+pub fn exit_status_of_report_error(error: &ReportError) -> u8
     ensures { result ≡ status_of (refusal_of_report_error error.now) }
 {
     match error {
@@ -234,7 +239,7 @@ pub fn report_status(error: &ReportError) -> u8
         ReportError::Modules { line: _ } => 5,
         ReportError::ActiveSpec { at: _ } => 5,
         ReportError::ReadFault => 6,
-        ReportError::Walk(error) => walk_status(error),
+        ReportError::Walk(error) => exit_status_of_walk_error(error),
         ReportError::OutOfMemory => 8,
     }
 }

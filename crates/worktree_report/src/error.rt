@@ -51,9 +51,9 @@ impl From<OutOfMemory> for ReportError {
 
 impl From<ReadError> for ReportError {
     ghost use Rattle.std.specs.Prelude.{◌≡◌};
-    ghost use Rattle.worktree_report.specs.Loads.{of_read};
+    ghost use Rattle.worktree_report.specs.Loads.{report_error_of_read_error};
 
-    ghost from_gives = { λ refused error. error ≡ of_read refused };
+    ghost from_gives = { λ refused error. error ≡ report_error_of_read_error refused };
 
     fn from(refused: ReadError) -> ReportError {
         match refused {
@@ -65,9 +65,9 @@ impl From<ReadError> for ReportError {
 
 impl From<walk::Error> for ReportError {
     ghost use Rattle.std.specs.Prelude.{◌≡◌};
-    ghost use Rattle.worktree_report.specs.Loads.{of_walk};
+    ghost use Rattle.worktree_report.specs.Loads.{report_error_of_walk_error};
 
-    ghost from_gives = { λ refused error. error ≡ of_walk refused };
+    ghost from_gives = { λ refused error. error ≡ report_error_of_walk_error refused };
 
     fn from(refused: walk::Error) -> ReportError {
         match refused {

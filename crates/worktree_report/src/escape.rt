@@ -1,7 +1,7 @@
 //! Paths as texts: some bytes stand as a backslash and two hexadecimal digits.
 ghost use Rattle.std.specs.Prelude.{◌≡◌, ◌+◌, ◌*◌, ◌<◌, length, ◌++◌, [], ◌∷◌, drop, option_map, OnOk, IfOk};
 ghost use Rattle.std.specs.List.{list_any};
-ghost use Rattle.worktree_report.specs.Escapes.{hex_digit, is_escaped, spelled_out, escaped_byte, escaped, escaped_byte_in_word, escaped_in_word, digit_value, hex_byte, unescaped};
+ghost use Rattle.worktree_report.specs.Escapes.{hex_digit, needs_escape, hex_escape_of_byte, byte_escaped_if_needed, path_escaped, byte_escaped_in_word, path_escaped_in_word, value_of_hex_digit, byte_from_two_hex_digits, unescape_path};
 ghost use Rattle.worktree_report.specs.Spelled.{BeginsWithSpelledByte};
 
 use gitbase_core::{OutOfMemory, PathText};
@@ -16,15 +16,15 @@ fn hex_digit(n: u8) -> u8
 }
 
 /// Whether a byte stands escaped: a control byte, DEL or the backslash.
-fn is_escaped(byte: u8) -> bool
-    ensures { result ≡ is_escaped byte }
+fn needs_escape(byte: u8) -> bool
+    ensures { result ≡ needs_escape byte }
 {
     byte < 32 || byte == 127 || byte == b'\\'
 }
 
 /// Adds a byte as a backslash and two digits.
-fn add_spelled_out(text: &mut Vec<u8>, byte: u8) -> Result<(), OutOfMemory>
-    ensures { OnOk result (text.new.items ≡ text.old.items ++ spelled_out byte) }
+fn append_byte_as_hex_escape(text: &mut Vec<u8>, byte: u8) -> Result<(), OutOfMemory>
+    ensures { OnOk result (text.new.items ≡ text.old.items ++ hex_escape_of_byte byte) }
 {
     text.push(b'\\')?;
     text.push(hex_digit(byte / 16))?;
@@ -33,40 +33,40 @@ fn add_spelled_out(text: &mut Vec<u8>, byte: u8) -> Result<(), OutOfMemory>
 }
 
 /// Adds a byte of a path, escaped where it must be.
-fn add_byte(text: &mut Vec<u8>, byte: u8) -> Result<(), OutOfMemory>
-    ensures { OnOk result (text.new.items ≡ text.old.items ++ escaped_byte byte) }
+fn append_byte_escaped(text: &mut Vec<u8>, byte: u8) -> Result<(), OutOfMemory>
+    ensures { OnOk result (text.new.items ≡ text.old.items ++ byte_escaped_if_needed byte) }
 {
-    if is_escaped(byte) {
-        return add_spelled_out(text, byte);
+    if needs_escape(byte) {
+        return append_byte_as_hex_escape(text, byte);
     }
     text.push(byte)?;
     Ok(())
 }
 
 /// The same within a word, which spaces end.
-fn add_byte_in_word(text: &mut Vec<u8>, byte: u8) -> Result<(), OutOfMemory>
-    ensures { OnOk result (text.new.items ≡ text.old.items ++ escaped_byte_in_word byte) }
+fn append_byte_escaped_in_word(text: &mut Vec<u8>, byte: u8) -> Result<(), OutOfMemory>
+    ensures { OnOk result (text.new.items ≡ text.old.items ++ byte_escaped_in_word byte) }
 {
-    if is_escaped(byte) || byte == b' ' {
-        return add_spelled_out(text, byte);
+    if needs_escape(byte) || byte == b' ' {
+        return append_byte_as_hex_escape(text, byte);
     }
     text.push(byte)?;
     Ok(())
 }
 
 /// Whether a byte of a path stands escaped.
-fn has_escaped(path: &[u8]) -> bool
-    ensures { result ≡ list_any is_escaped path.now }
+fn has_byte_to_escape(path: &[u8]) -> bool
+    ensures { result ≡ list_any needs_escape path.now }
 {
-    path.iter().any(|byte| is_escaped(*byte))
+    path.iter().any(|byte| needs_escape(*byte))
 }
 
 /// Adds a path as the report writes it, byte by byte.
-fn add_bytes(text: &mut Vec<u8>, path: &[u8]) -> Result<(), OutOfMemory>
-    ensures { OnOk result (text.new.items ≡ text.old.items ++ escaped path.now) }
+fn append_each_byte_escaped(text: &mut Vec<u8>, path: &[u8]) -> Result<(), OutOfMemory>
+    ensures { OnOk result (text.new.items ≡ text.old.items ++ path_escaped path.now) }
 {
     for byte in path {
-        add_byte(text, *byte)?;
+        append_byte_escaped(text, *byte)?;
     }
     Ok(())
 }
@@ -76,11 +76,11 @@ fn add_bytes(text: &mut Vec<u8>, path: &[u8]) -> Result<(), OutOfMemory>
 /// # Errors
 ///
 /// Memory was refused.
-pub fn add_escaped(text: &mut Vec<u8>, path: &[u8]) -> Result<(), OutOfMemory>
-    ensures { OnOk result (text.new.items ≡ text.old.items ++ escaped path.now) }
+pub fn append_path_escaped(text: &mut Vec<u8>, path: &[u8]) -> Result<(), OutOfMemory>
+    ensures { OnOk result (text.new.items ≡ text.old.items ++ path_escaped path.now) }
 {
-    if has_escaped(path) {
-        return add_bytes(text, path);
+    if has_byte_to_escape(path) {
+        return append_each_byte_escaped(text, path);
     }
     text.extend_from_slice(path)?;
     Ok(())
@@ -91,18 +91,18 @@ pub fn add_escaped(text: &mut Vec<u8>, path: &[u8]) -> Result<(), OutOfMemory>
 /// # Errors
 ///
 /// Memory was refused.
-pub fn add_escaped_in_word(text: &mut Vec<u8>, path: &[u8]) -> Result<(), OutOfMemory>
-    ensures { OnOk result (text.new.items ≡ text.old.items ++ escaped_in_word path.now) }
+pub fn append_path_escaped_in_word(text: &mut Vec<u8>, path: &[u8]) -> Result<(), OutOfMemory>
+    ensures { OnOk result (text.new.items ≡ text.old.items ++ path_escaped_in_word path.now) }
 {
     for byte in path {
-        add_byte_in_word(text, *byte)?;
+        append_byte_escaped_in_word(text, *byte)?;
     }
     Ok(())
 }
 
 /// The value of a lower-case hexadecimal digit.
-fn digit_value(byte: u8) -> Option<u8>
-    ensures { result ≡ digit_value byte }
+fn value_of_hex_digit(byte: u8) -> Option<u8>
+    ensures { result ≡ value_of_hex_digit byte }
 {
     match byte {
         b'0'..=b'9' => Some(byte - b'0'),
@@ -112,14 +112,14 @@ fn digit_value(byte: u8) -> Option<u8>
 }
 
 /// The byte that the first two bytes write as hexadecimal digits.
-fn hex_byte(bytes: &[u8]) -> Option<u8>
-    ensures { result ≡ hex_byte bytes.now }
+fn byte_from_two_hex_digits(bytes: &[u8]) -> Option<u8>
+    ensures { result ≡ byte_from_two_hex_digits bytes.now }
 {
     if bytes.len() < 2 {
         return None;
     }
-    let high = digit_value(bytes[0])?;
-    let low = digit_value(bytes[1])?;
+    let high = value_of_hex_digit(bytes[0])?;
+    let low = value_of_hex_digit(bytes[1])?;
     Some(16 * high + low)
 }
 
@@ -132,7 +132,7 @@ struct Spelled {
 
 /// The byte that a text stands for at its beginning. None where a backslash is not followed by two
 /// digits.
-fn spelled_byte(first: u8, rest: &[u8]) -> Option<Spelled>
+fn leading_byte_unescaped(first: u8, rest: &[u8]) -> Option<Spelled>
     ensures { BeginsWithSpelledByte result first rest.now }
 {
     if first != b'\\' {
@@ -141,7 +141,7 @@ fn spelled_byte(first: u8, rest: &[u8]) -> Option<Spelled>
             more: 0,
         });
     }
-    let Some(byte) = hex_byte(rest) else {
+    let Some(byte) = byte_from_two_hex_digits(rest) else {
         return None;
     };
     Some(Spelled { byte, more: 2 })
@@ -153,13 +153,13 @@ fn spelled_byte(first: u8, rest: &[u8]) -> Option<Spelled>
 /// # Errors
 ///
 /// Memory was refused.
-pub fn unescaped(alloc: Global, text: &[u8]) -> Result<Option<PathText>, OutOfMemory>
-    ensures { IfOk result (λ path. path ≡ unescaped text.now) }
+pub fn unescape_path(alloc: Global, text: &[u8]) -> Result<Option<PathText>, OutOfMemory>
+    ensures { IfOk result (λ path. path ≡ unescape_path text.now) }
 {
     let mut bytes = Vec::new(alloc);
     let mut rest = text;
     while let Some((first, after)) = rest.split_first() {
-        let Some(byte) = spelled_byte(*first, after) else {
+        let Some(byte) = leading_byte_unescaped(*first, after) else {
             return Ok(None);
         };
         bytes.push(byte.byte)?;

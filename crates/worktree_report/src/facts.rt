@@ -1,6 +1,6 @@
 //! What a report says of submodules.
 ghost use Rattle.std.specs.Prelude.{◌≡◌, IfOk};
-ghost use Rattle.submodule.specs.ActiveSeen.{active_seen};
+ghost use Rattle.submodule.specs.ActiveSeen.{active_result_with_error_text};
 ghost use Rattle.worktree_report.specs.Submodules as submodules;
 
 use crate::known::Known;
@@ -34,9 +34,12 @@ pub struct Facts {
     pub active: Activity,
 }
 
-fn activity_of(alloc: Global, answer: Result<bool, ValueError<'_>>) -> Result<Activity, OutOfMemory>
+fn activity_of_answer(
+    alloc: Global,
+    answer: Result<bool, ValueError<'_>>,
+) -> Result<Activity, OutOfMemory>
     ensures { IfOk result (λ activity. activity
-        ≡ submodules.activity_of (active_seen answer.entry)) }
+        ≡ submodules.activity_of_answer (active_result_with_error_text answer.entry)) }
 {
     match answer {
         Ok(true) => Ok(Activity::Active),
@@ -48,17 +51,17 @@ fn activity_of(alloc: Global, answer: Result<bool, ValueError<'_>>) -> Result<Ac
 }
 
 /// A submodule, and whether it is active.
-fn facts_of_name(
+fn facts_of_submodule_name(
     alloc: Global,
     platform: &mut IsActivePlatform,
     modules: &Modules,
     name: &[u8],
 ) -> Result<Facts, OutOfMemory>
     ensures facts { IfOk result (λ facts. facts
-        ≡ submodules.facts_of_name platform.old modules.now.config.sections name.now) }
+        ≡ submodules.facts_of_submodule_name platform.old modules.now.config.sections name.now) }
     ensures same { platform.new ≡ platform.old }
 {
-    let active = activity_of(alloc, platform.is_active(&modules.config, name))?;
+    let active = activity_of_answer(alloc, platform.is_active(&modules.config, name))?;
     Ok(Facts {
         name: Bytes::from_slice(alloc, name)?,
         active,
@@ -66,33 +69,34 @@ fn facts_of_name(
 }
 
 /// The submodule at a path, found by one search.
-fn facts_at(
+fn facts_of_submodule_at_path(
     alloc: Global,
     platform: &mut IsActivePlatform,
     modules: &Modules,
     path: &[u8],
 ) -> Result<Option<Facts>, OutOfMemory>
     ensures facts { IfOk result (λ facts. facts
-        ≡ submodules.facts_at platform.old modules.now path.now) }
+        ≡ submodules.facts_of_submodule_at_path platform.old modules.now path.now) }
     ensures same { platform.new ≡ platform.old }
 {
     match modules.file.name_by_path(alloc, path)? {
-        Some(name) => Ok(Some(facts_of_name(alloc, platform, modules, name)?)),
+        Some(name) => Ok(Some(facts_of_submodule_name(alloc, platform, modules, name)?)),
         None => Ok(None),
     }
 }
 
 /// The same, where submodules are known.
-pub fn facts_in(
+pub fn submodule_facts_if_known(
     alloc: Global,
     known: &mut Option<Known>,
     path: &[u8],
 ) -> Result<Option<Facts>, OutOfMemory>
-    ensures facts { IfOk result (λ facts. facts ≡ submodules.facts_in known.old path.now) }
+    ensures facts { IfOk result (λ facts. facts ≡ submodules.submodule_facts_if_known known.old
+        path.now) }
     ensures same { known.new ≡ known.old }
 {
     match known {
-        Some(known) => facts_at(alloc, &mut known.platform, &known.modules, path),
+        Some(known) => facts_of_submodule_at_path(alloc, &mut known.platform, &known.modules, path),
         None => Ok(None),
     }
 }

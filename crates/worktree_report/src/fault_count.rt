@@ -1,6 +1,6 @@
 //! Whether a worktree failed while something was made of it.
 ghost use Rattle.std.specs.Prelude.{◌≡◌, true, false};
-ghost use Rattle.worktree_fs.specs.Causes.{Increased, NotIncreased};
+ghost use Rattle.worktree_fs.specs.Causes.{CountIncreasedOrSaturated, CountNotIncreased};
 
 use worktree_fs::{DiskWorktree, MemoryWorktree, Worktree};
 
@@ -28,8 +28,8 @@ impl CountsFaults for MemoryWorktree {
 /// Whether a worktree failed since its count of faults was `before`, as far as that can be told:
 /// the count rose, or stands at its last value.
 pub fn has_failed_since<W: CountsFaults>(worktree: &W, before: u64) -> bool
-    ensures failed { result ≡ true → Increased before (W.faults worktree.now) }
-    ensures unfailed { result ≡ false → NotIncreased before (W.faults worktree.now) }
+    ensures failed { result ≡ true → CountIncreasedOrSaturated before (W.faults worktree.now) }
+    ensures unfailed { result ≡ false → CountNotIncreased before (W.faults worktree.now) }
 {
     before.saturating_add(1) <= worktree.fault_count()
 }

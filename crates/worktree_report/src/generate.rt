@@ -1,10 +1,10 @@
 //! How much there is to report of a tree of files in memory.
 ghost use Rattle.std.specs.Prelude.{◌≡◌, ◌≤◌, ◌∷◌, [], false, map, codes, option_map, Some, IfOk, IfErr, OnOk, IsErrOf};
-ghost use Rattle.worktree_fs.specs.Causes.{Increased, with_more};
-ghost use Rattle.worktree_report.specs.Generate.{worktree_root, file_below, file_path, tree_of, is_tracked, with_file, tracked_paths, entry_at, entries_of, setup_text, generated_setup, generated_report, generated_lines, Generated, IsOfGenerating};
-ghost use Rattle.worktree_report.specs.Asked.{read_in, walked_of};
+ghost use Rattle.worktree_fs.specs.Causes.{CountIncreasedOrSaturated, saturating_sum};
+ghost use Rattle.worktree_report.specs.Generate.{worktree_root, relative_path_of_file, full_path_of_file, tree_of_file_count, is_file_number_tracked, insert_path_if_tracked, tracked_paths_of_file_count, index_entry_of_path, index_of_file_count, text_of_generated_setup, setup_of_file_count, report_of_file_count, lines_of_generated_report, IsGeneratedTextWithQuestions, IsRefusalOfGenerating};
+ghost use Rattle.worktree_report.specs.Asked.{sources_of_tree_and_setup, walk_report_of_setup};
 
-use crate::lines::{add_number, add_outcome};
+use crate::lines::{append_decimal_number, append_outcome_line};
 use crate::refusal::Refusal;
 use crate::setup::Setup;
 use crate::walk_by_setup::walk_by_setup;
@@ -25,8 +25,8 @@ const SETUP: &[u8] =
 
 /// The path of the file with a number, from 0, relative to the worktree root: there are a hundred
 /// files to a directory.
-fn file_below(alloc: Global, number: usize) -> Result<PathText, OutOfMemory>
-    ensures { IfOk result (λ path. path ≡ file_below number) }
+fn relative_path_of_file(alloc: Global, number: usize) -> Result<PathText, OutOfMemory>
+    ensures { IfOk result (λ path. path ≡ relative_path_of_file number) }
 {
     let directory = number / 100;
     let text = format!(in alloc; "d{directory}/f{number}")?;
@@ -34,8 +34,8 @@ fn file_below(alloc: Global, number: usize) -> Result<PathText, OutOfMemory>
 }
 
 /// Its whole path.
-fn file_path(alloc: Global, number: usize) -> Result<PathText, OutOfMemory>
-    ensures { IfOk result (λ path. path ≡ file_path number) }
+fn full_path_of_file(alloc: Global, number: usize) -> Result<PathText, OutOfMemory>
+    ensures { IfOk result (λ path. path ≡ full_path_of_file number) }
 {
     let directory = number / 100;
     let text = format!(in alloc; "/w/d{directory}/f{number}")?;
@@ -44,14 +44,14 @@ fn file_path(alloc: Global, number: usize) -> Result<PathText, OutOfMemory>
 
 /// A tree of so many files without bytes. What else `add` may answer does not come, as no path is
 /// added twice or lies below that of a file, and would be answered as want of memory.
-fn tree_of(alloc: Global, count: usize) -> Result<MemoryWorktree, OutOfMemory>
-    ensures tree { IfOk result (λ tree. tree.tree ≡ tree_of count) }
+fn worktree_of_file_count(alloc: Global, count: usize) -> Result<MemoryWorktree, OutOfMemory>
+    ensures tree { IfOk result (λ tree. tree.tree ≡ tree_of_file_count count) }
     ensures composes { IfOk result (λ tree. tree.composes ≡ false) }
     ensures faults { IfOk result (λ tree. tree.faults ≡ 0) }
 {
     let mut tree = MemoryWorktree::new(alloc, false);
     for number in 0..count {
-        let path = file_path(alloc, number)?;
+        let path = full_path_of_file(alloc, number)?;
         match tree.add(alloc, path.as_bytes(), NewNode::File(b"")) {
             Ok(()) => {}
             Err(_) => return Err(OutOfMemory),
@@ -61,41 +61,44 @@ fn tree_of(alloc: Global, count: usize) -> Result<MemoryWorktree, OutOfMemory>
 }
 
 /// Whether a file is tracked: every tenth one of every other directory is.
-fn is_tracked(number: usize) -> bool
-    ensures { result ≡ is_tracked number }
+fn is_file_number_tracked(number: usize) -> bool
+    ensures { result ≡ is_file_number_tracked number }
 {
     number % 200 < 100 && number % 10 == 0
 }
 
 /// Puts the path of a file into its place among others, where it is tracked.
-fn add_tracked(
+fn insert_path_if_tracked(
     alloc: Global,
     paths: &mut BTreeSet<PathText>,
     number: usize,
 ) -> Result<(), OutOfMemory>
-    ensures { OnOk result (paths.new.keys ≡ with_file paths.old.keys number) }
+    ensures { OnOk result (paths.new.keys ≡ insert_path_if_tracked paths.old.keys number) }
 {
-    if !is_tracked(number) {
+    if !is_file_number_tracked(number) {
         return Ok(());
     }
-    paths.insert(file_below(alloc, number)?)?;
+    paths.insert(relative_path_of_file(alloc, number)?)?;
     Ok(())
 }
 
 /// The paths of the tracked ones of so many files.
-fn tracked_paths(alloc: Global, count: usize) -> Result<BTreeSet<PathText>, OutOfMemory>
-    ensures { IfOk result (λ paths. paths.keys ≡ tracked_paths count) }
+fn tracked_paths_of_file_count(
+    alloc: Global,
+    count: usize,
+) -> Result<BTreeSet<PathText>, OutOfMemory>
+    ensures { IfOk result (λ paths. paths.keys ≡ tracked_paths_of_file_count count) }
 {
     let mut paths = BTreeSet::new(alloc);
     for number in 0..count {
-        add_tracked(alloc, &mut paths, number)?;
+        insert_path_if_tracked(alloc, &mut paths, number)?;
     }
     Ok(paths)
 }
 
 /// The entry of a file that was not looked at.
-fn entry_at(path: PathText) -> IndexEntry
-    ensures { result ≡ entry_at path }
+fn index_entry_of_path(path: PathText) -> IndexEntry
+    ensures { result ≡ index_entry_of_path path }
 {
     IndexEntry {
         path,
@@ -108,13 +111,13 @@ fn entry_at(path: PathText) -> IndexEntry
 
 /// The index of so many files. That its entries ascend and have paths that an index takes is not
 /// said; where they did not, want of memory would be answered.
-fn index_of(alloc: Global, count: usize) -> Result<State, OutOfMemory>
-    ensures { IfOk result (λ index. index ≡ entries_of count) }
+fn index_of_file_count(alloc: Global, count: usize) -> Result<State, OutOfMemory>
+    ensures { IfOk result (λ index. index ≡ index_of_file_count count) }
 {
-    let paths = tracked_paths(alloc, count)?;
+    let paths = tracked_paths_of_file_count(alloc, count)?;
     let mut entries = Vec::new(alloc);
     for path in paths {
-        entries.push(entry_at(path))?;
+        entries.push(index_entry_of_path(path))?;
     }
     match State::from_entries(entries) {
         Ok(index) => Ok(index),
@@ -123,7 +126,7 @@ fn index_of(alloc: Global, count: usize) -> Result<State, OutOfMemory>
 }
 
 /// A setup with another index.
-fn with_index(mut setup: Setup, index: State) -> Setup
+fn replace_index_of_setup(mut setup: Setup, index: State) -> Setup
     ensures { result ≡ record setup { index = index } }
 {
     setup.index = index;
@@ -131,11 +134,11 @@ fn with_index(mut setup: Setup, index: State) -> Setup
 }
 
 /// What the report of so many files is made from.
-fn setup_of(alloc: Global, count: usize) -> Result<Setup, OutOfMemory>
-    ensures { IfOk result (λ setup. generated_setup count ≡ Some setup) }
+fn setup_of_file_count(alloc: Global, count: usize) -> Result<Setup, OutOfMemory>
+    ensures { IfOk result (λ setup. setup_of_file_count count ≡ Some setup) }
 {
     match Setup::parse(alloc, SETUP) {
-        Ok(setup) => Ok(with_index(setup, index_of(alloc, count)?)),
+        Ok(setup) => Ok(replace_index_of_setup(setup, index_of_file_count(alloc, count)?)),
         Err(_) => Err(OutOfMemory),
     }
 }
@@ -143,7 +146,7 @@ fn setup_of(alloc: Global, count: usize) -> Result<Setup, OutOfMemory>
 /// Why there is no report of a tree in memory, of which no call is planned to fail: the interrupt
 /// was raised, or memory is wanted, which would be answered for any other refusal too.
 fn refusal_of_generated_walk(error: Error) -> Refusal
-    ensures answers { IsOfGenerating result }
+    ensures answers { IsRefusalOfGenerating result }
     ensures interrupted { result ≡ Refusal.Interrupted → error ≡ Error.Interrupted }
 {
     match error {
@@ -154,7 +157,7 @@ fn refusal_of_generated_walk(error: Error) -> Refusal
 
 /// The report of a tree in memory, by a setup.
 /// See docs/DECISIONS.md#generate-out-of-memory.
-fn own_report<I: Interrupt>(
+fn report_of_memory_worktree<I: Interrupt>(
     alloc: Global,
     mut tree: MemoryWorktree,
     interrupt: &mut I,
@@ -162,14 +165,14 @@ fn own_report<I: Interrupt>(
 ) -> Result<Report, Refusal>
     requires composes { tree.composes ≡ false }
     requires faults { tree.faults ≡ 0 }
-    ensures gives { IfOk result
-        (λ r. walked_of false (read_in tree.tree setup.now) worktree_root setup.now ≡ Some r) }
-    ensures asked { IfOk result (λ r. with_more (I.questions interrupt.old) r.outcome.read_dir_calls
-        ≤ I.questions interrupt.new) }
-    ensures answers { IfErr result IsOfGenerating }
+    ensures gives { IfOk result (λ r. walk_report_of_setup false (sources_of_tree_and_setup
+        tree.tree setup.now) worktree_root setup.now ≡ Some r) }
+    ensures asked { IfOk result (λ r. saturating_sum (I.questions interrupt.old)
+        r.outcome.read_dir_calls ≤ I.questions interrupt.new) }
+    ensures answers { IfErr result IsRefusalOfGenerating }
     ensures interrupted { IsErrOf result Refusal.Interrupted
-        → Increased (I.raised interrupt.old) (I.raised interrupt.new) }
-    ensures questions { with_more (I.questions interrupt.old) 0 ≤ I.questions interrupt.new }
+        → CountIncreasedOrSaturated (I.raised interrupt.old) (I.raised interrupt.new) }
+    ensures questions { saturating_sum (I.questions interrupt.old) 0 ≤ I.questions interrupt.new }
     ensures raised { I.raised interrupt.old ≤ I.raised interrupt.new }
     ensures calm { OnOk result (I.raised interrupt.new ≡ I.raised interrupt.old) }
 {
@@ -186,16 +189,20 @@ fn own_report<I: Interrupt>(
 }
 
 /// The lines that say how much there is to report of so many files.
-fn lines_of(alloc: Global, count: usize, report: &Report) -> Result<Bytes, OutOfMemory>
-    ensures { IfOk result (λ text. text ≡ generated_lines count report.now) }
+fn lines_of_generated_report(
+    alloc: Global,
+    count: usize,
+    report: &Report,
+) -> Result<Bytes, OutOfMemory>
+    ensures { IfOk result (λ text. text ≡ lines_of_generated_report count report.now) }
 {
     let mut text = Vec::new(alloc);
     text.extend_from_slice(b"generated ")?;
-    add_number(alloc, &mut text, count as u64)?;
+    append_decimal_number(alloc, &mut text, count as u64)?;
     text.extend_from_slice(b" lines ")?;
-    add_number(alloc, &mut text, report.entries.as_slice().len() as u64)?;
+    append_decimal_number(alloc, &mut text, report.entries.as_slice().len() as u64)?;
     text.push(b'\n')?;
-    add_outcome(alloc, &mut text, &report.outcome)?;
+    append_outcome_line(alloc, &mut text, &report.outcome)?;
     Ok(Bytes::from_vec(text))
 }
 
@@ -208,22 +215,22 @@ fn lines_of(alloc: Global, count: usize, report: &Report) -> Result<Bytes, OutOf
 ///
 /// - `Interrupted`: the interrupt was raised, and counted it.
 /// - `OutOfMemory`: memory was refused.
-pub fn generated_text<I: Interrupt>(
+pub fn text_of_generated_report<I: Interrupt>(
     alloc: Global,
     count: usize,
     interrupt: &mut I,
 ) -> Result<Bytes, Refusal>
-    ensures made { IfOk result (Generated count (I.questions interrupt.old)
+    ensures made { IfOk result (IsGeneratedTextWithQuestions count (I.questions interrupt.old)
         (I.questions interrupt.new)) }
-    ensures answers { IfErr result IsOfGenerating }
+    ensures answers { IfErr result IsRefusalOfGenerating }
     ensures interrupted { IsErrOf result Refusal.Interrupted
-        → Increased (I.raised interrupt.old) (I.raised interrupt.new) }
-    ensures questions { with_more (I.questions interrupt.old) 0 ≤ I.questions interrupt.new }
+        → CountIncreasedOrSaturated (I.raised interrupt.old) (I.raised interrupt.new) }
+    ensures questions { saturating_sum (I.questions interrupt.old) 0 ≤ I.questions interrupt.new }
     ensures raised { I.raised interrupt.old ≤ I.raised interrupt.new }
     ensures calm { OnOk result (I.raised interrupt.new ≡ I.raised interrupt.old) }
 {
-    let setup = setup_of(alloc, count)?;
-    let tree = tree_of(alloc, count)?;
-    let report = own_report(alloc, tree, interrupt, &setup)?;
-    Ok(lines_of(alloc, count, &report)?)
+    let setup = setup_of_file_count(alloc, count)?;
+    let tree = worktree_of_file_count(alloc, count)?;
+    let report = report_of_memory_worktree(alloc, tree, interrupt, &setup)?;
+    Ok(lines_of_generated_report(alloc, count, &report)?)
 }

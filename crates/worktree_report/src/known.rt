@@ -1,11 +1,11 @@
 //! What is known of submodules while a report is made.
 ghost use Rattle.std.specs.Prelude.{◌≡◌, ◌≤◌, ℕ, true, false, Some, None, IfOk, IfErr, OnOk, is_some};
-ghost use Rattle.submodule.specs.Active.{platform};
-ghost use Rattle.worktree_fs.specs.Causes.{Increased, with_more};
+ghost use Rattle.submodule.specs.Active.{active_specs_or_error_of_config};
+ghost use Rattle.worktree_fs.specs.Causes.{CountIncreasedOrSaturated, saturating_sum};
 ghost use Rattle.worktree_fs.specs.Tree.{Names};
-ghost use Rattle.worktree_report.specs.Loading.{known_in, with_active_platform, files_if};
-ghost use Rattle.worktree_report.specs.Loads.{Gives, LoadsFiles, OfKnown};
-ghost use Rattle.worktree_report.specs.Outside.{IsActiveOf, IsOutside, OnMisread, OnReading, Stops};
+ghost use Rattle.worktree_report.specs.Loading.{known_submodules_in_tree, known_with_active_platform, count_files_if_submodules_asked};
+ghost use Rattle.worktree_report.specs.Loads.{IsResultUnlessFault, ReadsFilesAtMost, IsErrorOfLoadingKnown};
+ghost use Rattle.worktree_report.specs.Outside.{IsMisreadOfActiveSpec, IsMisreadOfSetup, HoldsOfMisread, HoldsIfReadingError, StopsReadingAtError};
 
 use crate::error::ReportError;
 use crate::modules::{Modules, load_modules};
@@ -28,15 +28,15 @@ pub struct Known {
 /// `ActiveSpec` names the first value of `submodule.active` that is refused.
 ///
 /// See docs/DECISIONS.md#active-always-read.
-fn with_active_platform(
+fn known_with_active_platform(
     alloc: Global,
     modules: Modules,
     ignore_case: bool,
 ) -> Result<Option<Known>, ReportError>
-    ensures gives { Gives result (with_active_platform ignore_case modules) }
+    ensures gives { IsResultUnlessFault result (known_with_active_platform ignore_case modules) }
     ensures known { IfOk result (λ known. is_some known ≡ true) }
-    ensures answers { IfErr result (OfKnown ⊥) }
-    ensures outside { IfErr result (OnMisread (IsActiveOf ignore_case)) }
+    ensures answers { IfErr result (IsErrorOfLoadingKnown ⊥) }
+    ensures outside { IfErr result (HoldsOfMisread (IsMisreadOfActiveSpec ignore_case)) }
 {
     let found = modules
         .file
@@ -50,32 +50,34 @@ fn with_active_platform(
 }
 
 /// What is known of the submodules of the work tree at `root`, where the setup asks for it.
-#[tactic(auto, unfolding(crate::specs::Loading::known_in))]
-pub fn known_in<W: Worktree>(
+#[tactic(auto, unfolding(crate::specs::Loading::known_submodules_in_tree))]
+pub fn load_known_submodules<W: Worktree>(
     alloc: Global,
     worktree: &mut W,
     root: &[u8],
     setup: &Setup,
 ) -> Result<Option<Known>, ReportError>
     ensures gives { (t : Names) → W.told worktree.old ≡ Some t
-        → Gives result (known_in t root.now setup.now) }
-    ensures answers { IfErr result (OfKnown (Increased (W.faults worktree.old)
-        (W.faults worktree.new))) }
-    ensures outside { IfErr result (OnMisread (IsOutside root.now setup.now)) }
-    ensures asked { IfErr result (OnReading (setup.now.options.submodules ≡ true)) }
-    ensures stops { IfErr result (Stops W.Worktree worktree.old worktree.new setup.now) }
+        → IsResultUnlessFault result (known_submodules_in_tree t root.now setup.now) }
+    ensures answers { IfErr result (IsErrorOfLoadingKnown (CountIncreasedOrSaturated
+        (W.faults worktree.old) (W.faults worktree.new))) }
+    ensures outside { IfErr result (HoldsOfMisread (IsMisreadOfSetup root.now setup.now)) }
+    ensures asked { IfErr result (HoldsIfReadingError (setup.now.options.submodules ≡ true)) }
+    ensures stops { IfErr result (StopsReadingAtError W.Worktree worktree.old worktree.new
+        setup.now) }
     ensures known { setup.now.options.submodules ≡ true
         → IfOk result (λ known. is_some known ≡ true) }
     ensures unasked { setup.now.options.submodules ≡ false
         → IfOk result (λ known. known ≡ None) }
     ensures unfaulted { OnOk result (W.faults worktree.new ≡ W.faults worktree.old) }
-    ensures read { OnOk result (with_more (W.reads worktree.old) (files_if setup.now)
-        ≤ W.reads worktree.new) }
-    ensures loads { LoadsFiles W.Worktree worktree.old worktree.new (files_if setup.now) }
+    ensures read { OnOk result (saturating_sum (W.reads worktree.old)
+        (count_files_if_submodules_asked setup.now) ≤ W.reads worktree.new) }
+    ensures loads { ReadsFilesAtMost W.Worktree worktree.old worktree.new
+        (count_files_if_submodules_asked setup.now) }
 {
     if !setup.options.submodules {
         return Ok(None);
     }
     let modules = load_modules(alloc, worktree, root, setup)?;
-    with_active_platform(alloc, modules, setup.options.ignore_case)
+    known_with_active_platform(alloc, modules, setup.options.ignore_case)
 }

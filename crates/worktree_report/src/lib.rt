@@ -26,22 +26,25 @@ mod words;
 mod write_whole;
 
 pub use by_setup::worktree_report;
-pub use converted::{refusal_of_report_error, report_status};
+pub use converted::{exit_status_of_report_error, refusal_of_report_error};
 pub use dir_walk::Strategy;
 pub use error::ReportError;
-pub use escape::{add_escaped, add_escaped_in_word};
+pub use escape::{append_path_escaped, append_path_escaped_in_word};
 pub use facts::{Activity, Facts};
 pub use fault_count::{CountsFaults, has_failed_since};
 pub use lines::report_bytes;
 pub use modules::{Modules, load_modules};
 pub use permissions::{Attributes, Config, Environment, Permission, Permissions, Trust};
 pub use program::run;
-pub use refusal::{Misread, Refusal, WalkWord, say};
+pub use refusal::{Misread, Refusal, WalkWord, write_line_ignoring_refusal};
 pub use report::{Report, ReportEntries, ReportEntry};
 pub use setup::configs::Configs;
-pub use setup::depth::depth_of;
+pub use setup::depth::parse_depth_limit;
 pub use setup::{Setup, SetupError, SetupOptions};
 pub use setup_file::read_setup;
 pub use top_call::write_answer;
-pub use walk_by_setup::{lookup_of, walked_text};
-pub use words::{Places, command_words, places_behind, places_of, words_after_name};
+pub use walk_by_setup::{index_lookup_if_ignore_case, report_text_or_refusal};
+pub use words::{
+    Places, parse_places_of_command, parse_root_and_setup_words, words_behind_composed,
+    words_behind_first_word,
+};

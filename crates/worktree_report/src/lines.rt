@@ -1,10 +1,10 @@
 //! The lines of a report.
 ghost use Rattle.std.specs.Prelude.{◌≡◌, ◌++◌, decimal, if◌then◌else◌, IfOk, OnOk};
-ghost use Rattle.worktree_report.specs.Lines.{status_word, kind_word, match_word, property_word, collapsed_word, activity_word, facts_word, facts_if, rules_file, group_word, origin_word, origin_if, spaced, class_words, line_of, lines_of, outcome_line, text_with};
-ghost use Rattle.worktree_report.specs.Submodules.{of_parts};
+ghost use Rattle.worktree_report.specs.Lines.{word_of_status, word_of_kind, word_of_pathspec_match, word_of_property, word_of_folded_status, word_of_activity, word_of_submodule, submodule_word_if, gitignore_above_path, word_of_rule_group, word_of_rule_origin, rule_origin_word_if, word_and_space, class_words_of_entry, line_of_report_entry, lines_of_report_entries, outcome_line, text_of_report};
+ghost use Rattle.worktree_report.specs.Submodules.{report_entry_of_parts};
 
 use crate::below::join_first_components;
-use crate::escape::{add_escaped, add_escaped_in_word};
+use crate::escape::{append_path_escaped, append_path_escaped_in_word};
 use crate::facts::{Activity, Facts};
 use crate::report::{Report, ReportEntry};
 use crate::setup::SetupOptions;
@@ -15,8 +15,8 @@ use glob_rules::ignore;
 use glob_rules::ignore::{Origin, RuleGroup};
 use std::alloc::Global;
 
-fn status_word(status: Status) -> &'static [u8]
-    ensures { result.now ≡ status_word status }
+fn word_of_status(status: Status) -> &'static [u8]
+    ensures { result.now ≡ word_of_status status }
 {
     match status {
         Status::Pruned => b"pruned",
@@ -27,8 +27,8 @@ fn status_word(status: Status) -> &'static [u8]
     }
 }
 
-fn kind_word(kind: Option<Kind>) -> &'static [u8]
-    ensures { result.now ≡ kind_word kind }
+fn word_of_kind(kind: Option<Kind>) -> &'static [u8]
+    ensures { result.now ≡ word_of_kind kind }
 {
     match kind {
         None => b"-",
@@ -40,8 +40,8 @@ fn kind_word(kind: Option<Kind>) -> &'static [u8]
     }
 }
 
-fn match_word(found: Option<PathspecMatch>) -> &'static [u8]
-    ensures { result.now ≡ match_word found }
+fn word_of_pathspec_match(found: Option<PathspecMatch>) -> &'static [u8]
+    ensures { result.now ≡ word_of_pathspec_match found }
 {
     match found {
         None => b"-",
@@ -53,8 +53,8 @@ fn match_word(found: Option<PathspecMatch>) -> &'static [u8]
     }
 }
 
-fn property_word(property: Option<Property>) -> &'static [u8]
-    ensures { result.now ≡ property_word property }
+fn word_of_property(property: Option<Property>) -> &'static [u8]
+    ensures { result.now ≡ word_of_property property }
 {
     match property {
         None => b"-",
@@ -65,25 +65,25 @@ fn property_word(property: Option<Property>) -> &'static [u8]
     }
 }
 
-fn collapsed_word(status: Option<Status>) -> &'static [u8]
-    ensures { result.now ≡ collapsed_word status }
+fn word_of_folded_status(status: Option<Status>) -> &'static [u8]
+    ensures { result.now ≡ word_of_folded_status status }
 {
     match status {
         None => b"-",
-        Some(status) => status_word(status),
+        Some(status) => word_of_status(status),
     }
 }
 
-fn add_spaced(text: &mut Vec<u8>, word: &[u8]) -> Result<(), OutOfMemory>
-    ensures { OnOk result (text.new.items ≡ text.old.items ++ spaced word.now) }
+fn append_word_and_space(text: &mut Vec<u8>, word: &[u8]) -> Result<(), OutOfMemory>
+    ensures { OnOk result (text.new.items ≡ text.old.items ++ word_and_space word.now) }
 {
     text.extend_from_slice(word)?;
     text.push(b' ')?;
     Ok(())
 }
 
-fn activity_word(activity: &Activity) -> &'static [u8]
-    ensures { result.now ≡ activity_word activity.now }
+fn word_of_activity(activity: &Activity) -> &'static [u8]
+    ensures { result.now ≡ word_of_activity activity.now }
 {
     match activity {
         Activity::Active => b"active:",
@@ -93,35 +93,36 @@ fn activity_word(activity: &Activity) -> &'static [u8]
 }
 
 /// Adds the submodule at a path, and whether it is active.
-fn add_facts(text: &mut Vec<u8>, facts: &Option<Facts>) -> Result<(), OutOfMemory>
-    ensures { OnOk result (text.new.items ≡ text.old.items ++ facts_word facts.now) }
+fn append_submodule_word(text: &mut Vec<u8>, facts: &Option<Facts>) -> Result<(), OutOfMemory>
+    ensures { OnOk result (text.new.items ≡ text.old.items ++ word_of_submodule facts.now) }
 {
     let Some(facts) = facts else {
         text.push(b'-')?;
         return Ok(());
     };
-    text.extend_from_slice(activity_word(&facts.active))?;
-    add_escaped_in_word(text, facts.name.as_bytes())
+    text.extend_from_slice(word_of_activity(&facts.active))?;
+    append_path_escaped_in_word(text, facts.name.as_bytes())
 }
 
 /// Adds a space and that word, where it is asked for.
-fn add_facts_if(
+fn append_submodule_word_if(
     text: &mut Vec<u8>,
     submodules: bool,
     facts: &Option<Facts>,
 ) -> Result<(), OutOfMemory>
-    ensures { OnOk result (text.new.items ≡ text.old.items ++ facts_if submodules facts.now) }
+    ensures { OnOk result (text.new.items ≡ text.old.items ++ submodule_word_if submodules
+        facts.now) }
 {
     if !submodules {
         return Ok(());
     }
     text.push(b' ')?;
-    add_facts(text, facts)
+    append_submodule_word(text, facts)
 }
 
 /// The rules file of the directory above a path that has so many components.
-fn rules_file(alloc: Global, path: &[u8], depth: usize) -> Result<PathText, OutOfMemory>
-    ensures { IfOk result (λ file. file ≡ rules_file path.now depth) }
+fn gitignore_above_path(alloc: Global, path: &[u8], depth: usize) -> Result<PathText, OutOfMemory>
+    ensures { IfOk result (λ file. file ≡ gitignore_above_path path.now depth) }
 {
     let mut file = join_first_components(alloc, b"", depth, path)?;
     file.push_component(alloc, b".gitignore")?;
@@ -129,19 +130,19 @@ fn rules_file(alloc: Global, path: &[u8], depth: usize) -> Result<PathText, OutO
 }
 
 /// Adds the list of a rule that decided about a path.
-fn add_group(
+fn append_rule_group(
     alloc: Global,
     text: &mut Vec<u8>,
     path: &[u8],
     group: RuleGroup,
 ) -> Result<(), OutOfMemory>
-    ensures { OnOk result (text.new.items ≡ text.old.items ++ group_word path.now group) }
+    ensures { OnOk result (text.new.items ≡ text.old.items ++ word_of_rule_group path.now group) }
 {
     match group {
         RuleGroup::Overrides => text.extend_from_slice(b"overrides")?,
         RuleGroup::Directory { depth } => {
-            let file = rules_file(alloc, path, depth)?;
-            add_escaped_in_word(text, file.as_bytes())?;
+            let file = gitignore_above_path(alloc, path, depth)?;
+            append_path_escaped_in_word(text, file.as_bytes())?;
         }
         RuleGroup::Globals => text.extend_from_slice(b"globals")?,
     }
@@ -149,70 +150,70 @@ fn add_group(
 }
 
 /// The sign of a rule.
-fn sign_of(negative: bool) -> u8
+fn sign_of_rule(negative: bool) -> u8
     ensures { result ≡ (if negative then 33 else 43) }
 {
     if negative { b'!' } else { b'+' }
 }
 
 /// Adds where the rule that decided about a path stands.
-fn add_origin(
+fn append_rule_origin(
     alloc: Global,
     text: &mut Vec<u8>,
     path: &[u8],
     origin: Option<Origin>,
 ) -> Result<(), OutOfMemory>
-    ensures { OnOk result (text.new.items ≡ text.old.items ++ origin_word path.now origin) }
+    ensures { OnOk result (text.new.items ≡ text.old.items ++ word_of_rule_origin path.now origin) }
 {
     let Some(origin) = origin else {
         text.push(b'-')?;
         return Ok(());
     };
-    text.push(sign_of(origin.negative))?;
-    add_group(alloc, text, path, origin.group)?;
+    text.push(sign_of_rule(origin.negative))?;
+    append_rule_group(alloc, text, path, origin.group)?;
     text.push(b':')?;
-    add_number(alloc, text, origin.line as u64)
+    append_decimal_number(alloc, text, origin.line as u64)
 }
 
 /// Adds a space and that word, where it is asked for.
-fn add_origin_if(
+fn append_rule_origin_if(
     alloc: Global,
     text: &mut Vec<u8>,
     origins: bool,
     entry: &Entry,
 ) -> Result<(), OutOfMemory>
     ensures { OnOk result (text.new.items
-        ≡ text.old.items ++ origin_if origins entry.now.rela_path entry.now.origin) }
+        ≡ text.old.items ++ rule_origin_word_if origins entry.now.rela_path entry.now.origin) }
 {
     if !origins {
         return Ok(());
     }
     text.push(b' ')?;
-    add_origin(alloc, text, entry.rela_path.as_bytes(), entry.origin)
+    append_rule_origin(alloc, text, entry.rela_path.as_bytes(), entry.origin)
 }
 
 /// Adds what each line has: the class of an entry, and the status of the directory that it was
 /// folded into.
-fn add_class(
+fn append_class_words(
     text: &mut Vec<u8>,
     entry: &Entry,
     collapsed: Option<Status>,
 ) -> Result<(), OutOfMemory>
     ensures { OnOk result (text.new.items
-        ≡ text.old.items ++ class_words entry.now collapsed) }
+        ≡ text.old.items ++ class_words_of_entry entry.now collapsed) }
 {
-    add_spaced(text, status_word(entry.status))?;
-    add_spaced(text, kind_word(entry.disk_kind))?;
-    add_spaced(text, kind_word(entry.index_kind))?;
-    add_spaced(text, match_word(entry.pathspec_match))?;
-    add_spaced(text, property_word(entry.property))?;
-    text.extend_from_slice(collapsed_word(collapsed))?;
+    append_word_and_space(text, word_of_status(entry.status))?;
+    append_word_and_space(text, word_of_kind(entry.disk_kind))?;
+    append_word_and_space(text, word_of_kind(entry.index_kind))?;
+    append_word_and_space(text, word_of_pathspec_match(entry.pathspec_match))?;
+    append_word_and_space(text, word_of_property(entry.property))?;
+    text.extend_from_slice(word_of_folded_status(collapsed))?;
     Ok(())
 }
 
 /// Adds the line of an entry.
-#[tactic(auto, unfolding(crate::specs::Lines::line_of))]
-pub fn add_line(
+#[tactic(auto, unfolding(crate::specs::Lines::line_of_report_entry))]
+pub fn append_line_of_entry(
     alloc: Global,
     text: &mut Vec<u8>,
     options: &SetupOptions,
@@ -220,29 +221,30 @@ pub fn add_line(
     collapsed: Option<Status>,
     facts: &Option<Facts>,
 ) -> Result<(), OutOfMemory>
-    ensures { OnOk result (text.new.items
-        ≡ text.old.items ++ line_of options.now (of_parts entry.now collapsed facts.now)) }
+    ensures { OnOk result (text.new.items ≡ text.old.items ++ line_of_report_entry options.now
+        (report_entry_of_parts entry.now collapsed facts.now)) }
 {
-    add_class(text, entry, collapsed)?;
-    add_facts_if(text, options.submodules, facts)?;
-    add_origin_if(alloc, text, options.origins, entry)?;
+    append_class_words(text, entry, collapsed)?;
+    append_submodule_word_if(text, options.submodules, facts)?;
+    append_rule_origin_if(alloc, text, options.origins, entry)?;
     text.push(b'\t')?;
-    add_escaped(text, entry.rela_path.as_bytes())?;
+    append_path_escaped(text, entry.rela_path.as_bytes())?;
     text.push(b'\n')?;
     Ok(())
 }
 
 /// Adds the lines of the entries, in their order.
-fn add_lines(
+fn append_lines_of_entries(
     alloc: Global,
     text: &mut Vec<u8>,
     options: &SetupOptions,
     entries: &[ReportEntry],
 ) -> Result<(), OutOfMemory>
-    ensures { OnOk result (text.new.items ≡ text.old.items ++ lines_of options.now entries.now) }
+    ensures { OnOk result (text.new.items ≡ text.old.items ++ lines_of_report_entries options.now
+        entries.now) }
 {
     for entry in entries {
-        add_line(
+        append_line_of_entry(
             alloc,
             text,
             options,
@@ -255,7 +257,11 @@ fn add_lines(
 }
 
 /// Adds a decimal number.
-pub fn add_number(alloc: Global, text: &mut Vec<u8>, number: u64) -> Result<(), OutOfMemory>
+pub fn append_decimal_number(
+    alloc: Global,
+    text: &mut Vec<u8>,
+    number: u64,
+) -> Result<(), OutOfMemory>
     ensures { OnOk result (text.new.items ≡ text.old.items ++ decimal number) }
 {
     let digits = format!(in alloc; "{number}")?;
@@ -264,15 +270,19 @@ pub fn add_number(alloc: Global, text: &mut Vec<u8>, number: u64) -> Result<(), 
 }
 
 /// Adds the line that says how much was walked.
-pub fn add_outcome(alloc: Global, text: &mut Vec<u8>, outcome: &Outcome) -> Result<(), OutOfMemory>
+pub fn append_outcome_line(
+    alloc: Global,
+    text: &mut Vec<u8>,
+    outcome: &Outcome,
+) -> Result<(), OutOfMemory>
     ensures { OnOk result (text.new.items ≡ text.old.items ++ outcome_line outcome.now) }
 {
     text.extend_from_slice(b"# read_dir ")?;
-    add_number(alloc, text, outcome.read_dir_calls as u64)?;
+    append_decimal_number(alloc, text, outcome.read_dir_calls as u64)?;
     text.extend_from_slice(b" returned ")?;
-    add_number(alloc, text, outcome.returned_entries as u64)?;
+    append_decimal_number(alloc, text, outcome.returned_entries as u64)?;
     text.extend_from_slice(b" seen ")?;
-    add_number(alloc, text, outcome.seen_entries as u64)?;
+    append_decimal_number(alloc, text, outcome.seen_entries as u64)?;
     text.push(b'\n')?;
     Ok(())
 }
@@ -288,12 +298,12 @@ pub fn report_bytes(
     report: &Report,
     options: &SetupOptions,
 ) -> Result<Bytes, OutOfMemory>
-    ensures { IfOk result (λ text. text ≡ text_with options.now report.now) }
+    ensures { IfOk result (λ text. text ≡ text_of_report options.now report.now) }
 {
     let mut text = Vec::new(alloc);
-    add_lines(alloc, &mut text, options, report.entries.as_slice())?;
+    append_lines_of_entries(alloc, &mut text, options, report.entries.as_slice())?;
     if options.print_outcome {
-        add_outcome(alloc, &mut text, &report.outcome)?;
+        append_outcome_line(alloc, &mut text, &report.outcome)?;
     }
     Ok(Bytes::from_vec(text))
 }

@@ -1,11 +1,11 @@
 //! The files that tell of submodules.
 ghost use Rattle.std.specs.Prelude.{◌≡◌, ◌≤◌, ℕ, Some, IfOk, IfErr, IsErrOf, OnOk, if◌then◌else◌};
 ghost use Rattle.git_config_lite.specs.Grammar.{parse_text_sections};
-ghost use Rattle.worktree_fs.specs.Causes.{Increased, with_more};
+ghost use Rattle.worktree_fs.specs.Causes.{CountIncreasedOrSaturated, saturating_sum};
 ghost use Rattle.worktree_fs.specs.Tree.{Names, look};
 ghost use Rattle.worktree_report.specs.Loading as loading;
-ghost use Rattle.worktree_report.specs.Loads.{Gives, ReadsConfig, LoadsFiles, OfConfig, OfModules};
-ghost use Rattle.worktree_report.specs.Outside.{IsConfigAt, IsConfigOf, IsModulesOf, IsOutside, OnMisread, Stops};
+ghost use Rattle.worktree_report.specs.Loads.{IsResultUnlessFault, IsConfigParseResult, ReadsFilesAtMost, IsErrorOfReadingConfig, IsErrorOfReadingModules};
+ghost use Rattle.worktree_report.specs.Outside.{IsMisreadOfNumberedConfig, IsMisreadOfSomeConfig, IsMisreadOfGitmodules, IsMisreadOfSetup, HoldsOfMisread, StopsReadingAtError};
 ghost use Rattle.worktree_report.specs.Permissions.{admits};
 
 use crate::error::ReportError;
@@ -30,19 +30,19 @@ pub struct Modules {
 
 /// The bytes of the file that a path leads to. What is no file counts as an empty one.
 /// See docs/DECISIONS.md#nul-in-paths.
-fn bytes_at<W: Worktree>(
+fn read_file_or_empty<W: Worktree>(
     alloc: Global,
     worktree: &mut W,
     path: &[u8],
     follow: bool,
 ) -> Result<Bytes, ReadError>
     ensures bytes { (t : Names) → W.told worktree.old ≡ Some t
-        → IfOk result (λ bytes. bytes ≡ loading.bytes_at (look t path.now follow)) }
+        → IfOk result (λ bytes. bytes ≡ loading.file_bytes_or_empty (look t path.now follow)) }
     ensures cause { IsErrOf result ReadError.Fault
-        → Increased (W.faults worktree.old) (W.faults worktree.new) }
+        → CountIncreasedOrSaturated (W.faults worktree.old) (W.faults worktree.new) }
     ensures unfaulted { OnOk result (W.faults worktree.new ≡ W.faults worktree.old) }
-    ensures read { OnOk result (with_more (W.reads worktree.old) 1 ≤ W.reads worktree.new) }
-    ensures loads { LoadsFiles W.Worktree worktree.old worktree.new 1 }
+    ensures read { OnOk result (saturating_sum (W.reads worktree.old) 1 ≤ W.reads worktree.new) }
+    ensures loads { ReadsFilesAtMost W.Worktree worktree.old worktree.new 1 }
 {
     let mut bytes = Bytes::new(alloc);
     match worktree.read(alloc, path, follow, &mut bytes)? {
@@ -54,13 +54,14 @@ fn bytes_at<W: Worktree>(
 /// What the text of a configuration says, by the number of its line.
 ///
 /// `Config` names its first line outside the grammar of git-config(1).
-fn config_of(
+fn parse_numbered_config(
     alloc: Global,
     at: usize,
     named: &(Source, PathText),
     bytes: &[u8],
 ) -> Result<config::File, ReportError>
-    ensures { ReadsConfig result at (parse_text_sections (loading.meta_of named.now) bytes.now) }
+    ensures { IsConfigParseResult result at (parse_text_sections (loading.metadata_of_config_file
+        named.now) bytes.now) }
 {
     let meta = Metadata {
         source: named.0,
@@ -74,7 +75,7 @@ fn config_of(
 }
 
 /// A configuration behind others, where the permissions admit it.
-fn with_config<W: Worktree>(
+fn append_config_if_admitted<W: Worktree>(
     alloc: Global,
     worktree: &mut W,
     permissions: &Permissions,
@@ -82,44 +83,47 @@ fn with_config<W: Worktree>(
     named: &(Source, PathText),
     mut config: config::File,
 ) -> Result<config::File, ReportError>
-    ensures gives { (t : Names) → W.told worktree.old ≡ Some t
-        → Gives result (loading.with_config t permissions.now at named.now config) }
-    ensures answers { IfErr result (OfConfig (Increased (W.faults worktree.old)
-        (W.faults worktree.new))) }
-    ensures outside { IfErr result (OnMisread (IsConfigAt permissions.now at named.now)) }
+    ensures gives { (t : Names) → W.told worktree.old ≡ Some t → IsResultUnlessFault result
+        (loading.append_config_if_admitted t permissions.now at named.now config) }
+    ensures answers { IfErr result (IsErrorOfReadingConfig (CountIncreasedOrSaturated
+        (W.faults worktree.old) (W.faults worktree.new))) }
+    ensures outside { IfErr result (HoldsOfMisread (IsMisreadOfNumberedConfig permissions.now at
+        named.now)) }
     ensures unfaulted { OnOk result (W.faults worktree.new ≡ W.faults worktree.old) }
-    ensures read { OnOk result (with_more (W.reads worktree.old)
+    ensures read { OnOk result (saturating_sum (W.reads worktree.old)
         (if admits permissions.now named.now.0 then 1 else 0) ≤ W.reads worktree.new) }
-    ensures loads { LoadsFiles W.Worktree worktree.old worktree.new
+    ensures loads { ReadsFilesAtMost W.Worktree worktree.old worktree.new
         (if admits permissions.now named.now.0 then 1 else 0) }
 {
     if !permissions.admits(named.0) {
         return Ok(config);
     }
-    let bytes = bytes_at(alloc, worktree, named.1.as_bytes(), true)?;
-    let file = config_of(alloc, at, named, bytes.as_bytes())?;
+    let bytes = read_file_or_empty(alloc, worktree, named.1.as_bytes(), true)?;
+    let file = parse_numbered_config(alloc, at, named, bytes.as_bytes())?;
     config.append(alloc, file)?;
     Ok(config)
 }
 
 /// The configurations of a setup that its permissions admit, one behind another.
-fn with_configs<W: Worktree>(
+fn read_admitted_configs<W: Worktree>(
     alloc: Global,
     worktree: &mut W,
     setup: &Setup,
 ) -> Result<config::File, ReportError>
-    ensures gives { (t : Names) → W.told worktree.old ≡ Some t → Gives result (loading.with_configs
-        t setup.now.options.permissions 1 setup.now.configs loading.no_config) }
-    ensures answers { IfErr result (OfConfig (Increased (W.faults worktree.old)
-        (W.faults worktree.new))) }
-    ensures outside { IfErr result (OnMisread (IsConfigOf setup.now)) }
-    ensures stops { IfErr result (Stops W.Worktree worktree.old worktree.new setup.now) }
+    ensures gives { (t : Names) → W.told worktree.old ≡ Some t → IsResultUnlessFault result
+        (loading.append_admitted_configs t setup.now.options.permissions 1 setup.now.configs
+        loading.empty_configuration) }
+    ensures answers { IfErr result (IsErrorOfReadingConfig (CountIncreasedOrSaturated
+        (W.faults worktree.old) (W.faults worktree.new))) }
+    ensures outside { IfErr result (HoldsOfMisread (IsMisreadOfSomeConfig setup.now)) }
+    ensures stops { IfErr result (StopsReadingAtError W.Worktree worktree.old worktree.new
+        setup.now) }
     ensures unfaulted { OnOk result (W.faults worktree.new ≡ W.faults worktree.old) }
-    ensures read { OnOk result (with_more (W.reads worktree.old)
-        (loading.admitted setup.now.options.permissions setup.now.configs)
+    ensures read { OnOk result (saturating_sum (W.reads worktree.old)
+        (loading.count_admitted_configs setup.now.options.permissions setup.now.configs)
         ≤ W.reads worktree.new) }
-    ensures loads { LoadsFiles W.Worktree worktree.old worktree.new
-        (loading.admitted setup.now.options.permissions setup.now.configs) }
+    ensures loads { ReadsFilesAtMost W.Worktree worktree.old worktree.new
+        (loading.count_admitted_configs setup.now.options.permissions setup.now.configs) }
 {
     let meta = Metadata {
         source: Source::Api,
@@ -127,7 +131,7 @@ fn with_configs<W: Worktree>(
     };
     let mut config = config::File::new(alloc, meta);
     for (i, named) in setup.configs.as_slice().iter().enumerate() {
-        config = with_config(
+        config = append_config_if_admitted(
             alloc,
             worktree,
             &setup.options.permissions,
@@ -140,8 +144,8 @@ fn with_configs<W: Worktree>(
 }
 
 /// The path of `.gitmodules`.
-fn modules_path(alloc: Global, root: &[u8]) -> Result<PathText, OutOfMemory>
-    ensures { IfOk result (λ path. path ≡ loading.modules_path root.now) }
+fn gitmodules_path(alloc: Global, root: &[u8]) -> Result<PathText, OutOfMemory>
+    ensures { IfOk result (λ path. path ≡ loading.gitmodules_path root.now) }
 {
     let mut path = PathText::from_bytes(alloc, root)?;
     path.push_component(alloc, b".gitmodules")?;
@@ -149,24 +153,24 @@ fn modules_path(alloc: Global, root: &[u8]) -> Result<PathText, OutOfMemory>
 }
 
 /// `.gitmodules` with the overrides of a configuration behind it, beside that configuration.
-fn modules_beside<W: Worktree>(
+fn read_gitmodules_with_config<W: Worktree>(
     alloc: Global,
     worktree: &mut W,
     root: &[u8],
     config: config::File,
 ) -> Result<Modules, ReportError>
     ensures gives { (t : Names) → W.told worktree.old ≡ Some t
-        → Gives result (loading.modules_beside t root.now config) }
-    ensures text { IfOk result (loading.AreModules root.now) }
-    ensures answers { IfErr result (OfModules (Increased (W.faults worktree.old)
-        (W.faults worktree.new))) }
-    ensures outside { IfErr result (OnMisread (IsModulesOf root.now)) }
+        → IsResultUnlessFault result (loading.parse_gitmodules_with_config t root.now config) }
+    ensures text { IfOk result (loading.AreModulesOfSomeText root.now) }
+    ensures answers { IfErr result (IsErrorOfReadingModules (CountIncreasedOrSaturated
+        (W.faults worktree.old) (W.faults worktree.new))) }
+    ensures outside { IfErr result (HoldsOfMisread (IsMisreadOfGitmodules root.now)) }
     ensures unfaulted { OnOk result (W.faults worktree.new ≡ W.faults worktree.old) }
-    ensures read { OnOk result (with_more (W.reads worktree.old) 1 ≤ W.reads worktree.new) }
-    ensures loads { LoadsFiles W.Worktree worktree.old worktree.new 1 }
+    ensures read { OnOk result (saturating_sum (W.reads worktree.old) 1 ≤ W.reads worktree.new) }
+    ensures loads { ReadsFilesAtMost W.Worktree worktree.old worktree.new 1 }
 {
-    let path = modules_path(alloc, root)?;
-    let bytes = bytes_at(alloc, worktree, path.as_bytes(), false)?;
+    let path = gitmodules_path(alloc, root)?;
+    let bytes = read_file_or_empty(alloc, worktree, path.as_bytes(), false)?;
     match submodule::File::from_bytes(alloc, bytes.as_bytes(), Some(path), &config) {
         Ok(file) => Ok(Modules { file, config }),
         Err(init::Error::Parse { line }) => Err(ReportError::Modules { line }),
@@ -190,25 +194,27 @@ fn modules_beside<W: Worktree>(
 ///
 /// See docs/DECISIONS.md#joined-configurations.
 /// See docs/DECISIONS.md#config-numbers.
-#[tactic(auto, unfolding(crate::specs::Loading::modules_in))]
+#[tactic(auto, unfolding(crate::specs::Loading::modules_of_setup_in_tree))]
 pub fn load_modules<W: Worktree>(
     alloc: Global,
     worktree: &mut W,
     worktree_root: &[u8],
     setup: &Setup,
 ) -> Result<Modules, ReportError>
-    ensures gives { (t : Names) → W.told worktree.old ≡ Some t
-        → Gives result (loading.modules_in t worktree_root.now setup.now) }
-    ensures text { IfOk result (loading.AreModules worktree_root.now) }
-    ensures answers { IfErr result (OfModules (Increased (W.faults worktree.old)
-        (W.faults worktree.new))) }
-    ensures outside { IfErr result (OnMisread (IsOutside worktree_root.now setup.now)) }
-    ensures stops { IfErr result (Stops W.Worktree worktree.old worktree.new setup.now) }
+    ensures gives { (t : Names) → W.told worktree.old ≡ Some t → IsResultUnlessFault result
+        (loading.modules_of_setup_in_tree t worktree_root.now setup.now) }
+    ensures text { IfOk result (loading.AreModulesOfSomeText worktree_root.now) }
+    ensures answers { IfErr result (IsErrorOfReadingModules (CountIncreasedOrSaturated
+        (W.faults worktree.old) (W.faults worktree.new))) }
+    ensures outside { IfErr result (HoldsOfMisread (IsMisreadOfSetup worktree_root.now setup.now)) }
+    ensures stops { IfErr result (StopsReadingAtError W.Worktree worktree.old worktree.new
+        setup.now) }
     ensures unfaulted { OnOk result (W.faults worktree.new ≡ W.faults worktree.old) }
-    ensures read { OnOk result (with_more (W.reads worktree.old) (loading.files_of setup.now)
-        ≤ W.reads worktree.new) }
-    ensures loads { LoadsFiles W.Worktree worktree.old worktree.new (loading.files_of setup.now) }
+    ensures read { OnOk result (saturating_sum (W.reads worktree.old)
+        (loading.count_files_for_submodules setup.now) ≤ W.reads worktree.new) }
+    ensures loads { ReadsFilesAtMost W.Worktree worktree.old worktree.new
+        (loading.count_files_for_submodules setup.now) }
 {
-    let config = with_configs(alloc, worktree, setup)?;
-    modules_beside(alloc, worktree, worktree_root, config)
+    let config = read_admitted_configs(alloc, worktree, setup)?;
+    read_gitmodules_with_config(alloc, worktree, worktree_root, config)
 }

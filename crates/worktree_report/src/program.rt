@@ -1,19 +1,19 @@
 //! The top call.
 ghost use Rattle.std.specs.Prelude.{◌≡◌, ◌⊎◌, ◌↔◌, ℕ, List, Some, None};
 ghost use Rattle.worktree_fs.specs.Tree.{Names};
-ghost use Rattle.worktree_fs.specs.Causes.{NotIncreased};
-ghost use Rattle.worktree_report.specs.Words.{command_of};
-ghost use Rattle.worktree_report.specs.Written.{Appends};
-ghost use Rattle.worktree_report.specs.Ends.{Runs};
-ghost use Rattle.worktree_report.specs.Run.{usage, output_of, IsValid, Answers, AnswersReport};
-ghost use Rattle.worktree_report.specs.Named.{named_by};
+ghost use Rattle.worktree_fs.specs.Causes.{CountNotIncreased};
+ghost use Rattle.worktree_report.specs.Words.{parse_command_words};
+ghost use Rattle.worktree_report.specs.Written.{AppendsWholeBytes};
+ghost use Rattle.worktree_report.specs.Ends.{TopCallAnswersAndEnds};
+ghost use Rattle.worktree_report.specs.Run.{usage, text_of_command_words, AreWordsValidInTree, AnswersParsedCommand, AnswersReportCommand};
+ghost use Rattle.worktree_report.specs.Named.{places_of_borrowed};
 
-use crate::generate::generated_text;
+use crate::generate::text_of_generated_report;
 use crate::refusal::Refusal;
 use crate::setup_file::read_setup;
 use crate::top_call::write_answer;
-use crate::walk_by_setup::walked_text;
-use crate::words::{Command, Places, command_of};
+use crate::walk_by_setup::report_text_or_refusal;
+use crate::words::{Command, Places, parse_command_words};
 use gitbase_core::Bytes;
 use std::alloc::Global;
 use worktree_fs::{Interrupt, Sink, Worktree};
@@ -22,35 +22,35 @@ use worktree_fs::{Interrupt, Sink, Worktree};
 const USAGE: &[u8] = b"usage: report ROOT SETUP or generate N\n";
 
 /// The text of the report of a work tree by a setup, or why there is none.
-fn report_text<W: Worktree, I: Interrupt>(
+fn text_of_report_command<W: Worktree, I: Interrupt>(
     alloc: Global,
     places: Places<'_>,
     worktree: &mut W,
     interrupt: &mut I,
 ) -> Result<Bytes, Refusal>
-    ensures { AnswersReport W.Worktree I.Interrupt worktree.old worktree.new interrupt.old
-        interrupt.new (named_by places.entry) result }
+    ensures { AnswersReportCommand W.Worktree I.Interrupt worktree.old worktree.new interrupt.old
+        interrupt.new (places_of_borrowed places.entry) result }
 {
     let setup = read_setup(alloc, worktree, places.setup)?;
-    walked_text(alloc, worktree, interrupt, places.root, setup)
+    report_text_or_refusal(alloc, worktree, interrupt, places.root, setup)
 }
 
 /// The text that the words ask for, or why there is none.
-fn text_asked<W: Worktree, I: Interrupt>(
+fn text_of_command_words<W: Worktree, I: Interrupt>(
     alloc: Global,
     words: &[Bytes],
     worktree: &mut W,
     interrupt: &mut I,
 ) -> Result<Bytes, Refusal>
-    ensures { Answers W.Worktree I.Interrupt worktree.old worktree.new interrupt.old interrupt.new
-        (command_of (W.precomposes worktree.old) words.now) result }
+    ensures { AnswersParsedCommand W.Worktree I.Interrupt worktree.old worktree.new interrupt.old
+        interrupt.new (parse_command_words (W.precomposes worktree.old) words.now) result }
 {
-    let Some(command) = command_of(worktree.precomposes(), words) else {
+    let Some(command) = parse_command_words(worktree.precomposes(), words) else {
         return Err(Refusal::Usage);
     };
     match command {
-        Command::Report(places) => report_text(alloc, places, worktree, interrupt),
-        Command::Generate { count } => generated_text(alloc, count, interrupt),
+        Command::Report(places) => text_of_report_command(alloc, places, worktree, interrupt),
+        Command::Generate { count } => text_of_generated_report(alloc, count, interrupt),
     }
 }
 
@@ -86,27 +86,28 @@ pub fn run<W: Worktree, I: Interrupt, S: Sink, E: Sink>(
 ) -> u8
     // What the words ask for came to an answer: a text, or a refusal with its cause. The status,
     // `out` and `err` are as that answer has it, and what stays is said of each.
-    ensures runs { Runs S.Sink E.Sink out.old out.new err.old err.new usage
-        (Answers W.Worktree I.Interrupt worktree.old worktree.new interrupt.old interrupt.new
-        (command_of (W.precomposes worktree.old) words.now)) result }
+    ensures runs { TopCallAnswersAndEnds S.Sink E.Sink out.old out.new err.old err.new usage
+        (AnswersParsedCommand W.Worktree I.Interrupt worktree.old worktree.new interrupt.old
+        interrupt.new (parse_command_words (W.precomposes worktree.old) words.now)) result }
 
     // Status 0, over a told tree and with no fault counted: what `out` has is what it had, and the
     // lines of the report.
-    ensures report { (t : Names) → W.told worktree.old ≡ Some t
-        → NotIncreased (W.faults worktree.old) (W.faults worktree.new) → result ≡ 0
-        → (text : List ℕ) × (output_of (W.precomposes worktree.old) t words.now ≡ Some text)
-        × Appends (S.written out.old) (S.written out.new) text }
+    ensures report { (t : Names) → W.told worktree.old ≡ Some t → CountNotIncreased
+        (W.faults worktree.old) (W.faults worktree.new) → result ≡ 0 → (text : List ℕ)
+        × (text_of_command_words (W.precomposes worktree.old) t words.now ≡ Some text)
+        × AppendsWholeBytes (S.written out.old) (S.written out.new) text }
 
     // Status 2 exactly where the words ask for nothing.
-    ensures usage { (result ≡ 2) ↔ (command_of (W.precomposes worktree.old) words.now ≡ None) }
+    ensures usage { (result ≡ 2) ↔ (parse_command_words (W.precomposes worktree.old) words.now
+        ≡ None) }
 
     // Valid input, over a told tree and with nothing counted.
-    ensures complete { (t : Names) → W.told worktree.old ≡ Some t
-        → IsValid (W.precomposes worktree.old) t words.now
-        → NotIncreased (W.faults worktree.old) (W.faults worktree.new)
-        → NotIncreased (I.raised interrupt.old) (I.raised interrupt.new)
-        → NotIncreased (S.refusals out.old) (S.refusals out.new) → (result ≡ 0) ⊎ (result ≡ 8) }
+    ensures complete { (t : Names) → W.told worktree.old ≡ Some t → AreWordsValidInTree
+        (W.precomposes worktree.old) t words.now → CountNotIncreased (W.faults worktree.old)
+        (W.faults worktree.new) → CountNotIncreased (I.raised interrupt.old)
+        (I.raised interrupt.new) → CountNotIncreased (S.refusals out.old) (S.refusals out.new)
+        → (result ≡ 0) ⊎ (result ≡ 8) }
 {
-    let answer = text_asked(alloc, words, worktree, interrupt);
+    let answer = text_of_command_words(alloc, words, worktree, interrupt);
     write_answer(alloc, USAGE, answer, out, err)
 }

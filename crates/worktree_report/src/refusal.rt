@@ -1,10 +1,10 @@
 //! Why there is no report: the status and the line of each refusal.
 ghost use Rattle.std.specs.Prelude.{◌≡◌, ◌≤◌, [], true, false, IfOk, OnErr};
-ghost use Rattle.worktree_report.specs.Ends.{IsTold, IsToldOf};
-ghost use Rattle.worktree_report.specs.Refusals.{status_of, word_of, line_of, Says, is_made, IsLineIfMade};
+ghost use Rattle.worktree_report.specs.Ends.{ReportsRefusalOrMemory, ReportsRefusalLine};
+ghost use Rattle.worktree_report.specs.Refusals.{status_of, bytes_of_walk_word, line_of_refusal, WritesLineOrRefusedFront, takes_memory_for_line, IsLineIfTakesMemory};
 
-use crate::escape::add_escaped;
-use crate::write_whole::write_whole;
+use crate::escape::append_path_escaped;
+use crate::write_whole::write_all_bytes;
 use gitbase_core::{Bytes, OutOfMemory, PathText};
 use std::alloc::Global;
 use worktree_fs::Sink;
@@ -98,8 +98,8 @@ pub fn status_of(refusal: &Refusal) -> u8
     }
 }
 
-fn word_of(word: WalkWord) -> &'static [u8]
-    ensures { result.now ≡ word_of word }
+fn bytes_of_walk_word(word: WalkWord) -> &'static [u8]
+    ensures { result.now ≡ bytes_of_walk_word word }
 {
     match word {
         WalkWord::RootIsFile => b"root-is-file",
@@ -115,15 +115,15 @@ fn word_of(word: WalkWord) -> &'static [u8]
     }
 }
 
-fn setup_line(alloc: Global, line: usize) -> Result<Bytes, OutOfMemory>
-    ensures { IfOk result (λ text. text ≡ line_of [] (Refusal.Setup line)) }
+fn format_setup_refusal_line(alloc: Global, line: usize) -> Result<Bytes, OutOfMemory>
+    ensures { IfOk result (λ text. text ≡ line_of_refusal [] (Refusal.Setup line)) }
 {
     let text = format!(in alloc; "setup: line {line}\n")?;
     Ok(Bytes::from_slice(alloc, text.as_bytes())?)
 }
 
-fn misread_line(alloc: Global, misread: Misread) -> Result<Bytes, OutOfMemory>
-    ensures { IfOk result (λ text. text ≡ line_of [] (Refusal.Misread misread)) }
+fn format_misread_line(alloc: Global, misread: Misread) -> Result<Bytes, OutOfMemory>
+    ensures { IfOk result (λ text. text ≡ line_of_refusal [] (Refusal.Misread misread)) }
 {
     let text = match misread {
         Misread::Config { at, line } => format!(in alloc; "config {at}: line {line}\n")?,
@@ -133,31 +133,36 @@ fn misread_line(alloc: Global, misread: Misread) -> Result<Bytes, OutOfMemory>
     Ok(Bytes::from_slice(alloc, text.as_bytes())?)
 }
 
-fn walk_line(alloc: Global, word: WalkWord, path: &[u8]) -> Result<Bytes, OutOfMemory>
-    ensures { IfOk result (λ text. text ≡ line_of [] (Refusal.Walk word path.now)) }
+fn format_walk_refusal_line(
+    alloc: Global,
+    word: WalkWord,
+    path: &[u8],
+) -> Result<Bytes, OutOfMemory>
+    ensures { IfOk result (λ text. text ≡ line_of_refusal [] (Refusal.Walk word path.now)) }
 {
     let mut text = Vec::new(alloc);
     text.extend_from_slice(b"walk: ")?;
-    text.extend_from_slice(word_of(word))?;
+    text.extend_from_slice(bytes_of_walk_word(word))?;
     text.push(b' ')?;
-    add_escaped(&mut text, path)?;
+    append_path_escaped(&mut text, path)?;
     text.push(b'\n')?;
     Ok(Bytes::from_vec(text))
 }
 
 /// Writes a line, and lets a refusal be.
 /// See docs/DECISIONS.md#line-wants-memory.
-pub fn say<E: Sink>(err: &mut E, line: &[u8])
-    ensures said { Says (E.written err.old) (E.written err.new) (E.refusals err.old)
-        (E.refusals err.new) line.now }
+pub fn write_line_ignoring_refusal<E: Sink>(err: &mut E, line: &[u8])
+    ensures said { WritesLineOrRefusedFront (E.written err.old) (E.written err.new)
+        (E.refusals err.old) (E.refusals err.new) line.now }
     ensures later { E.refusals err.old ≤ E.refusals err.new }
 {
-    let _ = write_whole(err, line);
+    let _ = write_all_bytes(err, line);
 }
 
 /// The line of a refusal that needs no memory for it.
-fn fixed_line<'a>(usage: &'a [u8], refusal: &Refusal) -> &'a [u8]
-    ensures { is_made refusal.now ≡ false → result.now ≡ line_of usage.now refusal.now }
+fn constant_line_of_refusal<'a>(usage: &'a [u8], refusal: &Refusal) -> &'a [u8]
+    ensures { takes_memory_for_line refusal.now ≡ false → result.now ≡ line_of_refusal usage.now
+        refusal.now }
 {
     match refusal {
         Refusal::Interrupted => b"interrupted\n",
@@ -172,14 +177,18 @@ fn fixed_line<'a>(usage: &'a [u8], refusal: &Refusal) -> &'a [u8]
 }
 
 /// The line of a refusal that needs memory for it; none where it needs none.
-fn made_line(alloc: Global, refusal: &Refusal) -> Result<Option<Bytes>, OutOfMemory>
-    ensures line { IfOk result (λ made. IsLineIfMade made refusal.now) }
-    ensures memory { OnErr result (is_made refusal.now ≡ true) }
+fn allocated_line_of_refusal(alloc: Global, refusal: &Refusal) -> Result<Option<Bytes>, OutOfMemory>
+    ensures line { IfOk result (λ made. IsLineIfTakesMemory made refusal.now) }
+    ensures memory { OnErr result (takes_memory_for_line refusal.now ≡ true) }
 {
     match refusal {
-        Refusal::Setup { line } => Ok(Some(setup_line(alloc, *line)?)),
-        Refusal::Misread(misread) => Ok(Some(misread_line(alloc, *misread)?)),
-        Refusal::Walk { word, path } => Ok(Some(walk_line(alloc, *word, path.as_bytes())?)),
+        Refusal::Setup { line } => Ok(Some(format_setup_refusal_line(alloc, *line)?)),
+        Refusal::Misread(misread) => Ok(Some(format_misread_line(alloc, *misread)?)),
+        Refusal::Walk { word, path } => Ok(Some(format_walk_refusal_line(
+            alloc,
+            *word,
+            path.as_bytes(),
+        )?)),
         Refusal::Interrupted => Ok(None),
         Refusal::Usage => Ok(None),
         Refusal::Fault => Ok(None),
@@ -189,27 +198,27 @@ fn made_line(alloc: Global, refusal: &Refusal) -> Result<Option<Bytes>, OutOfMem
 }
 
 /// Says why there is no text, where the line needs no memory, and answers the status.
-pub fn write_fixed_refusal<E: Sink>(usage: &[u8], refusal: &Refusal, err: &mut E) -> u8
-    requires { is_made refusal.now ≡ false }
-    ensures told { IsToldOf E.Sink err.old err.new usage.now refusal.now result }
+pub fn report_constant_refusal<E: Sink>(usage: &[u8], refusal: &Refusal, err: &mut E) -> u8
+    requires { takes_memory_for_line refusal.now ≡ false }
+    ensures told { ReportsRefusalLine E.Sink err.old err.new usage.now refusal.now result }
     ensures later { E.refusals err.old ≤ E.refusals err.new }
 {
-    say(err, fixed_line(usage, refusal));
+    write_line_ignoring_refusal(err, constant_line_of_refusal(usage, refusal));
     status_of(refusal)
 }
 
 /// Says why there is no text, and answers the status; where there is no memory for the line, that
 /// want instead.
-pub fn refuse<E: Sink>(alloc: Global, usage: &[u8], refusal: &Refusal, err: &mut E) -> u8
-    ensures told { IsTold E.Sink err.old err.new usage.now refusal.now result }
+pub fn report_refusal<E: Sink>(alloc: Global, usage: &[u8], refusal: &Refusal, err: &mut E) -> u8
+    ensures told { ReportsRefusalOrMemory E.Sink err.old err.new usage.now refusal.now result }
     ensures later { E.refusals err.old ≤ E.refusals err.new }
 {
-    match made_line(alloc, refusal) {
+    match allocated_line_of_refusal(alloc, refusal) {
         Ok(Some(line)) => {
-            say(err, line.as_bytes());
+            write_line_ignoring_refusal(err, line.as_bytes());
             status_of(refusal)
         }
-        Ok(None) => write_fixed_refusal(usage, refusal, err),
-        Err(OutOfMemory) => write_fixed_refusal(usage, &Refusal::OutOfMemory, err),
+        Ok(None) => report_constant_refusal(usage, refusal, err),
+        Err(OutOfMemory) => report_constant_refusal(usage, &Refusal::OutOfMemory, err),
     }
 }

@@ -2,7 +2,7 @@
 ghost use Rattle.std.specs.Prelude.{◌≡◌, map, IfOk};
 ghost use Rattle.worktree_report.specs.Submodules as submodules;
 
-use crate::facts::{Facts, facts_in};
+use crate::facts::{Facts, submodule_facts_if_known};
 use crate::known::Known;
 use dir_classify::{Entry, Status};
 use dir_walk as walk;
@@ -74,16 +74,17 @@ pub struct Report {
 }
 
 /// An entry of a walk, with the submodule at its path.
-fn entry_in(
+fn report_entry_with_submodule(
     alloc: Global,
     known: &mut Option<Known>,
     emission: (Entry, Option<Status>),
 ) -> Result<ReportEntry, OutOfMemory>
-    ensures entry { IfOk result (λ entry. entry ≡ submodules.entry_in known.old emission) }
+    ensures entry { IfOk result (λ entry. entry ≡ submodules.report_entry_with_submodule known.old
+        emission) }
     ensures same { known.new ≡ known.old }
 {
     let (entry, collapsed) = emission;
-    let facts = facts_in(alloc, known, entry.rela_path.as_bytes())?;
+    let facts = submodule_facts_if_known(alloc, known, entry.rela_path.as_bytes())?;
     Ok(ReportEntry {
         entry,
         collapsed,
@@ -92,17 +93,17 @@ fn entry_in(
 }
 
 /// Entries of a walk, each with the submodule at its path.
-fn entries_in(
+fn report_entries_with_submodules(
     alloc: Global,
     known: &mut Option<Known>,
     emissions: Vec<(Entry, Option<Status>)>,
 ) -> Result<Vec<ReportEntry>, OutOfMemory>
     ensures { IfOk result (λ entries. entries.items
-        ≡ map (submodules.entry_in known.old) emissions.items) }
+        ≡ map (submodules.report_entry_with_submodule known.old) emissions.items) }
 {
     let mut entries = Vec::with_capacity(alloc, emissions.len())?;
     for emission in emissions {
-        let entry = entry_in(alloc, known, emission)?;
+        let entry = report_entry_with_submodule(alloc, known, emission)?;
         entries.push(entry)?;
     }
     Ok(entries)
@@ -121,7 +122,7 @@ pub fn report_with_submodules(
         root,
         entries,
     } = walked;
-    let entries = entries_in(alloc, known, entries.into_vec())?;
+    let entries = report_entries_with_submodules(alloc, known, entries.into_vec())?;
     Ok(Report {
         entries: ReportEntries::from_vec(entries),
         outcome,

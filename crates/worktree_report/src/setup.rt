@@ -1,7 +1,7 @@
 //! The setup of a report, and the text that it is read from.
 ghost use Rattle.std.specs.Prelude.{◌≡◌, map, IfOk};
-ghost use Rattle.worktree_report.specs.SetupText.{text_lines, setup_of};
-ghost use Rattle.worktree_report.specs.SetupParsed.{ParseGives};
+ghost use Rattle.worktree_report.specs.SetupText.{split_at_line_feeds, parse_setup_text};
+ghost use Rattle.worktree_report.specs.SetupParsed.{IsParseResultUnlessMemory};
 
 pub mod configs;
 pub mod depth;
@@ -18,7 +18,7 @@ use crate::permissions::Permissions;
 use configs::Configs;
 use dir_classify::{CollapsedEntriesEmissionMode, EmissionMode, ForDeletionMode};
 use dir_walk::Strategy;
-use draft::read_lines;
+use draft::read_draft_from_lines;
 use gitbase_core::{Bytes, MemoryStore, OutOfMemory, PathText, State};
 use glob_rules::pathspec::Search;
 use meant::setup_from_draft;
@@ -128,8 +128,9 @@ impl From<OutOfMemory> for SetupError {
     }
 }
 
-fn text_lines(alloc: Global, bytes: &[u8]) -> Result<Vec<&[u8]>, OutOfMemory>
-    ensures { IfOk result (λ lines. map (λ line. line.now) lines.items ≡ text_lines bytes.now) }
+fn split_at_line_feeds(alloc: Global, bytes: &[u8]) -> Result<Vec<&[u8]>, OutOfMemory>
+    ensures { IfOk result (λ lines. map (λ line. line.now) lines.items ≡ split_at_line_feeds
+        bytes.now) }
 {
     Ok(bytes.split(|b| *b == b'\n').collect(alloc)?)
 }
@@ -141,12 +142,12 @@ impl Setup {
     ///
     /// - `Line` names the first line outside the grammar, counted from 1.
     /// - `OutOfMemory` for want of memory.
-    #[tactic(auto, unfolding(crate::specs::SetupText::setup_of))]
+    #[tactic(auto, unfolding(crate::specs::SetupText::parse_setup_text))]
     pub fn parse(alloc: Global, bytes: &[u8]) -> Result<Setup, SetupError>
-        ensures { ParseGives result (setup_of bytes.now) }
+        ensures { IsParseResultUnlessMemory result (parse_setup_text bytes.now) }
     {
-        let lines = text_lines(alloc, bytes)?;
-        let draft = read_lines(alloc, &lines)?;
+        let lines = split_at_line_feeds(alloc, bytes)?;
+        let draft = read_draft_from_lines(alloc, &lines)?;
         Ok(setup_from_draft(alloc, draft)?)
     }
 }

@@ -1,9 +1,9 @@
 //! Reading the setup from the worktree.
 ghost use Rattle.std.specs.Prelude.{◌≡◌, ◌≤◌, ℕ, true, Some, Ok, Err, IfOk, IfErr, IsErrOf, OnOk};
 ghost use Rattle.worktree_fs.specs.Tree.{Names, look};
-ghost use Rattle.worktree_fs.specs.Causes.{Increased, Incremented};
-ghost use Rattle.worktree_report.specs.SetupAt.{setup_at};
-ghost use Rattle.worktree_report.specs.Converted.{IsOfReading};
+ghost use Rattle.worktree_fs.specs.Causes.{CountIncreasedOrSaturated, CountIncrementedOrSaturated};
+ghost use Rattle.worktree_report.specs.SetupAt.{setup_of_file_looked_at};
+ghost use Rattle.worktree_report.specs.Converted.{MayComeFromReadingSetup};
 
 use crate::refusal::Refusal;
 use crate::setup::{Setup, SetupError};
@@ -13,9 +13,9 @@ use worktree_fs::{ReadAnswer, ReadError, Worktree};
 
 impl From<ReadError> for Refusal {
     ghost use Rattle.std.specs.Prelude.{◌≡◌};
-    ghost use Rattle.worktree_report.specs.Converted.{of_read};
+    ghost use Rattle.worktree_report.specs.Converted.{refusal_of_read_error};
 
-    ghost from_gives = { λ error refusal. refusal ≡ of_read error };
+    ghost from_gives = { λ error refusal. refusal ≡ refusal_of_read_error error };
 
     fn from(error: ReadError) -> Refusal {
         match error {
@@ -27,9 +27,9 @@ impl From<ReadError> for Refusal {
 
 impl From<SetupError> for Refusal {
     ghost use Rattle.std.specs.Prelude.{◌≡◌};
-    ghost use Rattle.worktree_report.specs.Converted.{of_setup};
+    ghost use Rattle.worktree_report.specs.Converted.{refusal_of_setup_error};
 
-    ghost from_gives = { λ error refusal. refusal ≡ of_setup error };
+    ghost from_gives = { λ error refusal. refusal ≡ refusal_of_setup_error error };
 
     fn from(error: SetupError) -> Refusal {
         match error {
@@ -52,17 +52,18 @@ pub fn read_setup<W: Worktree>(
     path: &[u8],
 ) -> Result<Setup, Refusal>
     ensures gives { (t : Names) → W.told worktree.old ≡ Some t
-        → IfOk result (λ setup. setup_at (look t path.now true) ≡ Ok setup) }
+        → IfOk result (λ setup. setup_of_file_looked_at (look t path.now true) ≡ Ok setup) }
     ensures outside { (t : Names) → W.told worktree.old ≡ Some t → (line : ℕ)
-        → IsErrOf result (Refusal.Setup line) → setup_at (look t path.now true) ≡ Err line }
+        → IsErrOf result (Refusal.Setup line) → setup_of_file_looked_at (look t path.now true)
+        ≡ Err line }
     ensures cause { IsErrOf result Refusal.Fault
-        → Increased (W.faults worktree.old) (W.faults worktree.new) }
+        → CountIncreasedOrSaturated (W.faults worktree.old) (W.faults worktree.new) }
     ensures unfaulted { OnOk result (W.faults worktree.new ≡ W.faults worktree.old) }
-    ensures answers { IfErr result IsOfReading }
+    ensures answers { IfErr result MayComeFromReadingSetup }
     ensures tree { W.told worktree.new ≡ W.told worktree.old }
     ensures faults { W.faults worktree.old ≤ W.faults worktree.new }
     ensures list_faults { W.list_faults worktree.new ≡ W.list_faults worktree.old }
-    ensures reads { Incremented (W.reads worktree.old) (W.reads worktree.new) }
+    ensures reads { CountIncrementedOrSaturated (W.reads worktree.old) (W.reads worktree.new) }
     ensures lists { W.lists worktree.new ≡ W.lists worktree.old }
     ensures precomposes { W.precomposes worktree.new ≡ W.precomposes worktree.old }
 {

@@ -1,26 +1,26 @@
 //! The report of a work tree, and its text.
 ghost use Rattle.std.specs.Prelude.{◌≡◌, ◌≤◌, ◌-◌, ◌^◌, min, length, true, IfOk, is_some};
-ghost use Rattle.worktree_fs.specs.Causes.{NotIncreased};
-ghost use Rattle.worktree_stack.specs.Reading.{Sources};
-ghost use Rattle.dir_classify.specs.Chosen.{chosen};
-ghost use Rattle.dir_classify.specs.Excludes.{made_with, tells_excludes};
-ghost use Rattle.dir_classify.specs.Layers.{IsLookupIf};
-ghost use Rattle.dir_walk.specs.Distinct.{Ascends};
-ghost use Rattle.dir_walk.specs.Puts.{hidden_in};
-ghost use Rattle.dir_walk.specs.Reports.{IsFromRoot, IsReport};
-ghost use Rattle.dir_walk.specs.WalkRefused.{by_default};
-ghost use Rattle.dir_walk.specs.Walks.{Tells, WalksWorktree};
-ghost use Rattle.worktree_report.specs.Asked.{chosen_of, git_dir_or, current_dir_or, asked_of};
-ghost use Rattle.worktree_report.specs.Reported.{Reports, Texts};
+ghost use Rattle.worktree_fs.specs.Causes.{CountNotIncreased};
+ghost use Rattle.worktree_stack.specs.Reading.{TreeAndObjects};
+ghost use Rattle.dir_classify.specs.Chosen.{walk_options_of};
+ghost use Rattle.dir_classify.specs.Excludes.{setup_of_optional_stack, has_excludes_if_given};
+ghost use Rattle.dir_classify.specs.Layers.{IsLookupOfIndexIfGiven};
+ghost use Rattle.dir_walk.specs.Distinct.{IsStrictlyAscendingByPath};
+ghost use Rattle.dir_walk.specs.Puts.{count_hidden_emissions};
+ghost use Rattle.dir_walk.specs.Reports.{IsReportFromNormalizedRoot, IsSafeReport};
+ghost use Rattle.dir_walk.specs.WalkRefused.{default_recursion};
+ghost use Rattle.dir_walk.specs.Walks.{Tells, WalksWorktreeWithCauses};
+ghost use Rattle.worktree_report.specs.Asked.{walk_options_of_setup, git_dir_or_default, current_dir_or_root, walk_setting_of_setup};
+ghost use Rattle.worktree_report.specs.Reported.{WalksBySetup, MakesTextBySetup};
 
 use crate::converted::refusal_of_report_error;
-use crate::excludes::excludes_of;
+use crate::excludes::ignore_stack_if_excludes_option;
 use crate::refusal::Refusal;
 use crate::setup::Setup;
-use crate::text::worktree_text;
+use crate::text::worktree_report_text;
 use dir_classify::{Context, Error, Options};
 use dir_walk as walk;
-use dir_walk::walk_by_path;
+use dir_walk::walk_sorted_by_path;
 use gitbase_core::{AccelerateLookup, Bytes, Find, OutOfMemory, PathText};
 use std::alloc::Global;
 use worktree_fs::{Interrupt, Worktree};
@@ -28,9 +28,9 @@ use worktree_stack::Stack;
 
 /// What a walk over a worktree that composes names or not is asked to emit, and how it looks at
 /// paths.
-#[tactic(auto, unfolding(dir_classify::specs::Chosen::chosen))]
-fn options_of(composes: bool, setup: &Setup) -> Options<'_>
-    ensures { chosen result ≡ chosen_of composes setup.now }
+#[tactic(auto, unfolding(dir_classify::specs::Chosen::walk_options_of))]
+fn walk_options_of_setup(composes: bool, setup: &Setup) -> Options<'_>
+    ensures { walk_options_of result ≡ walk_options_of_setup composes setup.now }
 {
     let options = &setup.options;
     Options {
@@ -55,8 +55,11 @@ fn options_of(composes: bool, setup: &Setup) -> Options<'_>
 /// # Errors
 ///
 /// Memory was refused.
-pub fn lookup_of(alloc: Global, setup: &Setup) -> Result<Option<AccelerateLookup>, OutOfMemory>
-    ensures lookup { IfOk result (IsLookupIf setup.now.index) }
+pub fn index_lookup_if_ignore_case(
+    alloc: Global,
+    setup: &Setup,
+) -> Result<Option<AccelerateLookup>, OutOfMemory>
+    ensures lookup { IfOk result (IsLookupOfIndexIfGiven setup.now.index) }
     ensures given { IfOk result (λ lookup. is_some lookup ≡ setup.now.options.ignore_case) }
 {
     if !setup.options.ignore_case {
@@ -67,8 +70,12 @@ pub fn lookup_of(alloc: Global, setup: &Setup) -> Result<Option<AccelerateLookup
 
 /// The git directory of the work tree at `root`.
 /// See docs/DECISIONS.md#directories-as-bytes.
-fn git_dir_of(alloc: Global, root: &[u8], setup: &Setup) -> Result<PathText, OutOfMemory>
-    ensures { IfOk result (λ path. path ≡ git_dir_or root.now setup.now.git_dir) }
+fn git_dir_of_setup_or_default(
+    alloc: Global,
+    root: &[u8],
+    setup: &Setup,
+) -> Result<PathText, OutOfMemory>
+    ensures { IfOk result (λ path. path ≡ git_dir_or_default root.now setup.now.git_dir) }
 {
     if let Some(path) = &setup.git_dir {
         return PathText::from_bytes(alloc, path.as_bytes());
@@ -80,8 +87,8 @@ fn git_dir_of(alloc: Global, root: &[u8], setup: &Setup) -> Result<PathText, Out
 
 /// The current directory.
 /// See docs/DECISIONS.md#directories-as-bytes.
-fn current_dir_of<'a>(root: &'a [u8], setup: &'a Setup) -> &'a [u8]
-    ensures { result.now ≡ current_dir_or root.now setup.now.current_dir }
+fn current_dir_of_setup_or_root<'a>(root: &'a [u8], setup: &'a Setup) -> &'a [u8]
+    ensures { result.now ≡ current_dir_or_root root.now setup.now.current_dir }
 {
     match &setup.current_dir {
         Some(path) => path.as_bytes(),
@@ -91,7 +98,7 @@ fn current_dir_of<'a>(root: &'a [u8], setup: &'a Setup) -> &'a [u8]
 
 /// Walks the work tree at `root` as the setup asks for it, with these ignore rules, this look-up of
 /// the index and this git directory.
-fn walk_with<'a, W: Worktree, F: Find, I: Interrupt>(
+fn walk_with_rules_and_lookup<'a, W: Worktree, F: Find, I: Interrupt>(
     alloc: Global,
     worktree: &'a mut W,
     objects: &'a mut F,
@@ -102,29 +109,30 @@ fn walk_with<'a, W: Worktree, F: Find, I: Interrupt>(
     lookup: &'a Option<AccelerateLookup>,
     git_dir: &'a [u8],
 ) -> Result<walk::Report, Error>
-    requires excludes { tells_excludes (made_with excludes.old) ≡ true }
-    requires lookup { IsLookupIf setup.now.index lookup.now }
+    requires excludes { has_excludes_if_given (setup_of_optional_stack excludes.old) ≡ true }
+    requires lookup { IsLookupOfIndexIfGiven setup.now.index lookup.now }
     requires given { is_some lookup.now ≡ setup.now.options.ignore_case }
-    requires git_dir { git_dir.now ≡ git_dir_or root.now setup.now.git_dir }
-    ensures gives { (s : Sources) → Tells W.Worktree F.Find worktree.old objects.old excludes.old s
-        → NotIncreased (W.faults worktree.old) (W.faults worktree.new)
-        → IfOk result (IsReport (asked_of (W.precomposes worktree.old) root.now setup.now)
-        (made_with excludes.old) s setup.now.root setup.now.depth) }
-    ensures ordered { IfOk result (λ r. Ascends r.entries) }
+    requires git_dir { git_dir.now ≡ git_dir_or_default root.now setup.now.git_dir }
+    ensures gives { (s : TreeAndObjects) → Tells W.Worktree F.Find worktree.old objects.old
+        excludes.old s → CountNotIncreased (W.faults worktree.old) (W.faults worktree.new)
+        → IfOk result (IsSafeReport (walk_setting_of_setup (W.precomposes worktree.old) root.now
+        setup.now) (setup_of_optional_stack excludes.old) s setup.now.root setup.now.depth) }
+    ensures ordered { IfOk result (λ r. IsStrictlyAscendingByPath r.entries) }
     ensures counted { IfOk result
         (λ r. r.outcome.returned_entries ≡ min (length r.entries) (2 ^ 64 - 1)) }
     ensures seen { IfOk result
         (λ r. min r.outcome.returned_entries (2 ^ 32 - 1) ≤ r.outcome.seen_entries) }
-    ensures filtered { IfOk result (λ r. hidden_in
-        (chosen_of (W.precomposes worktree.old) setup.now) r.entries ≡ 0) }
-    ensures once { IfOk result (IsFromRoot
-        (asked_of (W.precomposes worktree.old) root.now setup.now) setup.now.root) }
-    ensures walks_worktree { WalksWorktree W.Worktree F.Find I.Interrupt worktree.old worktree.new
-        objects.old objects.new interrupt.old interrupt.new excludes.old excludes.new
-        setup.now.options.strategy (asked_of (W.precomposes worktree.old) root.now setup.now)
-        setup.now.root setup.now.depth by_default (λ r. r.outcome) (λ r. r.root) result }
+    ensures filtered { IfOk result (λ r. count_hidden_emissions
+        (walk_options_of_setup (W.precomposes worktree.old) setup.now) r.entries ≡ 0) }
+    ensures once { IfOk result (IsReportFromNormalizedRoot
+        (walk_setting_of_setup (W.precomposes worktree.old) root.now setup.now) setup.now.root) }
+    ensures walks_worktree { WalksWorktreeWithCauses W.Worktree F.Find I.Interrupt worktree.old
+        worktree.new objects.old objects.new interrupt.old interrupt.new excludes.old excludes.new
+        setup.now.options.strategy (walk_setting_of_setup (W.precomposes worktree.old) root.now
+        setup.now) setup.now.root setup.now.depth default_recursion (λ r. r.outcome) (λ r. r.root)
+        result }
 {
-    let options = options_of(worktree.precomposes(), setup);
+    let options = walk_options_of_setup(worktree.precomposes(), setup);
     let ctx = Context {
         worktree,
         objects,
@@ -134,15 +142,15 @@ fn walk_with<'a, W: Worktree, F: Find, I: Interrupt>(
         index: &setup.index,
         ignore_case_index_lookup: lookup,
         git_dir_realpath: git_dir,
-        current_dir: current_dir_of(root, setup),
+        current_dir: current_dir_of_setup_or_root(root, setup),
         explicit_traversal_root: &setup.root,
         depth_limit: setup.depth,
     };
-    walk_by_path(alloc, root, ctx, options, setup.options.strategy)
+    walk_sorted_by_path(alloc, root, ctx, options, setup.options.strategy)
 }
 
 /// Walks the work tree at `root` as the setup asks for it, with ignore rules that are made for it.
-fn walk_excluding<W: Worktree, F: Find, I: Interrupt>(
+fn walk_with_rules_of_setup<W: Worktree, F: Find, I: Interrupt>(
     alloc: Global,
     worktree: &mut W,
     objects: &mut F,
@@ -152,14 +160,14 @@ fn walk_excluding<W: Worktree, F: Find, I: Interrupt>(
     lookup: &Option<AccelerateLookup>,
     git_dir: &[u8],
 ) -> Result<walk::Report, Error>
-    requires lookup { IsLookupIf setup.now.index lookup.now }
+    requires lookup { IsLookupOfIndexIfGiven setup.now.index lookup.now }
     requires given { is_some lookup.now ≡ setup.now.options.ignore_case }
-    requires git_dir { git_dir.now ≡ git_dir_or root.now setup.now.git_dir }
-    ensures { Reports W.Worktree F.Find I.Interrupt worktree.old worktree.new objects.old
+    requires git_dir { git_dir.now ≡ git_dir_or_default root.now setup.now.git_dir }
+    ensures { WalksBySetup W.Worktree F.Find I.Interrupt worktree.old worktree.new objects.old
         objects.new interrupt.old interrupt.new root.now setup.now result }
 {
-    let mut excludes = excludes_of(alloc, root, setup)?;
-    walk_with(
+    let mut excludes = ignore_stack_if_excludes_option(alloc, root, setup)?;
+    walk_with_rules_and_lookup(
         alloc,
         worktree,
         objects,
@@ -186,12 +194,12 @@ pub fn walk_by_setup<W: Worktree, F: Find, I: Interrupt>(
     root: &[u8],
     setup: &Setup,
 ) -> Result<walk::Report, Error>
-    ensures { Reports W.Worktree F.Find I.Interrupt worktree.old worktree.new objects.old
+    ensures { WalksBySetup W.Worktree F.Find I.Interrupt worktree.old worktree.new objects.old
         objects.new interrupt.old interrupt.new root.now setup.now result }
 {
-    let lookup = lookup_of(alloc, setup)?;
-    let git_dir = git_dir_of(alloc, root, setup)?;
-    walk_excluding(
+    let lookup = index_lookup_if_ignore_case(alloc, setup)?;
+    let git_dir = git_dir_of_setup_or_default(alloc, root, setup)?;
+    walk_with_rules_of_setup(
         alloc,
         worktree,
         objects,
@@ -214,18 +222,18 @@ pub fn walk_by_setup<W: Worktree, F: Find, I: Interrupt>(
 /// - `Fault`: the worktree failed, and counted it.
 /// - `Interrupted`: the interrupt was raised, and counted it.
 /// - `OutOfMemory`: memory was refused.
-pub fn walked_text<W: Worktree, I: Interrupt>(
+pub fn report_text_or_refusal<W: Worktree, I: Interrupt>(
     alloc: Global,
     worktree: &mut W,
     interrupt: &mut I,
     root: &[u8],
     setup: Setup,
 ) -> Result<Bytes, Refusal>
-    ensures { Texts W.Worktree I.Interrupt (W.precomposes worktree.old) worktree.old worktree.new
-        interrupt.old interrupt.new root.now setup result }
+    ensures { MakesTextBySetup W.Worktree I.Interrupt (W.precomposes worktree.old) worktree.old
+        worktree.new interrupt.old interrupt.new root.now setup result }
 {
     let mut objects = setup.blobs.fork(alloc)?;
-    match worktree_text(alloc, worktree, &mut objects, interrupt, root, setup) {
+    match worktree_report_text(alloc, worktree, &mut objects, interrupt, root, setup) {
         Ok(text) => Ok(text),
         Err(error) => Err(refusal_of_report_error(alloc, error)?),
     }

@@ -2,11 +2,11 @@
 ghost use Rattle.std.specs.Prelude.{◌≡◌, ◌==◌, not, option_map, option_and_then};
 ghost use Rattle.std.specs.List.{slice_split, list_all, list_any};
 ghost use Rattle.worktree_fs.specs.Tree.{is_absolute};
-ghost use Rattle.worktree_fs.specs.Paths.{is_dots};
-ghost use Rattle.worktree_report.specs.Words.{is_whole_path, is_plain_path, number_behind, if_few, count_of, words_after_name, command_words, generate_words, places_of, places_behind, command_of};
-ghost use Rattle.worktree_report.specs.Named.{asked_by, named_by};
+ghost use Rattle.worktree_fs.specs.Paths.{is_dot_or_dot_dot};
+ghost use Rattle.worktree_report.specs.Words.{is_absolute_without_dots, is_absolute_without_dots_or_nul, parse_digits_behind_number, number_up_to_file_limit, parse_file_count, words_behind_first_word, words_behind_composed, parse_generate_words, parse_root_and_setup_words, parse_places_of_command, parse_command_words};
+ghost use Rattle.worktree_report.specs.Named.{command_of_borrowed, places_of_borrowed};
 
-use crate::setup::depth::digit_of;
+use crate::setup::depth::parse_decimal_digit;
 use gitbase_core::Bytes;
 
 /// The most files that a tree in memory is asked to have.
@@ -31,54 +31,56 @@ pub enum Command<'a> {
 }
 
 /// Whether a path begins at the root.
-fn is_absolute(path: &[u8]) -> bool
+fn begins_with_slash(path: &[u8]) -> bool
     ensures { result ≡ is_absolute path.now }
 {
     matches!(path, [b'/', ..])
 }
 
 /// Whether a piece of a path is `.` or `..`.
-fn is_dots(piece: &[u8]) -> bool
-    ensures { result ≡ is_dots piece.now }
+fn is_dot_or_dot_dot(piece: &[u8]) -> bool
+    ensures { result ≡ is_dot_or_dot_dot piece.now }
 {
     piece == b".".as_slice() || piece == b"..".as_slice()
 }
 
-fn has_no_dots(path: &[u8]) -> bool
-    ensures { result ≡ list_all (λ piece. not (is_dots piece)) (slice_split
+fn has_no_dot_components(path: &[u8]) -> bool
+    ensures { result ≡ list_all (λ piece. not (is_dot_or_dot_dot piece)) (slice_split
         (λ b. b == 47) path.now) }
 {
-    path.split(|b| *b == b'/').all(|piece| !is_dots(piece))
+    path.split(|b| *b == b'/')
+        .all(|piece| !is_dot_or_dot_dot(piece))
 }
 
 /// Whether a NUL is among bytes.
-pub fn has_nul(path: &[u8]) -> bool
+pub fn contains_nul_byte(path: &[u8]) -> bool
     ensures { result ≡ list_any (λ b. b == 0) path.now }
 {
     path.iter().any(|b| *b == 0)
 }
 
 /// Whether a path is absolute, and has no `.` and `..` between its slashes.
-pub fn is_whole_path(path: &[u8]) -> bool
-    ensures { result ≡ is_whole_path path.now }
+pub fn is_absolute_without_dots(path: &[u8]) -> bool
+    ensures { result ≡ is_absolute_without_dots path.now }
 {
-    is_absolute(path) && has_no_dots(path)
+    begins_with_slash(path) && has_no_dot_components(path)
 }
 
 /// The same of one without NUL.
-pub fn is_plain_path(path: &[u8]) -> bool
-    ensures { result ≡ is_plain_path path.now }
+pub fn is_absolute_without_dots_or_nul(path: &[u8]) -> bool
+    ensures { result ≡ is_absolute_without_dots_or_nul path.now }
 {
-    is_whole_path(path) && !has_nul(path)
+    is_absolute_without_dots(path) && !contains_nul_byte(path)
 }
 
 /// The number that digits write, up to the limit. None where a byte is no digit.
-fn number_of(digits: &[u8]) -> Option<usize>
-    ensures { result ≡ option_and_then if_few (number_behind 0 digits.now) }
+fn parse_number_up_to_limit(digits: &[u8]) -> Option<usize>
+    ensures { result ≡ option_and_then number_up_to_file_limit (parse_digits_behind_number 0
+        digits.now) }
 {
     let mut number = 0;
     for byte in digits {
-        let Some(digit) = digit_of(*byte) else {
+        let Some(digit) = parse_decimal_digit(*byte) else {
             return None;
         };
         number = 10 * number + digit;
@@ -90,18 +92,18 @@ fn number_of(digits: &[u8]) -> Option<usize>
 }
 
 /// The number of files that a word gives. None where it gives none.
-fn count_of(word: &[u8]) -> Option<usize>
-    ensures { result ≡ count_of word.now }
+fn parse_file_count(word: &[u8]) -> Option<usize>
+    ensures { result ≡ parse_file_count word.now }
 {
     match word {
         [] | [b'0', ..] => None,
-        _ => number_of(word),
+        _ => parse_number_up_to_limit(word),
     }
 }
 
 /// The words behind a first word. None where that is another one, or where there is none.
-pub fn words_after_name<'a>(name: &[u8], words: &'a [Bytes]) -> Option<&'a [Bytes]>
-    ensures { option_map (λ rest. rest.now) result ≡ words_after_name name.now words.now }
+pub fn words_behind_first_word<'a>(name: &[u8], words: &'a [Bytes]) -> Option<&'a [Bytes]>
+    ensures { option_map (λ rest. rest.now) result ≡ words_behind_first_word name.now words.now }
 {
     let Some((word, rest)) = words.split_first() else {
         return None;
@@ -114,26 +116,26 @@ pub fn words_after_name<'a>(name: &[u8], words: &'a [Bytes]) -> Option<&'a [Byte
 
 /// The words of a command, over a worktree that composes names or not: those behind `composed`
 /// where it does, else all. None where it does and the first word is not `composed`.
-pub fn command_words(composes: bool, words: &[Bytes]) -> Option<&[Bytes]>
-    ensures { option_map (λ rest. rest.now) result ≡ command_words composes words.now }
+pub fn words_behind_composed(composes: bool, words: &[Bytes]) -> Option<&[Bytes]>
+    ensures { option_map (λ rest. rest.now) result ≡ words_behind_composed composes words.now }
 {
     if composes {
-        words_after_name(b"composed", words)
+        words_behind_first_word(b"composed", words)
     } else {
         Some(words)
     }
 }
 
 /// ROOT and SETUP: two absolute paths without `.`, `..` and NUL. None for any other words.
-pub fn places_of(words: &[Bytes]) -> Option<Places<'_>>
-    ensures { option_map named_by result ≡ places_of words.now }
+pub fn parse_root_and_setup_words(words: &[Bytes]) -> Option<Places<'_>>
+    ensures { option_map places_of_borrowed result ≡ parse_root_and_setup_words words.now }
 {
     if words.len() != 2 {
         return None;
     }
     let root = words[0].as_bytes();
     let setup = words[1].as_bytes();
-    if !is_plain_path(root) || !is_plain_path(setup) {
+    if !is_absolute_without_dots_or_nul(root) || !is_absolute_without_dots_or_nul(setup) {
         return None;
     }
     Some(Places { root, setup })
@@ -142,21 +144,29 @@ pub fn places_of(words: &[Bytes]) -> Option<Places<'_>>
 /// The places that a command of this name is to look at, over a worktree that composes names or
 /// not: its words are the name, ROOT and SETUP, with `composed` before them exactly where the
 /// worktree composes names. None for any other words.
-#[tactic(auto, unfolding(crate::specs::Words::places_behind))]
-pub fn places_behind<'a>(name: &[u8], composes: bool, words: &'a [Bytes]) -> Option<Places<'a>>
-    ensures { option_map named_by result ≡ places_behind name.now composes words.now }
+#[tactic(auto, unfolding(crate::specs::Words::parse_places_of_command))]
+pub fn parse_places_of_command<'a>(
+    name: &[u8],
+    composes: bool,
+    words: &'a [Bytes],
+) -> Option<Places<'a>>
+    ensures { option_map places_of_borrowed result ≡ parse_places_of_command name.now composes
+        words.now }
 {
-    places_of(words_after_name(name, command_words(composes, words)?)?)
+    parse_root_and_setup_words(words_behind_first_word(
+        name,
+        words_behind_composed(composes, words)?,
+    )?)
 }
 
 /// The number of files that is asked for by `generate N`.
-fn generate_words(words: &[Bytes]) -> Option<usize>
-    ensures { result ≡ generate_words words.now }
+fn parse_generate_words(words: &[Bytes]) -> Option<usize>
+    ensures { result ≡ parse_generate_words words.now }
 {
     if words.len() != 2 || words[0].as_bytes() != b"generate".as_slice() {
         return None;
     }
-    count_of(words[1].as_bytes())
+    parse_file_count(words[1].as_bytes())
 }
 
 /// What the words ask for, over a worktree that composes names or not: `generate N`, or `report
@@ -165,12 +175,12 @@ fn generate_words(words: &[Bytes]) -> Option<usize>
 ///
 /// See docs/DECISIONS.md#composed-word.
 /// See docs/DECISIONS.md#no-guesses.
-#[tactic(auto, unfolding(crate::specs::Words::command_of))]
-pub fn command_of(composes: bool, words: &[Bytes]) -> Option<Command<'_>>
-    ensures { option_map asked_by result ≡ command_of composes words.now }
+#[tactic(auto, unfolding(crate::specs::Words::parse_command_words))]
+pub fn parse_command_words(composes: bool, words: &[Bytes]) -> Option<Command<'_>>
+    ensures { option_map command_of_borrowed result ≡ parse_command_words composes words.now }
 {
-    if let Some(count) = generate_words(words) {
+    if let Some(count) = parse_generate_words(words) {
         return Some(Command::Generate { count });
     }
-    Some(Command::Report(places_behind(b"report", composes, words)?))
+    Some(Command::Report(parse_places_of_command(b"report", composes, words)?))
 }

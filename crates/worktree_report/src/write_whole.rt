@@ -1,7 +1,7 @@
 //! Writing to a sink that takes as much at a time as it likes.
 ghost use Rattle.std.specs.Prelude.{◌≡◌, ℕ, ◌≤◌, ◌++◌, List, OnOk, OnErr};
-ghost use Rattle.worktree_fs.specs.Causes.{Incremented};
-ghost use Rattle.worktree_report.specs.Written.{Appends, AppendsPart};
+ghost use Rattle.worktree_fs.specs.Causes.{CountIncrementedOrSaturated};
+ghost use Rattle.worktree_report.specs.Written.{AppendsWholeBytes, AppendsFrontOfBytes};
 
 use worktree_fs::{Fault, Sink};
 
@@ -11,10 +11,13 @@ use worktree_fs::{Fault, Sink};
 /// # Errors
 ///
 /// The sink refused a write or took nothing, once; a front of the bytes is then written.
-pub fn write_whole<S: Sink>(sink: &mut S, bytes: &[u8]) -> Result<(), Fault>
-    ensures whole { OnOk result (Appends (S.written sink.old) (S.written sink.new) bytes.now) }
-    ensures part { OnErr result (AppendsPart (S.written sink.old) (S.written sink.new) bytes.now) }
-    ensures cause { OnErr result (Incremented (S.refusals sink.old) (S.refusals sink.new)) }
+pub fn write_all_bytes<S: Sink>(sink: &mut S, bytes: &[u8]) -> Result<(), Fault>
+    ensures whole { OnOk result (AppendsWholeBytes (S.written sink.old) (S.written sink.new)
+        bytes.now) }
+    ensures part { OnErr result (AppendsFrontOfBytes (S.written sink.old) (S.written sink.new)
+        bytes.now) }
+    ensures cause { OnErr result (CountIncrementedOrSaturated (S.refusals sink.old)
+        (S.refusals sink.new)) }
     ensures unrefused { OnOk result (S.refusals sink.new ≡ S.refusals sink.old) }
     ensures later { S.refusals sink.old ≤ S.refusals sink.new }
 {

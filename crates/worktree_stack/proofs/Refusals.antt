@@ -1,22 +1,22 @@
 -- What holds of refusals.
 use Rattle.std.specs.Prelude.{◌≡◌, ℕ, ◌≤◌, Bool, List, Option, Result, Ok, Err, IsErrAnd}
 use Rattle.std.proofs.Common.{ap, arith}
-use Rattle.gitbase_core.specs.Objects.{Objects}
+use Rattle.gitbase_core.specs.Objects.{ObjectsById}
 use Rattle.worktree_fs.specs.Tree.{Names}
-use Rattle.worktree_fs.specs.Causes.{Increased}
+use Rattle.worktree_fs.specs.Causes.{CountIncreasedOrSaturated}
 use Rattle.worktree_stack.specs.declared.error.AtPathError.{AtPathError}
 use Rattle.worktree_stack.specs.declared.error.AtPathError.TheVariants as errors
 use Rattle.worktree_stack.specs.declared.error.RulesWhy.{RulesWhy}
 use Rattle.worktree_stack.specs.declared.error.RulesWhy.TheVariants as whys
 use Rattle.worktree_stack.specs.declared.error.BlobWhy.{BlobWhy}
 use Rattle.worktree_stack.specs.declared.error.BlobWhy.TheVariants as blob_whys
-use Rattle.worktree_stack.specs.Reading.{Sources, Refusal, Place}
-use Rattle.worktree_stack.specs.Refused.{OnRefusal, IsFileWhy, IsBlobWhy, IsFileRefused, IsBlobRefused}
+use Rattle.worktree_stack.specs.Reading.{TreeAndObjects, RulesRefusal, RulesPlace}
+use Rattle.worktree_stack.specs.Refused.{HoldsByRulesError, ExplainsRefusedFile, ExplainsRefusedBlob, IsFileRefusedAmongPlaces, IsBlobRefusedAmongPlaces}
 
 -- what is said of a refusal follows from something else that is said of it
 pub on-weaker : {File File' : List ℕ → RulesWhy → Type 0} {Blob Blob' : List ℕ → BlobWhy → Type 0} {Memory Memory' : Type 0} (e : AtPathError)
     → ((path : List ℕ) (why : RulesWhy) → File path why → File' path why) → ((id : List ℕ) (why : BlobWhy) → Blob id why → Blob' id why) → (Memory → Memory')
-    → OnRefusal File Blob Memory e → OnRefusal File' Blob' Memory' e
+    → HoldsByRulesError File Blob Memory e → HoldsByRulesError File' Blob' Memory' e
 on-weaker errors.NotNormal f b m said = said
 on-weaker (errors.Component why) f b m said = said
 on-weaker (errors.Collision path) f b m said = said
@@ -29,7 +29,7 @@ on-weaker errors.OutOfMemory f b m said = m said
 pub on-both : {File File' File'' : List ℕ → RulesWhy → Type 0} {Blob Blob' Blob'' : List ℕ → BlobWhy → Type 0} {Memory Memory' Memory'' : Type 0} (e : AtPathError)
     → ((path : List ℕ) (why : RulesWhy) → File path why → File' path why → File'' path why)
     → ((id : List ℕ) (why : BlobWhy) → Blob id why → Blob' id why → Blob'' id why) → (Memory → Memory' → Memory'')
-    → OnRefusal File Blob Memory e → OnRefusal File' Blob' Memory' e → OnRefusal File'' Blob'' Memory'' e
+    → HoldsByRulesError File Blob Memory e → HoldsByRulesError File' Blob' Memory' e → HoldsByRulesError File'' Blob'' Memory'' e
 on-both errors.NotNormal f b m said also = said
 on-both (errors.Component why) f b m said also = said
 on-both (errors.Collision path) f b m said also = said
@@ -39,28 +39,28 @@ on-both (errors.Blob id why) f b m said also = b id why said also
 on-both errors.OutOfMemory f b m said also = m said also
 
 -- a failure that was counted later was counted
-pub rose-earlier : (a b c : ℕ) → a ≤ b → Increased b c → Increased a c
+pub rose-earlier : (a b c : ℕ) → a ≤ b → CountIncreasedOrSaturated b c → CountIncreasedOrSaturated a c
 rose-earlier a b c low rose = omega (arith, low, rose)
 
-pub rose-later : (a b c : ℕ) → Increased a b → b ≤ c → Increased a c
+pub rose-later : (a b c : ℕ) → CountIncreasedOrSaturated a b → b ≤ c → CountIncreasedOrSaturated a c
 rose-later a b c rose low = omega (arith, low, rose)
 
-module _ {A : Type 0} (told : Option Names) (holds : Option Objects) (Failed Failed' : Type 0) (so : Failed → Failed') (places : List Place) (read : Sources → Result A Refusal) where
-  file-why : (path : List ℕ) (follow : Bool) (why : RulesWhy) → IsFileWhy told holds Failed read path follow why → IsFileWhy told holds Failed' read path follow why
+module _ {A : Type 0} (told : Option Names) (holds : Option ObjectsById) (Failed Failed' : Type 0) (so : Failed → Failed') (places : List RulesPlace) (read : TreeAndObjects → Result A RulesRefusal) where
+  file-why : (path : List ℕ) (follow : Bool) (why : RulesWhy) → ExplainsRefusedFile told holds Failed read path follow why → ExplainsRefusedFile told holds Failed' read path follow why
   file-why path follow whys.Link is = is
   file-why path follow whys.LinkLimit is = is
   file-why path follow whys.Special is = is
   file-why path follow whys.Fault is = so is
 
-  pub file-weaker : (path : List ℕ) (why : RulesWhy) → IsFileRefused told holds Failed places read path why → IsFileRefused told holds Failed' places read path why
+  pub file-weaker : (path : List ℕ) (why : RulesWhy) → IsFileRefusedAmongPlaces told holds Failed places read path why → IsFileRefusedAmongPlaces told holds Failed' places read path why
   file-weaker path why r = record { follow = r.follow; place = r.place; why_is = file-why path r.follow why r.why_is }
 
-  blob-why : (id : List ℕ) (why : BlobWhy) → IsBlobWhy told holds Failed read id why → IsBlobWhy told holds Failed' read id why
+  blob-why : (id : List ℕ) (why : BlobWhy) → ExplainsRefusedBlob told holds Failed read id why → ExplainsRefusedBlob told holds Failed' read id why
   blob-why id blob_whys.Missing is = is
   blob-why id blob_whys.NotABlob is = is
   blob-why id blob_whys.Fault is = so is
 
-  pub blob-weaker : (id : List ℕ) (why : BlobWhy) → IsBlobRefused told holds Failed places read id why → IsBlobRefused told holds Failed' places read id why
+  pub blob-weaker : (id : List ℕ) (why : BlobWhy) → IsBlobRefusedAmongPlaces told holds Failed places read id why → IsBlobRefusedAmongPlaces told holds Failed' places read id why
   blob-weaker id why r = record { path = r.path; place = r.place; why_is = blob-why id why r.why_is }
 
 -- what is refused is an error

@@ -5,9 +5,9 @@
 use Rattle.std.specs.Prelude.{◌≡◌, ◌≤◌, ℕ, ◌+◌, ◌*◌, Bool, false, not, ◌||◌, ◌==◌, List, [], ◌∷◌, Option, Some, None, if◌then◌else◌}
 use Rattle.gitbase_core.specs.declared.entry.Mode.{Mode}
 use Rattle.gitbase_core.specs.Entry.{mode_bits, symlink_mode}
-use Rattle.gitbase_core.specs.Objects.{Objects}
-use Rattle.worktree_fs.specs.Paths.{full_path}
-use Rattle.worktree_fs.specs.PathStack.{Call, push_directory, push, pop_directory}
+use Rattle.gitbase_core.specs.Objects.{ObjectsById}
+use Rattle.worktree_fs.specs.Paths.{root_joined_with_relative}
+use Rattle.worktree_fs.specs.PathStack.{DelegateCall, push_directory, push, pop_directory}
 use Rattle.worktree_fs.specs.Tree.{Names}
 use Rattle.worktree_fs.specs.declared.answers.MakeAnswer.{MakeAnswer}
 use Rattle.worktree_fs.specs.declared.answers.MakeAnswer.TheVariants as makes
@@ -15,87 +15,87 @@ use Rattle.worktree_fs.specs.declared.worktree.Worktree.{Ghosts as WorktreeOf}
 use Rattle.worktree_stack.specs.declared.state.Checkout.{Checkout}
 use Rattle.worktree_stack.specs.declared.statistics.RulesStatistics.{RulesStatistics}
 use Rattle.worktree_stack.specs.declared.statistics.Statistics.{Statistics}
-use Rattle.worktree_stack.specs.Checkout.{Prepared, IsOutcome, prepared}
-use Rattle.worktree_stack.specs.Counted.{count_each, counts_of}
-use Rattle.worktree_stack.specs.Reading.{Sources, Tells, RulesKind, readings_of}
+use Rattle.worktree_stack.specs.Checkout.{DirectoryOutcome, EqualsDirectoryOutcome, outcome_of_ensuring_directory}
+use Rattle.worktree_stack.specs.Counted.{rules_counts_after_readings, rules_counts_of_kind}
+use Rattle.worktree_stack.specs.Reading.{TreeAndObjects, Tells, RulesKind, readings_of_directory}
 use Rattle.worktree_stack.specs.Setup.{StackSetup}
-use Rattle.worktree_stack.specs.Stacked.{Stacked}
+use Rattle.worktree_stack.specs.Stacked.{StackModel}
 
 -- whether a link is to be made at a path, by its mode
-abbrev pub is_link_of : Option Mode → Bool
-is_link_of None = false
-is_link_of (Some mode) = mode_bits mode == symlink_mode
+abbrev pub is_symlink_by_mode : Option Mode → Bool
+is_symlink_by_mode None = false
+is_symlink_by_mode (Some mode) = mode_bits mode == symlink_mode
 
 -- whether a path is known to be a directory
-abbrev pub is_known : Option Bool → Bool
-is_known None = false
-is_known (Some is_dir) = is_dir
+abbrev pub is_known_directory : Option Bool → Bool
+is_known_directory None = false
+is_known_directory (Some is_dir) = is_dir
 
 -- How a checkout goes to a path: whether what is in the way is removed, whether names are composed when they are made, the worktree
 -- root, and whether the path itself is to be a directory.
-pub record Way : Type 0 where
+pub record CheckoutLookupOptions : Type 0 where
   pub unlinks : Bool
   pub composes : Bool
   pub root : List ℕ
   pub makes_last : Bool
 
 -- the way of a stack that was made so, to a path that is a directory, is none, or of which that is not known
-abbrev pub way_of : Checkout → Bool → List ℕ → Option Bool → Way
-way_of checkout composes root kind = record { unlinks = checkout.unlink_on_collision; composes = composes; root = root; makes_last = is_known kind }
+abbrev pub checkout_lookup_options : Checkout → Bool → List ℕ → Option Bool → CheckoutLookupOptions
+checkout_lookup_options checkout composes root kind = record { unlinks = checkout.unlink_on_collision; composes = composes; root = root; makes_last = is_known_directory kind }
 
 -- whether a directory is to be at a component, which is the last one or is not
-abbrev pub is_directory_due : Way → Bool → Bool
-is_directory_due way is_last = not is_last || way.makes_last
+abbrev pub must_make_directory : CheckoutLookupOptions → Bool → Bool
+must_make_directory way is_last = not is_last || way.makes_last
 
 -- the tree and the count from which a checkout begins
-abbrev pub unchanged : Names → ℕ → Prepared
-unchanged t calls = record { answer = makes.Made; tree = t; calls = calls }
+abbrev pub outcome_before_checkout : Names → ℕ → DirectoryOutcome
+outcome_before_checkout t calls = record { answer = makes.Made; tree = t; calls = calls }
 
 -- what comes of a component that is pushed
-abbrev pub pushed_out : Way → Prepared → List ℕ → Bool → Prepared
-pushed_out way p path is_last = if is_directory_due way is_last then prepared way.unlinks way.composes p.tree (full_path way.root path) p.calls else p
+abbrev pub outcome_of_pushed_component : CheckoutLookupOptions → DirectoryOutcome → List ℕ → Bool → DirectoryOutcome
+outcome_of_pushed_component way p path is_last = if must_make_directory way is_last then outcome_of_ensuring_directory way.unlinks way.composes p.tree (root_joined_with_relative way.root path) p.calls else p
 
 -- where a directory was made the rest follows
-abbrev pub next_if_made : Prepared → Prepared → MakeAnswer → Prepared
-next_if_made here next makes.Made = next
-next_if_made here next makes.Exists = here
-next_if_made here next makes.NoParent = here
+abbrev pub next_outcome_if_made : DirectoryOutcome → DirectoryOutcome → MakeAnswer → DirectoryOutcome
+next_outcome_if_made here next makes.Made = next
+next_outcome_if_made here next makes.Exists = here
+next_outcome_if_made here next makes.NoParent = here
 
 -- what comes of the components that some calls push, one after the other
-abbrev pub checked_out : Way → Prepared → List Call → Prepared
-checked_out way p [] = p
-checked_out way p (push path is_last ∷ calls) =
-    let here : Prepared = pushed_out way p path is_last in next_if_made here (checked_out way here calls) here.answer
-checked_out way p (push_directory path ∷ calls) = checked_out way p calls
-checked_out way p (pop_directory ∷ calls) = checked_out way p calls
+abbrev pub outcome_of_checkout_calls : CheckoutLookupOptions → DirectoryOutcome → List DelegateCall → DirectoryOutcome
+outcome_of_checkout_calls way p [] = p
+outcome_of_checkout_calls way p (push path is_last ∷ calls) =
+    let here : DirectoryOutcome = outcome_of_pushed_component way p path is_last in next_outcome_if_made here (outcome_of_checkout_calls way here calls) here.answer
+outcome_of_checkout_calls way p (push_directory path ∷ calls) = outcome_of_checkout_calls way p calls
+outcome_of_checkout_calls way p (pop_directory ∷ calls) = outcome_of_checkout_calls way p calls
 
 -- what is counted of the readings of one kind on the way: each directory is read in the tree that it was made in
-abbrev pub count_out : RulesKind → StackSetup → Way → Objects → Prepared → RulesStatistics → List Call → RulesStatistics
-count_out kind made way objects p s [] = s
-count_out kind made way objects p s (push path is_last ∷ calls) = count_out kind made way objects (pushed_out way p path is_last) s calls
-count_out kind made way objects p s (push_directory path ∷ calls) =
-    count_out kind made way objects p (count_each kind (record { tree = p.tree; objects = objects }) s (readings_of made path)) calls
-count_out kind made way objects p s (pop_directory ∷ calls) = count_out kind made way objects p s calls
+abbrev pub rules_counts_after_checkout_calls : RulesKind → StackSetup → CheckoutLookupOptions → ObjectsById → DirectoryOutcome → RulesStatistics → List DelegateCall → RulesStatistics
+rules_counts_after_checkout_calls kind made way objects p s [] = s
+rules_counts_after_checkout_calls kind made way objects p s (push path is_last ∷ calls) = rules_counts_after_checkout_calls kind made way objects (outcome_of_pushed_component way p path is_last) s calls
+rules_counts_after_checkout_calls kind made way objects p s (push_directory path ∷ calls) =
+    rules_counts_after_checkout_calls kind made way objects p (rules_counts_after_readings kind (record { tree = p.tree; objects = objects }) s (readings_of_directory made path)) calls
+rules_counts_after_checkout_calls kind made way objects p s (pop_directory ∷ calls) = rules_counts_after_checkout_calls kind made way objects p s calls
 
 -- how many directories are to be there
-abbrev pub made_on : Way → List Call → ℕ
-made_on way [] = 0
-made_on way (push path is_last ∷ calls) = (if is_directory_due way is_last then 1 else 0) + made_on way calls
-made_on way (push_directory path ∷ calls) = made_on way calls
-made_on way (pop_directory ∷ calls) = made_on way calls
+abbrev pub number_of_directories_to_make : CheckoutLookupOptions → List DelegateCall → ℕ
+number_of_directories_to_make way [] = 0
+number_of_directories_to_make way (push path is_last ∷ calls) = (if must_make_directory way is_last then 1 else 0) + number_of_directories_to_make way calls
+number_of_directories_to_make way (push_directory path ∷ calls) = number_of_directories_to_make way calls
+number_of_directories_to_make way (pop_directory ∷ calls) = number_of_directories_to_make way calls
 
 -- a stack with no directory counted that was asked to be made
-abbrev pub without_mkdirs : Stacked → Stacked
-without_mkdirs s = record s { statistics = record s.statistics { delegate = record s.statistics.delegate { num_mkdir_calls = 0 } } }
+abbrev pub with_zero_mkdir_count : StackModel → StackModel
+with_zero_mkdir_count s = record s { statistics = record s.statistics { delegate = record s.statistics.delegate { num_mkdir_calls = 0 } } }
 
 -- how often a directory was asked to be made
-abbrev pub mkdirs : Stacked → ℕ
-mkdirs s = s.statistics.delegate.num_mkdir_calls
+abbrev pub mkdir_count_of_stack : StackModel → ℕ
+mkdir_count_of_stack s = s.statistics.delegate.num_mkdir_calls
 
 -- What was made and read on a way whose calls were carried out, where a worktree was `w0` and is `w1`, and a stack was `old` and is
 -- `new`. Over a told tree the tree, the count of directories and what was read are those of the definition.
-pub record WorksOn {W : Type 0} (w : WorktreeOf W) (w0 w1 : W) (holds : Option Objects) (way : Way) (calls : List Call) (made : StackSetup) (mkdirs0 mkdirs1 : ℕ) (old new : Statistics) : Type 0 where
-  pub tree : (t : Names) → w.told w0 ≡ Some t → IsOutcome (checked_out way (unchanged t mkdirs0) calls) (w.told w1) mkdirs1 makes.Made
-  pub read : (s : Sources) → Tells (w.told w0) holds s → (kind : RulesKind) → counts_of kind new ≡ count_out kind made way s.objects (unchanged s.tree mkdirs0) (counts_of kind old) calls
+pub record MakesAndReadsByCalls {W : Type 0} (w : WorktreeOf W) (w0 w1 : W) (holds : Option ObjectsById) (way : CheckoutLookupOptions) (calls : List DelegateCall) (made : StackSetup) (mkdirs0 mkdirs1 : ℕ) (old new : Statistics) : Type 0 where
+  pub tree : (t : Names) → w.told w0 ≡ Some t → EqualsDirectoryOutcome (outcome_of_checkout_calls way (outcome_before_checkout t mkdirs0) calls) (w.told w1) mkdirs1 makes.Made
+  pub read : (s : TreeAndObjects) → Tells (w.told w0) holds s → (kind : RulesKind) → rules_counts_of_kind kind new ≡ rules_counts_after_checkout_calls kind made way s.objects (outcome_before_checkout s.tree mkdirs0) (rules_counts_of_kind kind old) calls
   pub least : mkdirs0 ≤ mkdirs1
-  pub most : mkdirs1 ≤ mkdirs0 + 2 * made_on way calls
+  pub most : mkdirs1 ≤ mkdirs0 + 2 * number_of_directories_to_make way calls

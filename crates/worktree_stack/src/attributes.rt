@@ -2,10 +2,10 @@
 //! to a path.
 ghost use Rattle.std.specs.Prelude.{◌≡◌, ◌++◌, [], true, Some, IfOk, OnOk, OnErr};
 ghost use Rattle.glob_rules.specs.AttributeLines as texts;
-ghost use Rattle.glob_rules.specs.AttributeNames.{SeesPart, names_in};
-ghost use Rattle.glob_rules.specs.AttributeOutcome.{asking_anew, asking_for, filled, finds_some, nothing_asked};
-ghost use Rattle.glob_rules.specs.Attributes.{list_from};
-ghost use Rattle.worktree_stack.specs.Setup.{HeldAttributes, push_list, pop_list, pop_lists, bare_attributes, without_info};
+ghost use Rattle.glob_rules.specs.AttributeNames.{AddsSomeFirstNames, attribute_names_of_lines};
+ghost use Rattle.glob_rules.specs.AttributeOutcome.{outcome_reset_to_selection_or_names, outcome_without_states, outcome_filled_for_path, is_any_state_found, empty_outcome};
+ghost use Rattle.glob_rules.specs.Attributes.{attribute_list_from_lines};
+ghost use Rattle.worktree_stack.specs.Setup.{HeldAttributeLists, push_list, held_without_highest_list, held_without_lists_of_directory, held_attributes_without_lists, lists_without_info_file};
 
 use crate::attributes_source::Source;
 use gitbase_core::{Bytes, OutOfMemory, PathText};
@@ -32,9 +32,9 @@ pub struct Attributes {
 }
 
 impl Model for Attributes {
-    ghost use Rattle.worktree_stack.specs.Setup.{AttributesSetup, HeldAttributes};
+    ghost use Rattle.worktree_stack.specs.Setup.{AttributesSetup, HeldAttributeLists};
 
-    ghost Value = { HeldAttributes };
+    ghost Value = { HeldAttributeLists };
 
     ghost view = { λ a. record {
       setup = record { globals = a.globals; info = a.info_attributes; source = a.source };
@@ -74,7 +74,8 @@ impl Attributes {
     /// The same with no directory pushed; fails only where memory is refused. Names that were seen
     /// stay seen.
     pub(crate) fn fresh(&self, alloc: Global) -> Result<Attributes, OutOfMemory>
-        ensures { IfOk result (λ attributes. Some attributes ≡ bare_attributes (Some self.now)) }
+        ensures { IfOk result (λ attributes. Some attributes ≡ held_attributes_without_lists
+            (Some self.now)) }
     {
         let info_attributes = match &self.info_attributes {
             Some(path) => Some(PathText::from_bytes(alloc, path.as_bytes())?),
@@ -104,7 +105,7 @@ impl Attributes {
     }
 
     /// The names that were seen.
-    pub(crate) fn collection(&self) -> &MetadataCollection
+    pub(crate) fn collection_of_seen_names(&self) -> &MetadataCollection
         ensures { result.now ≡ self.now.names }
     {
         &self.collection
@@ -123,12 +124,12 @@ impl Attributes {
         allow_macros: bool,
     ) -> Result<(), OutOfMemory>
         ensures pushed { OnOk result (Some self.new ≡ push_list
-            (list_from (texts.lines allow_macros bytes.now) source base)
-            (names_in (texts.lines allow_macros bytes.now)) (Some self.old)) }
+            (attribute_list_from_lines (texts.lines allow_macros bytes.now) source base)
+            (attribute_names_of_lines (texts.lines allow_macros bytes.now)) (Some self.old)) }
         ensures setup { self.new.setup ≡ self.old.setup }
         ensures refused { OnErr result (self.new.lists ≡ self.old.lists) }
-        ensures seen { OnErr result (SeesPart self.old.names
-            (names_in (texts.lines allow_macros bytes.now)) self.new.names) }
+        ensures seen { OnErr result (AddsSomeFirstNames self.old.names
+            (attribute_names_of_lines (texts.lines allow_macros bytes.now)) self.new.names) }
     {
         self.stack.add_patterns_buffer(
             alloc,
@@ -142,16 +143,16 @@ impl Attributes {
 
     /// Drops the highest list.
     pub(crate) fn pop_list(&mut self)
-        ensures { Some self.new ≡ pop_list (Some self.old) }
+        ensures { Some self.new ≡ held_without_highest_list (Some self.old) }
     {
         self.stack.pop_pattern_list();
     }
 
     /// Drops the lists of a directory, which are the highest.
     pub(crate) fn pop_directory(&mut self, directory: &[u8])
-        ensures { Some self.new ≡ pop_lists directory.now (Some self.old) }
+        ensures { Some self.new ≡ held_without_lists_of_directory directory.now (Some self.old) }
     {
-        self.pop_info(directory);
+        self.pop_info_list_if_root(directory);
         self.stack.pop_pattern_list();
     }
 
@@ -159,9 +160,9 @@ impl Attributes {
     ///
     /// See docs/DECISIONS.md#attribute-info.
     /// See docs/DIFFERENCES.md#attributes-info.
-    fn pop_info(&mut self, directory: &[u8])
+    fn pop_info_list_if_root(&mut self, directory: &[u8])
         ensures { self.new ≡ record self.old {
-          lists = without_info self.old.setup.info directory.now self.old.lists;
+          lists = lists_without_info_file self.old.setup.info directory.now self.old.lists;
         } }
     {
         if self.info_attributes.is_none() {
@@ -185,11 +186,11 @@ impl Attributes {
         case: Case,
         out: &mut Outcome,
     ) -> Result<bool, OutOfMemory>
-        ensures filled { OnOk result
-            (out.new ≡ filled (self.now.setup.globals ++ self.now.lists) path.now is_dir case
-            (asking_anew out.old self.now.names)) }
-        ensures finds { IfOk result (λ finds. finds ≡ finds_some out.new.rows) }
-        ensures refused { OnErr result (out.new ≡ nothing_asked) }
+        ensures filled { OnOk result (out.new ≡ outcome_filled_for_path (self.now.setup.globals ++
+            self.now.lists) path.now is_dir case (outcome_reset_to_selection_or_names out.old
+            self.now.names)) }
+        ensures finds { IfOk result (λ finds. finds ≡ is_any_state_found out.new.rows) }
+        ensures refused { OnErr result (out.new ≡ empty_outcome) }
     {
         out.initialize(alloc, &self.collection)?;
         fill(alloc, &self.globals, &self.stack, path, case, is_dir, out)
@@ -197,11 +198,12 @@ impl Attributes {
 }
 
 /// An outcome that asks for all names of a collection.
-pub(crate) fn asking_for_all(
+pub(crate) fn outcome_for_all_attributes(
     alloc: Global,
     collection: &MetadataCollection,
 ) -> Result<Outcome, OutOfMemory>
-    ensures { IfOk result (λ outcome. outcome ≡ asking_anew nothing_asked collection.now) }
+    ensures { IfOk result (λ outcome. outcome ≡ outcome_reset_to_selection_or_names empty_outcome
+        collection.now) }
 {
     let mut outcome = Outcome::new(alloc);
     outcome.initialize(alloc, collection)?;
@@ -209,8 +211,11 @@ pub(crate) fn asking_for_all(
 }
 
 /// An outcome that asks for these names.
-pub(crate) fn asking_for_these(alloc: Global, names: &[Bytes]) -> Result<Outcome, OutOfMemory>
-    ensures { IfOk result (λ outcome. outcome ≡ asking_for true names.now) }
+pub(crate) fn outcome_for_selected_attributes(
+    alloc: Global,
+    names: &[Bytes],
+) -> Result<Outcome, OutOfMemory>
+    ensures { IfOk result (λ outcome. outcome ≡ outcome_without_states true names.now) }
 {
     let mut outcome = Outcome::new(alloc);
     outcome.initialize_with_selection(alloc, names)?;

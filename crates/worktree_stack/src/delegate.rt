@@ -1,10 +1,10 @@
 //! Directories that a checkout makes on the way to a path; gitoxide's
 //! `gix_worktree::stack::delegate`.
 ghost use Rattle.std.specs.Prelude.{◌≡◌, ◌⊎◌, ◌+◌, false};
-ghost use Rattle.worktree_fs.specs.Answers.{kind_of};
+ghost use Rattle.worktree_fs.specs.Answers.{kind_of_lookup};
 ghost use Rattle.worktree_fs.specs.Tree.{look};
-ghost use Rattle.gitbase_core.specs.Causes.{next as one_more};
-ghost use Rattle.worktree_stack.specs.Checkout.{Creates, IsAsked, IsAskedOnce, Prepares, making, unlinking, colliding, prepared};
+ghost use Rattle.gitbase_core.specs.Causes.{saturating_increment as one_more};
+ghost use Rattle.worktree_stack.specs.Checkout.{CreatesLeadingDirectory, CountsOneOrTwoMkdirs, CountsAtMostOneMkdir, EnsuresDirectory, outcome_of_make_dir, outcome_of_unlink_then_make, outcome_by_existing_kind, outcome_of_ensuring_directory};
 
 use crate::{AtPathError, DirectoryWhy};
 use gitbase_core::{OutOfMemory, PathText};
@@ -36,20 +36,20 @@ pub(crate) fn create_leading_directory<W: Worktree>(
     worktree: &mut W,
     mkdir_calls: &mut usize,
 ) -> Result<(), AtPathError>
-    ensures { Creates W.Worktree worktree.old worktree.new unlink_on_collision path.now
-        mkdir_calls.old mkdir_calls.new result }
+    ensures { CreatesLeadingDirectory W.Worktree worktree.old worktree.new unlink_on_collision
+        path.now mkdir_calls.old mkdir_calls.new result }
 {
     match make_or_keep_directory(alloc, path, unlink_on_collision, worktree, mkdir_calls) {
         Ok(MakeAnswer::Made) => Ok(()),
-        Ok(MakeAnswer::Exists) => Err(collision(alloc, path)),
-        Ok(MakeAnswer::NoParent) => Err(no_directory(alloc, path, DirectoryWhy::NoParent)),
-        Err(ReadError::Fault) => Err(no_directory(alloc, path, DirectoryWhy::Fault)),
+        Ok(MakeAnswer::Exists) => Err(collision_error(alloc, path)),
+        Ok(MakeAnswer::NoParent) => Err(directory_error(alloc, path, DirectoryWhy::NoParent)),
+        Err(ReadError::Fault) => Err(directory_error(alloc, path, DirectoryWhy::Fault)),
         Err(ReadError::OutOfMemory) => Err(AtPathError::OutOfMemory),
     }
 }
 
 /// The refusal of a path where something else is, or want of memory.
-fn collision(alloc: Global, path: &[u8]) -> AtPathError
+fn collision_error(alloc: Global, path: &[u8]) -> AtPathError
     ensures { (result ≡ AtPathError.Collision path.now) ⊎ (result ≡ AtPathError.OutOfMemory) }
 {
     match PathText::from_bytes(alloc, path) {
@@ -59,7 +59,7 @@ fn collision(alloc: Global, path: &[u8]) -> AtPathError
 }
 
 /// The refusal of a path where no directory came to be, or want of memory.
-fn no_directory(alloc: Global, path: &[u8], why: DirectoryWhy) -> AtPathError
+fn directory_error(alloc: Global, path: &[u8], why: DirectoryWhy) -> AtPathError
     ensures { (result ≡ AtPathError.Directory path.now why)
         ⊎ (result ≡ AtPathError.OutOfMemory) }
 {
@@ -78,13 +78,13 @@ fn make_or_keep_directory<W: Worktree>(
     worktree: &mut W,
     mkdir_calls: &mut usize,
 ) -> Result<MakeAnswer, ReadError>
-    ensures { Prepares W.Worktree worktree.old worktree.new unlink_on_collision path.now
-        (λ t. prepared unlink_on_collision (W.precomposes worktree.old) t path.now
-        mkdir_calls.old) mkdir_calls.old mkdir_calls.new (mkdir_calls.old + 2)
-        (one_more (one_more mkdir_calls.old)) (IsAsked mkdir_calls.old) result }
+    ensures { EnsuresDirectory W.Worktree worktree.old worktree.new unlink_on_collision path.now
+        (λ t. outcome_of_ensuring_directory unlink_on_collision (W.precomposes worktree.old) t
+        path.now mkdir_calls.old) mkdir_calls.old mkdir_calls.new (mkdir_calls.old + 2)
+        (one_more (one_more mkdir_calls.old)) (CountsOneOrTwoMkdirs mkdir_calls.old) result }
 {
     match make_dir(alloc, path, worktree, mkdir_calls)? {
-        MakeAnswer::Exists => resolve_collision(
+        MakeAnswer::Exists => keep_or_replace_existing_node(
             alloc,
             path,
             unlink_on_collision,
@@ -97,39 +97,46 @@ fn make_or_keep_directory<W: Worktree>(
 
 /// Makes a directory at a path where something was met: a directory is kept.
 /// See docs/DIFFERENCES.md#gix-checkout-gone.
-fn resolve_collision<W: Worktree>(
+fn keep_or_replace_existing_node<W: Worktree>(
     alloc: Global,
     path: &[u8],
     unlink_on_collision: bool,
     worktree: &mut W,
     mkdir_calls: &mut usize,
 ) -> Result<MakeAnswer, ReadError>
-    ensures { Prepares W.Worktree worktree.old worktree.new unlink_on_collision path.now
-        (λ t. colliding unlink_on_collision (W.precomposes worktree.old) t path.now mkdir_calls.old
-        (kind_of (look t path.now false))) mkdir_calls.old mkdir_calls.new
-        (mkdir_calls.old + 1) (one_more mkdir_calls.old) (IsAskedOnce mkdir_calls.old) result }
+    ensures { EnsuresDirectory W.Worktree worktree.old worktree.new unlink_on_collision path.now
+        (λ t. outcome_by_existing_kind unlink_on_collision (W.precomposes worktree.old) t path.now
+        mkdir_calls.old (kind_of_lookup (look t path.now false))) mkdir_calls.old mkdir_calls.new
+        (mkdir_calls.old + 1) (one_more mkdir_calls.old) (CountsAtMostOneMkdir mkdir_calls.old)
+        result }
 {
     let Some(kind) = worktree.kind(alloc, path)? else {
         return make_dir(alloc, path, worktree, mkdir_calls);
     };
     match kind {
         NodeKind::Directory => Ok(MakeAnswer::Made),
-        _ => replace_with_directory(alloc, path, unlink_on_collision, worktree, mkdir_calls),
+        _ => replace_with_directory_if_allowed(
+            alloc,
+            path,
+            unlink_on_collision,
+            worktree,
+            mkdir_calls,
+        ),
     }
 }
 
 /// Makes a directory in the place of another node, where that may be removed.
-fn replace_with_directory<W: Worktree>(
+fn replace_with_directory_if_allowed<W: Worktree>(
     alloc: Global,
     path: &[u8],
     unlink_on_collision: bool,
     worktree: &mut W,
     mkdir_calls: &mut usize,
 ) -> Result<MakeAnswer, ReadError>
-    ensures { Prepares W.Worktree worktree.old worktree.new unlink_on_collision path.now
-        (λ t. unlinking unlink_on_collision (W.precomposes worktree.old) t path.now
-        mkdir_calls.old) mkdir_calls.old mkdir_calls.new (mkdir_calls.old + 1)
-        (one_more mkdir_calls.old) (IsAskedOnce mkdir_calls.old) result }
+    ensures { EnsuresDirectory W.Worktree worktree.old worktree.new unlink_on_collision path.now
+        (λ t. outcome_of_unlink_then_make unlink_on_collision (W.precomposes worktree.old) t
+        path.now mkdir_calls.old) mkdir_calls.old mkdir_calls.new (mkdir_calls.old + 1)
+        (one_more mkdir_calls.old) (CountsAtMostOneMkdir mkdir_calls.old) result }
 {
     if !unlink_on_collision {
         return Ok(MakeAnswer::Exists);
@@ -145,10 +152,10 @@ fn make_dir<W: Worktree>(
     worktree: &mut W,
     mkdir_calls: &mut usize,
 ) -> Result<MakeAnswer, ReadError>
-    ensures { Prepares W.Worktree worktree.old worktree.new false path.now
-        (λ t. making (W.precomposes worktree.old) t path.now mkdir_calls.old) mkdir_calls.old
-        mkdir_calls.new (mkdir_calls.old + 1) (one_more mkdir_calls.old)
-        (λ n. n ≡ one_more mkdir_calls.old) result }
+    ensures { EnsuresDirectory W.Worktree worktree.old worktree.new false path.now
+        (λ t. outcome_of_make_dir (W.precomposes worktree.old) t path.now mkdir_calls.old)
+        mkdir_calls.old mkdir_calls.new (mkdir_calls.old + 1) (one_more mkdir_calls.old) (λ n. n
+        ≡ one_more mkdir_calls.old) result }
 {
     *mkdir_calls = mkdir_calls.saturating_add(1);
     worktree.make_dir(alloc, path)

@@ -1,10 +1,10 @@
 //! The rules that exclude paths: those of a caller, and those of the directories on the way to a
 //! path.
 ghost use Rattle.std.specs.Prelude.{◌≡◌, ◌+◌, ◌-◌, ◌++◌, [], ◌∷◌, false, Some, IfOk, OnOk, OnErr, option_map, is_some, reverse};
-ghost use Rattle.glob_rules.specs.Ignore.{search_hit, search_place};
-ghost use Rattle.worktree_stack.specs.Excludes.{by_group, first_decision, first_positive, decisive, is_positive};
-ghost use Rattle.worktree_stack.specs.Setup.{Held, push_level, pop_level, bare, file_name_or_default, by_place, decision_of, own_decision, directory_decision, deciding};
-ghost use Rattle.worktree_stack.specs.Decided.{decided_of};
+ghost use Rattle.glob_rules.specs.Ignore.{rule_of_last_matching_list, numbered_rule_of_last_list};
+ghost use Rattle.worktree_stack.specs.Excludes.{decision_with_group, first_present_decision, first_excluding_decision, deciding_match_of_parents, is_excluding_decision};
+ghost use Rattle.worktree_stack.specs.Setup.{HeldIgnoreRules, held_rules_with_directory_pushed, held_rules_with_directory_popped, held_rules_without_directories, rules_file_name_or_gitignore, decision_by_list_number, own_match_of_numbered_directory, own_match_among_held_rules, deciding_match_of_held_parents, deciding_match_of_path};
+ghost use Rattle.worktree_stack.specs.Decided.{decision_of_decided};
 
 use crate::ignore_source::Source;
 use crate::matched::{Decided, Matched};
@@ -36,9 +36,9 @@ pub struct Ignore {
 }
 
 impl Model for Ignore {
-    ghost use Rattle.worktree_stack.specs.Setup.{Setup, Held};
+    ghost use Rattle.worktree_stack.specs.Setup.{Setup, HeldIgnoreRules};
 
-    ghost Value = { Held };
+    ghost Value = { HeldIgnoreRules };
 
     ghost view = { λ i. record {
       setup = record { overrides = i.overrides; globals = i.globals; file_name = i.exclude_file_name_for_directories; source = i.source; precious = i.parse.support_precious; strict = i.strict_parents };
@@ -47,10 +47,12 @@ impl Model for Ignore {
     } };
 
     ghost use Rattle.std.specs.Prelude.{◌≡◌};
-    ghost use Rattle.worktree_stack.specs.Excludes.{decisive};
-    ghost use Rattle.worktree_stack.specs.Setup.{decision_of};
+    ghost use Rattle.worktree_stack.specs.Excludes.{deciding_match_of_parents};
+    ghost use Rattle.worktree_stack.specs.Setup.{own_match_of_numbered_directory};
 
-    ghost invariant = { λ i. decision_of i.matched_directories.items i.deciding_directory ≡ decisive i.strict_parents i.matched_directories.items };
+    ghost invariant = { λ i. own_match_of_numbered_directory i.matched_directories.items
+        i.deciding_directory ≡ deciding_match_of_parents i.strict_parents
+        i.matched_directories.items };
 }
 
 impl Ignore {
@@ -69,8 +71,8 @@ impl Ignore {
     ) -> Result<Ignore, OutOfMemory>
         ensures overrides { IfOk result (λ ignore. ignore.setup.overrides ≡ overrides) }
         ensures globals { IfOk result (λ ignore. ignore.setup.globals ≡ globals) }
-        ensures file_name { IfOk result (λ ignore. ignore.setup.file_name ≡ file_name_or_default
-            exclude_file_name_for_directories) }
+        ensures file_name { IfOk result (λ ignore. ignore.setup.file_name
+            ≡ rules_file_name_or_gitignore exclude_file_name_for_directories) }
         ensures source { IfOk result (λ ignore. ignore.setup.source ≡ source) }
         ensures precious { IfOk result (λ ignore. ignore.setup.precious ≡ parse.support_precious) }
         ensures strict { IfOk result (λ ignore. ignore.setup.strict ≡ false) }
@@ -100,14 +102,15 @@ impl Ignore {
         ensures { result ≡ record self { setup = record self.setup { strict = on } } }
     {
         let mut ignore = self;
-        ignore.deciding_directory = deciding_directory(&ignore.matched_directories, on);
+        ignore.deciding_directory = find_deciding_directory(&ignore.matched_directories, on);
         ignore.strict_parents = on;
         ignore
     }
 
     /// The same rules with no directory pushed; fails only where memory is refused.
     pub(crate) fn fresh(&self, alloc: Global) -> Result<Ignore, OutOfMemory>
-        ensures { IfOk result (λ ignore. Some ignore ≡ bare (Some self.now)) }
+        ensures { IfOk result (λ ignore. Some ignore ≡ held_rules_without_directories
+            (Some self.now)) }
     {
         Ok(Ignore {
             overrides: self.overrides.copy(alloc)?,
@@ -152,7 +155,8 @@ impl Ignore {
         list: List,
         matched: Option<Matched>,
     ) -> Result<(), OutOfMemory>
-        ensures pushed { OnOk result (Some self.new ≡ push_level list matched (Some self.old)) }
+        ensures pushed { OnOk result (Some self.new ≡ held_rules_with_directory_pushed list matched
+            (Some self.old)) }
         ensures refused { OnErr result (self.new ≡ self.old) }
     {
         let decides = deciding_directory_after_push(
@@ -172,10 +176,10 @@ impl Ignore {
 
     /// Drops what was pushed last.
     pub(crate) fn pop_directory(&mut self)
-        ensures { Some self.new ≡ pop_level (Some self.old) }
+        ensures { Some self.new ≡ held_rules_with_directory_popped (Some self.old) }
     {
         self.matched_directories.pop();
-        self.deciding_directory = deciding_directory(
+        self.deciding_directory = find_deciding_directory(
             &self.matched_directories,
             self.strict_parents,
         );
@@ -184,13 +188,14 @@ impl Ignore {
 
     /// The own match of a path: in the overrides, else in the lists of the pushed directories from
     /// the last up, else in the globals.
-    pub(crate) fn own_match(
+    pub(crate) fn match_of_path_itself(
         &self,
         path: &[u8],
         is_dir: Option<bool>,
         case: Case,
     ) -> Option<Decided<'_>>
-        ensures { option_map decided_of result ≡ own_decision self.now path.now is_dir case }
+        ensures { option_map decision_of_decided result ≡ own_match_among_held_rules self.now
+            path.now is_dir case }
     {
         if let Some(found) = self.match_in_overrides(path, is_dir, case) {
             return Some(found);
@@ -203,8 +208,9 @@ impl Ignore {
 
     /// The own match of the empty path, beneath no directory.
     /// See docs/DIFFERENCES.md#empty-match.
-    fn match_of_root(&self, is_dir: Option<bool>, case: Case) -> Option<Decided<'_>>
-        ensures { option_map decided_of result ≡ deciding self.now [] is_dir case }
+    fn match_of_worktree_root(&self, is_dir: Option<bool>, case: Case) -> Option<Decided<'_>>
+        ensures { option_map decision_of_decided result ≡ deciding_match_of_path self.now [] is_dir
+            case }
     {
         match self.match_in_overrides(&[], is_dir, case) {
             Some(found) => Some(found),
@@ -219,8 +225,8 @@ impl Ignore {
         is_dir: Option<bool>,
         case: Case,
     ) -> Option<Decided<'_>>
-        ensures { option_map decided_of result ≡ by_group RuleGroup.Overrides
-            (search_hit self.now.setup.overrides path.now is_dir case) }
+        ensures { option_map decision_of_decided result ≡ decision_with_group RuleGroup.Overrides
+            (rule_of_last_matching_list self.now.setup.overrides path.now is_dir case) }
     {
         match self
             .overrides
@@ -241,8 +247,8 @@ impl Ignore {
         is_dir: Option<bool>,
         case: Case,
     ) -> Option<Decided<'_>>
-        ensures { option_map decided_of result ≡ by_place (search_place self.now.lists path.now
-            is_dir case) }
+        ensures { option_map decision_of_decided result ≡ decision_by_list_number
+            (numbered_rule_of_last_list self.now.lists path.now is_dir case) }
     {
         match self.stack.place_matching_relative_path(path, is_dir, case) {
             Some((depth, found)) => Some(Decided {
@@ -255,8 +261,8 @@ impl Ignore {
 
     /// The last rule of the globals that matches a path.
     fn match_in_globals(&self, path: &[u8], is_dir: Option<bool>, case: Case) -> Option<Decided<'_>>
-        ensures { option_map decided_of result ≡ by_group RuleGroup.Globals
-            (search_hit self.now.setup.globals path.now is_dir case) }
+        ensures { option_map decision_of_decided result ≡ decision_with_group RuleGroup.Globals
+            (rule_of_last_matching_list self.now.setup.globals path.now is_dir case) }
     {
         match self
             .globals
@@ -271,8 +277,8 @@ impl Ignore {
     }
 
     /// The own match of a pushed directory that decides about the paths beneath all of them.
-    fn directory_match(&self) -> Option<Decided<'_>>
-        ensures { option_map decided_of result ≡ directory_decision self.now }
+    fn deciding_parent_match(&self) -> Option<Decided<'_>>
+        ensures { option_map decision_of_decided result ≡ deciding_match_of_held_parents self.now }
     {
         let Some(at) = self.deciding_directory else {
             return None;
@@ -286,24 +292,25 @@ impl Ignore {
     /// What decides about a path: the own match of a pushed directory where that excludes it, else
     /// the match of the path itself, else what such a directory has. See
     /// docs/DIFFERENCES.md#lifted-beneath-excluded.
-    pub(crate) fn deciding(
+    pub(crate) fn deciding_match(
         &self,
         path: &[u8],
         is_dir: Option<bool>,
         case: Case,
     ) -> Option<Decided<'_>>
-        ensures { option_map decided_of result ≡ deciding self.now path.now is_dir case }
+        ensures { option_map decision_of_decided result ≡ deciding_match_of_path self.now path.now
+            is_dir case }
     {
         if path.is_empty() {
-            return self.match_of_root(is_dir, case);
+            return self.match_of_worktree_root(is_dir, case);
         }
-        let Some(above) = self.directory_match() else {
-            return self.own_match(path, is_dir, case);
+        let Some(above) = self.deciding_parent_match() else {
+            return self.match_of_path_itself(path, is_dir, case);
         };
         if !above.found.pattern.is_negative() {
             return Some(above);
         }
-        match self.own_match(path, is_dir, case) {
+        match self.match_of_path_itself(path, is_dir, case) {
             Some(own) => Some(own),
             None => Some(above),
         }
@@ -312,11 +319,12 @@ impl Ignore {
 
 /// Which of the own matches of pushed directories decides about the paths beneath all of them.
 /// See docs/DECISIONS.md#deciding-directory.
-fn deciding_directory(matches: &[Option<Matched>], strict: bool) -> Option<usize>
-    ensures { decision_of matches.now result ≡ decisive strict matches.now }
+fn find_deciding_directory(matches: &[Option<Matched>], strict: bool) -> Option<usize>
+    ensures { own_match_of_numbered_directory matches.now result ≡ deciding_match_of_parents strict
+        matches.now }
 {
     if strict {
-        return first_excluding(matches);
+        return first_excluding_directory(matches);
     }
     nearest_matched_directory(matches)
 }
@@ -328,12 +336,13 @@ fn deciding_directory_after_push(
     more: &Option<Matched>,
     strict: bool,
 ) -> Option<usize>
-    requires { decision_of matches.now decides ≡ decisive strict matches.now }
-    ensures { decision_of (matches.now ++ more.now ∷ []) result ≡ decisive strict
-        (matches.now ++ more.now ∷ []) }
+    requires { own_match_of_numbered_directory matches.now decides ≡ deciding_match_of_parents
+        strict matches.now }
+    ensures { own_match_of_numbered_directory (matches.now ++ more.now ∷ []) result
+        ≡ deciding_match_of_parents strict (matches.now ++ more.now ∷ []) }
 {
     if strict {
-        return first_excluding_with(matches, decides, more);
+        return first_excluding_after_push(matches, decides, more);
     }
     if more.is_some() {
         return Some(matches.len());
@@ -342,16 +351,17 @@ fn deciding_directory_after_push(
 }
 
 /// Which decides with one more, where parents are strict.
-fn first_excluding_with(
+fn first_excluding_after_push(
     matches: &[Option<Matched>],
     decides: Option<usize>,
     more: &Option<Matched>,
 ) -> Option<usize>
-    requires { decision_of matches.now decides ≡ first_positive matches.now }
-    ensures { decision_of (matches.now ++ more.now ∷ []) result ≡ first_positive
-        (matches.now ++ more.now ∷ []) }
+    requires { own_match_of_numbered_directory matches.now decides ≡ first_excluding_decision
+        matches.now }
+    ensures { own_match_of_numbered_directory (matches.now ++ more.now ∷ []) result
+        ≡ first_excluding_decision (matches.now ++ more.now ∷ []) }
 {
-    if has_decision(matches, decides) {
+    if has_own_match_at(matches, decides) {
         return decides;
     }
     if excludes(more) {
@@ -361,8 +371,8 @@ fn first_excluding_with(
 }
 
 /// Whether the directory of this number has an own match.
-fn has_decision(matches: &[Option<Matched>], number: Option<usize>) -> bool
-    ensures { result ≡ is_some (decision_of matches.now number) }
+fn has_own_match_at(matches: &[Option<Matched>], number: Option<usize>) -> bool
+    ensures { result ≡ is_some (own_match_of_numbered_directory matches.now number) }
 {
     let Some(at) = number else {
         return false;
@@ -372,7 +382,8 @@ fn has_decision(matches: &[Option<Matched>], number: Option<usize>) -> bool
 
 /// The nearest directory that has an own match.
 fn nearest_matched_directory(matches: &[Option<Matched>]) -> Option<usize>
-    ensures { decision_of matches.now result ≡ first_decision (reverse matches.now) }
+    ensures { own_match_of_numbered_directory matches.now result ≡ first_present_decision
+        (reverse matches.now) }
 {
     let mut at = matches.len();
     while at > 0 {
@@ -385,8 +396,9 @@ fn nearest_matched_directory(matches: &[Option<Matched>]) -> Option<usize>
 }
 
 /// The directory nearest to the root that is excluded by its own match.
-fn first_excluding(matches: &[Option<Matched>]) -> Option<usize>
-    ensures { decision_of matches.now result ≡ first_positive matches.now }
+fn first_excluding_directory(matches: &[Option<Matched>]) -> Option<usize>
+    ensures { own_match_of_numbered_directory matches.now result ≡ first_excluding_decision
+        matches.now }
 {
     let mut at = 0;
     while at < matches.len() {
@@ -400,7 +412,7 @@ fn first_excluding(matches: &[Option<Matched>]) -> Option<usize>
 
 /// Whether an own match excludes.
 fn excludes(matched: &Option<Matched>) -> bool
-    ensures { result ≡ is_positive matched.now }
+    ensures { result ≡ is_excluding_decision matched.now }
 {
     match matched {
         Some(matched) => !matched.is_negative(),

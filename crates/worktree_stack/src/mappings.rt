@@ -1,9 +1,9 @@
 //! The blobs that rules files are mapped to.
 ghost use Rattle.std.specs.Prelude.{◌≡◌, ◌||◌, ◌==◌, true, IfOk};
-ghost use Rattle.gitbase_core.specs.Index.{path_cmp};
-ghost use Rattle.worktree_stack.specs.Mappings.{are_ascending, is_named, reads_rules_from_blob, is_plain, is_rules_entry, mappings_in};
-ghost use Rattle.worktree_stack.specs.Setup.{mapped_to, attributes_setup_of, setup_of};
-ghost use Rattle.worktree_stack.specs.Stacked.{attributes_of, ignore_of};
+ghost use Rattle.gitbase_core.specs.Index.{compare_path_bytes};
+ghost use Rattle.worktree_stack.specs.Mappings.{are_mapping_paths_ascending, has_basename, reads_rules_from_blob, is_merged_or_ours_file, is_rules_file_read_from_index, rules_file_mappings_of_index};
+ghost use Rattle.worktree_stack.specs.Setup.{blob_id_mapped_to_path, setup_of_held_attributes, setup_of_held_ignore_rules};
+ghost use Rattle.worktree_stack.specs.Stacked.{held_attributes_of_state, held_ignore_rules_of_state};
 
 use crate::State as Rules;
 use crate::ignore_source::Source;
@@ -29,9 +29,9 @@ pub struct PathIdMappings {
 
 impl Model for PathIdMappings {
     ghost use Rattle.std.specs.Prelude.{List};
-    ghost use Rattle.worktree_stack.specs.Setup.{Mapping};
+    ghost use Rattle.worktree_stack.specs.Setup.{RulesFileMapping};
 
-    ghost Value = { List Mapping };
+    ghost Value = { List RulesFileMapping };
 
     ghost view = { λ m. m.items.items };
 }
@@ -70,21 +70,21 @@ pub(crate) struct Mappings {
 
 impl Model for Mappings {
     ghost use Rattle.std.specs.Prelude.{List};
-    ghost use Rattle.worktree_stack.specs.Setup.{Mapping};
-    ghost use Rattle.worktree_stack.specs.Mappings.{are_ascending};
+    ghost use Rattle.worktree_stack.specs.Setup.{RulesFileMapping};
+    ghost use Rattle.worktree_stack.specs.Mappings.{are_mapping_paths_ascending};
     ghost use Rattle.std.specs.Prelude.{◌≡◌, true};
 
-    ghost Value = { List Mapping };
+    ghost Value = { List RulesFileMapping };
 
     ghost view = { λ m. m.items.items };
 
-    ghost invariant = { λ m. are_ascending m.items.items ≡ true };
+    ghost invariant = { λ m. are_mapping_paths_ascending m.items.items ≡ true };
 }
 
 impl Mappings {
     /// These mappings, whose paths ascend.
     pub fn new(items: Vec<PathIdMapping>) -> Mappings
-        requires { are_ascending items.items ≡ true }
+        requires { are_mapping_paths_ascending items.items ≡ true }
         ensures { result ≡ items.items }
     {
         Mappings { items }
@@ -92,23 +92,26 @@ impl Mappings {
 
     /// The blob that a path is mapped to. It is found by binary search; no clause speaks of the
     /// cost.
-    pub fn id_of(&self, path: &[u8]) -> Option<ObjectId>
-        ensures { result ≡ mapped_to self.now path.now }
+    pub fn blob_id_of_path(&self, path: &[u8]) -> Option<ObjectId>
+        ensures { result ≡ blob_id_mapped_to_path self.now path.now }
     {
-        id_at(&self.items, path)
+        find_blob_id_in_mappings(&self.items, path)
     }
 
     /// Equal mappings; fails only where memory is refused.
     pub fn copy(&self, alloc: Global) -> Result<Mappings, OutOfMemory>
         ensures { IfOk result (λ copy. copy ≡ self.now) }
     {
-        let items = copy_of(alloc, &self.items)?;
+        let items = copy_mappings(alloc, &self.items)?;
         Ok(Mappings { items })
     }
 }
 
 /// Equal mappings.
-fn copy_of(alloc: Global, mappings: &[PathIdMapping]) -> Result<Vec<PathIdMapping>, OutOfMemory>
+fn copy_mappings(
+    alloc: Global,
+    mappings: &[PathIdMapping],
+) -> Result<Vec<PathIdMapping>, OutOfMemory>
     ensures { IfOk result (λ copy. copy.items ≡ mappings.now) }
 {
     let mut copy = Vec::with_capacity(alloc, mappings.len())?;
@@ -122,19 +125,19 @@ fn copy_of(alloc: Global, mappings: &[PathIdMapping]) -> Result<Vec<PathIdMappin
 }
 
 /// The blob that a path is mapped to.
-fn id_at(mappings: &[PathIdMapping], path: &[u8]) -> Option<ObjectId>
-    requires { are_ascending mappings.now ≡ true }
-    ensures { result ≡ mapped_to mappings.now path.now }
+fn find_blob_id_in_mappings(mappings: &[PathIdMapping], path: &[u8]) -> Option<ObjectId>
+    requires { are_mapping_paths_ascending mappings.now ≡ true }
+    ensures { result ≡ blob_id_mapped_to_path mappings.now path.now }
 {
-    match mappings.binary_search_by(|mapping| compare(mapping, path)) {
+    match mappings.binary_search_by(|mapping| compare_mapping_path(mapping, path)) {
         Ok(at) => Some(mappings[at].1),
         Err(_) => None,
     }
 }
 
 /// Where the path of a mapping stands beside another.
-fn compare(mapping: &PathIdMapping, path: &[u8]) -> Ordering
-    ensures { result ≡ path_cmp mapping.now.0 path.now }
+fn compare_mapping_path(mapping: &PathIdMapping, path: &[u8]) -> Ordering
+    ensures { result ≡ compare_path_bytes mapping.now.0 path.now }
 {
     mapping.0.as_bytes().cmp(&path)
 }
@@ -146,14 +149,15 @@ pub(crate) fn collect_rules_mappings(
     index: &Index,
     case: Case,
 ) -> Result<Vec<PathIdMapping>, OutOfMemory>
-    ensures mappings { IfOk result (λ mappings. mappings.items ≡ mappings_in case
-        (attributes_setup_of (attributes_of state.now)) (setup_of (ignore_of state.now))
-        index.now) }
-    ensures ascending { IfOk result (λ mappings. are_ascending mappings.items ≡ true) }
+    ensures mappings { IfOk result (λ mappings. mappings.items ≡ rules_file_mappings_of_index case
+        (setup_of_held_attributes (held_attributes_of_state state.now)) (setup_of_held_ignore_rules
+        (held_ignore_rules_of_state state.now)) index.now) }
+    ensures ascending { IfOk result (λ mappings. are_mapping_paths_ascending mappings.items
+        ≡ true) }
 {
     let mut mappings = Vec::new(alloc);
     for entry in index.entries() {
-        if is_rules_entry(entry, state, case) {
+        if is_rules_file_read_from_index(entry, state, case) {
             mappings.push((
                 PathText::from_bytes(alloc, entry.path.as_bytes())?,
                 entry.id,
@@ -164,41 +168,42 @@ pub(crate) fn collect_rules_mappings(
 }
 
 /// Whether an entry of an index is that of a rules file, which rules are read from.
-fn is_rules_entry(entry: &IndexEntry, state: &Rules, case: Case) -> bool
-    ensures { result ≡ is_rules_entry case (attributes_setup_of (attributes_of state.now))
-        (setup_of (ignore_of state.now)) entry.now }
+fn is_rules_file_read_from_index(entry: &IndexEntry, state: &Rules, case: Case) -> bool
+    ensures { result ≡ is_rules_file_read_from_index case (setup_of_held_attributes
+        (held_attributes_of_state state.now)) (setup_of_held_ignore_rules
+        (held_ignore_rules_of_state state.now)) entry.now }
 {
-    if !is_plain(entry) {
+    if !is_merged_or_ours_file(entry) {
         return false;
     }
     if let Some(ignore) = state.ignore() {
-        if is_named(entry.path.as_bytes(), ignore.file_name(), case) {
+        if has_basename(entry.path.as_bytes(), ignore.file_name(), case) {
             return reads_rules_from_blob(entry, ignore.source());
         }
     }
     if state.attributes().is_some() {
-        return is_named(entry.path.as_bytes(), b".gitattributes", case);
+        return has_basename(entry.path.as_bytes(), b".gitattributes", case);
     }
     false
 }
 
 /// Whether an entry is that of a plain file, merged or ours.
-fn is_plain(entry: &IndexEntry) -> bool
-    ensures { result ≡ is_plain entry.now }
+fn is_merged_or_ours_file(entry: &IndexEntry) -> bool
+    ensures { result ≡ is_merged_or_ours_file entry.now }
 {
-    entry.mode == Mode::FILE && is_merged_or_ours(entry.stage)
+    entry.mode == Mode::FILE && is_merged_or_ours_stage(entry.stage)
 }
 
 /// Whether this is the stage of a merged entry, or of ours.
-fn is_merged_or_ours(stage: u8) -> bool
+fn is_merged_or_ours_stage(stage: u8) -> bool
     ensures { result ≡ ((stage == 0) || (stage == 2)) }
 {
     stage == 0 || stage == 2
 }
 
 /// Whether the last component of a path is this name, as letters compare.
-fn is_named(path: &[u8], name: &[u8], case: Case) -> bool
-    ensures { result ≡ is_named case name.now path.now }
+fn has_basename(path: &[u8], name: &[u8], case: Case) -> bool
+    ensures { result ≡ has_basename case name.now path.now }
 {
     match case {
         Case::Sensitive => basename(path) == name,

@@ -1,7 +1,7 @@
 //! What decides about a path: a rule, and the group of lists that it comes from.
 ghost use Rattle.std.specs.Prelude.{◌≡◌, Some, true, IfOk, option_copied};
-ghost use Rattle.worktree_stack.specs.Setup.{own_if};
-ghost use Rattle.worktree_stack.specs.Decided.{decided_of};
+ghost use Rattle.worktree_stack.specs.Setup.{own_match_if_rules_held};
+ghost use Rattle.worktree_stack.specs.Decided.{decision_of_decided};
 
 use crate::Ignore;
 use gitbase_core::{OutOfMemory, PathText};
@@ -34,9 +34,9 @@ pub struct Matched {
 }
 
 impl Model for Matched {
-    ghost use Rattle.worktree_stack.specs.Excludes.{Decision};
+    ghost use Rattle.worktree_stack.specs.Excludes.{ExcludeDecision};
 
-    ghost Value = { Decision };
+    ghost Value = { ExcludeDecision };
 
     ghost view = { λ m. record { group = m.group; rule = record { pattern = m.pattern; kind = m.kind; source = m.source; line = m.sequence_number } } };
 }
@@ -44,7 +44,7 @@ impl Model for Matched {
 impl Matched {
     /// What a match refers to, copied.
     pub fn copy_from_decided(alloc: Global, decided: &Decided<'_>) -> Result<Matched, OutOfMemory>
-        ensures { IfOk result (λ matched. matched ≡ decided_of decided.now) }
+        ensures { IfOk result (λ matched. matched ≡ decision_of_decided decided.now) }
     {
         let found = &decided.found;
         let source = match found.source {
@@ -61,19 +61,19 @@ impl Matched {
     }
 
     /// The own match of a directory.
-    pub fn of_directory(
+    pub fn copy_own_match_of_directory(
         alloc: Global,
         ignore: Option<&Ignore>,
         path: &[u8],
         case: Case,
     ) -> Result<Option<Matched>, OutOfMemory>
-        ensures { IfOk result (λ matched. matched ≡ own_if (option_copied ignore.entry) path.now
-            (Some true) case) }
+        ensures { IfOk result (λ matched. matched ≡ own_match_if_rules_held
+            (option_copied ignore.entry) path.now (Some true) case) }
     {
         let Some(ignore) = ignore else {
             return Ok(None);
         };
-        match ignore.own_match(path, Some(true), case) {
+        match ignore.match_of_path_itself(path, Some(true), case) {
             Some(found) => Ok(Some(Matched::copy_from_decided(alloc, &found)?)),
             None => Ok(None),
         }
@@ -88,7 +88,7 @@ impl Matched {
 
     /// The match.
     pub fn as_decided(&self) -> Decided<'_>
-        ensures { decided_of result ≡ self.now }
+        ensures { decision_of_decided result ≡ self.now }
     {
         Decided {
             group: self.group,

@@ -1,6 +1,6 @@
 //! The order in which the places of a rules file are asked.
 ghost use Rattle.std.specs.Prelude.{◌≡◌, ℕ, List};
-ghost use Rattle.worktree_stack.specs.Reading.{attribute_places, ignore_places, places_by};
+ghost use Rattle.worktree_stack.specs.Reading.{attribute_places_by_source, ignore_places_by_source, places_by_read_order};
 
 use crate::{attributes_source, ignore_source};
 use gitbase_core::ObjectId;
@@ -22,8 +22,8 @@ pub enum Order {
 /// Where ignore rules are looked for, by their source and the blob that the rules file is mapped
 /// to.
 pub(crate) fn ignore_read_order(source: ignore_source::Source, mapped: Option<ObjectId>) -> Order
-    ensures { (whole path : List ℕ) → places_by result whole path ≡ ignore_places source whole path
-        mapped }
+    ensures { (whole path : List ℕ) → places_by_read_order result whole path
+        ≡ ignore_places_by_source source whole path mapped }
 {
     match (source, mapped) {
         (ignore_source::Source::IdMapping, None) => Order::Nowhere,
@@ -43,8 +43,8 @@ pub(crate) fn attributes_read_order(
     source: attributes_source::Source,
     mapped: Option<ObjectId>,
 ) -> Order
-    ensures { (whole path : List ℕ) → places_by result whole path ≡ attribute_places source whole
-        path mapped }
+    ensures { (whole path : List ℕ) → places_by_read_order result whole path
+        ≡ attribute_places_by_source source whole path mapped }
 {
     match (source, mapped) {
         (attributes_source::Source::IdMapping, None) => Order::Nowhere,

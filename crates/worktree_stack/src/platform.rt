@@ -1,16 +1,16 @@
 //! What a stack says of the path that was looked up last.
 ghost use Rattle.std.specs.Prelude.{◌≡◌, ℕ, List, true, Some, option_map, is_some, IfOk, OnOk, OnErr};
 ghost use Rattle.gitbase_core.specs.Path.{components};
-ghost use Rattle.glob_rules.specs.AttributeOutcome.{asking_anew, filled, finds_some, nothing_asked};
-ghost use Rattle.glob_rules.specs.Ignore.{match_of};
-ghost use Rattle.worktree_fs.specs.Paths.{full_path, spelled};
-ghost use Rattle.worktree_stack.specs.Setup.{excluded_kind, has_excludes, has_attributes, deciding_if, all_lists, names_of};
-ghost use Rattle.worktree_stack.specs.Decided.{decided_of};
-ghost use Rattle.worktree_stack.specs.Exclusions.{exclusion_by};
-ghost use Rattle.worktree_stack.specs.Stacked.{IsInStep, made_of};
-ghost use Rattle.worktree_stack.specs.Reading.{Sources, rulebook, attribute_lists};
-ghost use Rattle.worktree_stack.specs.Lookups.{IsLookedUp};
-ghost use Rattle.worktree_stack.specs.Excludes.{exclude, rule_of, origin_of};
+ghost use Rattle.glob_rules.specs.AttributeOutcome.{outcome_reset_to_selection_or_names, outcome_filled_for_path, is_any_state_found, empty_outcome};
+ghost use Rattle.glob_rules.specs.Ignore.{matched_rule_of_match};
+ghost use Rattle.worktree_fs.specs.Paths.{root_joined_with_relative, slash_joined_components};
+ghost use Rattle.worktree_stack.specs.Setup.{excluded_kind, has_excludes, has_attributes, deciding_match_if_rules_held, global_and_held_lists, seen_attribute_names};
+ghost use Rattle.worktree_stack.specs.Decided.{decision_of_decided};
+ghost use Rattle.worktree_stack.specs.Exclusions.{exclusion_of_decision};
+ghost use Rattle.worktree_stack.specs.Stacked.{IsInStepWithTree, setup_of_stack};
+ghost use Rattle.worktree_stack.specs.Reading.{TreeAndObjects, rulebook_of_stack_setup, attribute_lists_for_path};
+ghost use Rattle.worktree_stack.specs.Lookups.{StandsAtPath};
+ghost use Rattle.worktree_stack.specs.Excludes.{exclude, rule_of_decision, origin_of_decision};
 
 use crate::matched::Decided;
 use crate::stack::Stack;
@@ -41,8 +41,8 @@ impl Exclusion {
 }
 
 /// What becomes of a path by the rule that decides about it: nothing where that is negative.
-fn kind_by(found: &Match<'_>) -> Option<Kind>
-    ensures { result ≡ excluded_kind (Some (match_of found.now)) }
+fn kind_unless_negative(found: &Match<'_>) -> Option<Kind>
+    ensures { result ≡ excluded_kind (Some (matched_rule_of_match found.now)) }
 {
     if found.pattern.is_negative() {
         return None;
@@ -51,11 +51,11 @@ fn kind_by(found: &Match<'_>) -> Option<Kind>
 }
 
 /// What a rule that decides about a path says of it.
-fn exclusion_of(decided: &Decided<'_>) -> Exclusion
-    ensures { result ≡ exclusion_by (Some (decided_of decided.now)) }
+fn exclusion_of_decided(decided: &Decided<'_>) -> Exclusion
+    ensures { result ≡ exclusion_of_decision (Some (decision_of_decided decided.now)) }
 {
     Exclusion {
-        kind: kind_by(&decided.found),
+        kind: kind_unless_negative(&decided.found),
         origin: Some(Origin {
             group: decided.group,
             line: decided.found.sequence_number,
@@ -76,9 +76,9 @@ pub struct Platform<'a> {
 }
 
 impl<'a> Model for Platform<'a> {
-    ghost use Rattle.worktree_stack.specs.Stacked.{Stacked};
+    ghost use Rattle.worktree_stack.specs.Stacked.{StackModel};
 
-    ghost Value = { Stacked };
+    ghost Value = { StackModel };
 
     ghost view = { λ p. p.parent.now };
 }
@@ -93,24 +93,26 @@ impl<'a> Platform<'a> {
     /// The whole path: the worktree root joined with the path that was looked up, its empty
     /// components dropped.
     pub fn path(&self) -> &'a [u8]
-        ensures { result.now ≡ full_path self.now.root (spelled self.now.current) }
+        ensures { result.now ≡ root_joined_with_relative self.now.root (slash_joined_components
+            self.now.current) }
     {
         let parent: &'a Stack = self.parent;
         parent.current()
     }
 
     /// What decides whether the path is excluded.
-    fn deciding(&self) -> Option<Decided<'a>>
-        requires { has_excludes (made_of self.now) ≡ true }
-        ensures held { option_map decided_of result ≡ deciding_if self.now.ignore
-            (spelled self.now.current) self.now.is_dir self.now.case }
-        ensures exclude { (s : Sources) → IsInStep s self.now → (relative : List ℕ)
-            → IsLookedUp self.now (components relative)
-            → option_map decided_of result ≡ exclude (rulebook (made_of self.now) s)
-            (components relative) self.now.is_dir }
+    fn deciding_match(&self) -> Option<Decided<'a>>
+        requires { has_excludes (setup_of_stack self.now) ≡ true }
+        ensures held { option_map decision_of_decided result ≡ deciding_match_if_rules_held
+            self.now.ignore (slash_joined_components self.now.current) self.now.is_dir
+            self.now.case }
+        ensures exclude { (s : TreeAndObjects) → IsInStepWithTree s self.now → (relative : List ℕ)
+            → StandsAtPath self.now (components relative) → option_map decision_of_decided result
+            ≡ exclude (rulebook_of_stack_setup (setup_of_stack self.now) s) (components relative)
+            self.now.is_dir }
     {
         let parent: &'a Stack = self.parent;
-        parent.deciding()
+        parent.deciding_match()
     }
 
     /// The rule that decides whether the path is excluded, a negative one among them; none where no
@@ -124,15 +126,16 @@ impl<'a> Platform<'a> {
     /// nearest to the root, and negative ones decide nothing beneath them. The empty path has no
     /// directory above it.
     pub fn matching_exclude_pattern(&self) -> Option<Match<'a>>
-        requires { has_excludes (made_of self.now) ≡ true }
-        ensures held { option_map match_of result ≡ rule_of
-            (deciding_if self.now.ignore (spelled self.now.current) self.now.is_dir self.now.case) }
-        ensures exclude { (s : Sources) → IsInStep s self.now → (relative : List ℕ)
-            → IsLookedUp self.now (components relative)
-            → option_map match_of result ≡ rule_of (exclude (rulebook (made_of self.now) s)
+        requires { has_excludes (setup_of_stack self.now) ≡ true }
+        ensures held { option_map matched_rule_of_match result
+            ≡ rule_of_decision (deciding_match_if_rules_held self.now.ignore
+            (slash_joined_components self.now.current) self.now.is_dir self.now.case) }
+        ensures exclude { (s : TreeAndObjects) → IsInStepWithTree s self.now → (relative : List ℕ)
+            → StandsAtPath self.now (components relative) → option_map matched_rule_of_match result
+            ≡ rule_of_decision (exclude (rulebook_of_stack_setup (setup_of_stack self.now) s)
             (components relative) self.now.is_dir) }
     {
-        match self.deciding() {
+        match self.deciding_match() {
             Some(decided) => Some(decided.found),
             None => None,
         }
@@ -141,16 +144,16 @@ impl<'a> Platform<'a> {
     /// What may become of the path, and where the rule comes from that decides it:
     /// [`Platform::excluded_kind`] and [`Platform::matching_origin`], for one search of the rules.
     pub fn exclusion(&self) -> Exclusion
-        requires { has_excludes (made_of self.now) ≡ true }
-        ensures held { result ≡ exclusion_by (deciding_if self.now.ignore
-            (spelled self.now.current) self.now.is_dir self.now.case) }
-        ensures exclude { (s : Sources) → IsInStep s self.now → (relative : List ℕ)
-            → IsLookedUp self.now (components relative)
-            → result ≡ exclusion_by (exclude (rulebook (made_of self.now) s)
-            (components relative) self.now.is_dir) }
+        requires { has_excludes (setup_of_stack self.now) ≡ true }
+        ensures held { result ≡ exclusion_of_decision (deciding_match_if_rules_held self.now.ignore
+            (slash_joined_components self.now.current) self.now.is_dir self.now.case) }
+        ensures exclude { (s : TreeAndObjects) → IsInStepWithTree s self.now → (relative : List ℕ)
+            → StandsAtPath self.now (components relative) → result ≡ exclusion_of_decision
+            (exclude (rulebook_of_stack_setup (setup_of_stack self.now) s) (components relative)
+            self.now.is_dir) }
     {
-        match self.deciding() {
-            Some(decided) => exclusion_of(&decided),
+        match self.deciding_match() {
+            Some(decided) => exclusion_of_decided(&decided),
             None => Exclusion::NONE,
         }
     }
@@ -158,12 +161,12 @@ impl<'a> Platform<'a> {
     /// Where the rule comes from that decides whether the path is excluded; none where no rule
     /// matches it. Takes no memory.
     pub fn matching_origin(&self) -> Option<Origin>
-        requires { has_excludes (made_of self.now) ≡ true }
-        ensures held { result ≡ origin_of (deciding_if self.now.ignore (spelled self.now.current)
-            self.now.is_dir self.now.case) }
-        ensures exclude { (s : Sources) → IsInStep s self.now → (relative : List ℕ)
-            → IsLookedUp self.now (components relative)
-            → result ≡ origin_of (exclude (rulebook (made_of self.now) s) (components relative)
+        requires { has_excludes (setup_of_stack self.now) ≡ true }
+        ensures held { result ≡ origin_of_decision (deciding_match_if_rules_held self.now.ignore
+            (slash_joined_components self.now.current) self.now.is_dir self.now.case) }
+        ensures exclude { (s : TreeAndObjects) → IsInStepWithTree s self.now → (relative : List ℕ)
+            → StandsAtPath self.now (components relative) → result ≡ origin_of_decision
+            (exclude (rulebook_of_stack_setup (setup_of_stack self.now) s) (components relative)
             self.now.is_dir) }
     {
         self.exclusion().origin
@@ -171,14 +174,15 @@ impl<'a> Platform<'a> {
 
     /// What may become of the path where it is excluded; none where it is not.
     pub fn excluded_kind(&self) -> Option<Kind>
-        requires { has_excludes (made_of self.now) ≡ true }
-        ensures held { result ≡ excluded_kind
-            (rule_of (deciding_if self.now.ignore (spelled self.now.current) self.now.is_dir
+        requires { has_excludes (setup_of_stack self.now) ≡ true }
+        ensures held { result ≡ excluded_kind (rule_of_decision (deciding_match_if_rules_held
+            self.now.ignore (slash_joined_components self.now.current) self.now.is_dir
             self.now.case)) }
-        ensures exclude { (s : Sources) → IsInStep s self.now → (relative : List ℕ)
-            → IsLookedUp self.now (components relative)
-            → result ≡ excluded_kind (rule_of (exclude (rulebook (made_of self.now) s)
-            (components relative) self.now.is_dir)) }
+        ensures exclude { (s : TreeAndObjects) → IsInStepWithTree s self.now → (relative : List ℕ)
+            → StandsAtPath self.now (components relative) → result
+            ≡ excluded_kind (rule_of_decision
+            (exclude (rulebook_of_stack_setup (setup_of_stack self.now) s) (components relative)
+            self.now.is_dir)) }
     {
         self.exclusion().kind
     }
@@ -187,33 +191,35 @@ impl<'a> Platform<'a> {
     /// for. `out` asks for its selection, or for all names that the stack has seen. Fails only
     /// where memory is refused, and then `out` has lost what it asks for.
     pub fn matching_attributes(&self, alloc: Global, out: &mut Outcome) -> Result<bool, OutOfMemory>
-        requires { has_attributes (made_of self.now) ≡ true }
-        ensures held { OnOk result (out.new ≡ filled (all_lists self.now.attributes)
-            (spelled self.now.current) self.now.is_dir self.now.case
-            (asking_anew out.old (names_of self.now.attributes))) }
-        ensures attributes { (s : Sources) → IsInStep s self.now → (relative : List ℕ)
-            → IsLookedUp self.now (components relative)
-            → OnOk result (out.new ≡ filled
-            (attribute_lists (made_of self.now) s (components relative))
-            (spelled (components relative)) self.now.is_dir self.now.case
-            (asking_anew out.old (names_of self.now.attributes))) }
-        ensures finds { IfOk result (λ finds. finds ≡ finds_some out.new.rows) }
-        ensures refused { OnErr result (out.new ≡ nothing_asked) }
+        requires { has_attributes (setup_of_stack self.now) ≡ true }
+        ensures held { OnOk result (out.new ≡ outcome_filled_for_path
+            (global_and_held_lists self.now.attributes) (slash_joined_components self.now.current)
+            self.now.is_dir self.now.case (outcome_reset_to_selection_or_names out.old
+            (seen_attribute_names self.now.attributes))) }
+        ensures attributes { (s : TreeAndObjects) → IsInStepWithTree s self.now
+            → (relative : List ℕ) → StandsAtPath self.now (components relative)
+            → OnOk result (out.new ≡ outcome_filled_for_path (attribute_lists_for_path
+            (setup_of_stack self.now) s (components relative)) (slash_joined_components
+            (components relative)) self.now.is_dir self.now.case
+            (outcome_reset_to_selection_or_names out.old
+            (seen_attribute_names self.now.attributes))) }
+        ensures finds { IfOk result (λ finds. finds ≡ is_any_state_found out.new.rows) }
+        ensures refused { OnErr result (out.new ≡ empty_outcome) }
     {
         self.parent.matching_attributes(alloc, out)
     }
 
     /// Whether the path is excluded.
     pub fn is_excluded(&self) -> bool
-        requires { has_excludes (made_of self.now) ≡ true }
+        requires { has_excludes (setup_of_stack self.now) ≡ true }
         ensures held { result ≡ is_some
-            (excluded_kind (rule_of (deciding_if self.now.ignore (spelled self.now.current)
-            self.now.is_dir self.now.case))) }
-        ensures exclude { (s : Sources) → IsInStep s self.now → (relative : List ℕ)
-            → IsLookedUp self.now (components relative)
-            → result ≡ is_some (excluded_kind
-            (rule_of (exclude (rulebook (made_of self.now) s) (components relative)
-            self.now.is_dir))) }
+            (excluded_kind (rule_of_decision (deciding_match_if_rules_held self.now.ignore
+            (slash_joined_components self.now.current) self.now.is_dir self.now.case))) }
+        ensures exclude { (s : TreeAndObjects) → IsInStepWithTree s self.now → (relative : List ℕ)
+            → StandsAtPath self.now (components relative) → result
+            ≡ is_some (excluded_kind
+            (rule_of_decision (exclude (rulebook_of_stack_setup (setup_of_stack self.now) s)
+            (components relative) self.now.is_dir))) }
     {
         self.excluded_kind().is_some()
     }

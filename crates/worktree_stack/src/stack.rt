@@ -2,31 +2,31 @@
 ghost use Rattle.std.specs.Prelude.{◌≡◌, ◌≤◌, ◌+◌, true, false, option_map, None, Some, IfOk, OnOk, OnErr};
 ghost use Rattle.std.specs.Borrow.{sem};
 ghost use Rattle.gitbase_core.specs.Path.{components};
-ghost use Rattle.worktree_fs.specs.Paths.{full_path, spelled};
-ghost use Rattle.worktree_fs.specs.PathStack.{lookup_calls};
-ghost use Rattle.glob_rules.specs.AttributeOutcome.{asking_anew, asking_for, filled, finds_some, nothing_asked};
-ghost use Rattle.worktree_stack.specs.Asked.{asked_on};
-ghost use Rattle.worktree_stack.specs.Counted.{no_statistics, unpushed, fresh};
-ghost use Rattle.worktree_stack.specs.Decided.{decided_of};
+ghost use Rattle.worktree_fs.specs.Paths.{root_joined_with_relative, slash_joined_components};
+ghost use Rattle.worktree_fs.specs.PathStack.{delegate_calls_of_lookup};
+ghost use Rattle.glob_rules.specs.AttributeOutcome.{outcome_reset_to_selection_or_names, outcome_without_states, outcome_filled_for_path, is_any_state_found, empty_outcome};
+ghost use Rattle.worktree_stack.specs.Asked.{number_of_all_files_asked_by_calls};
+ghost use Rattle.worktree_stack.specs.Counted.{zero_statistics, stack_with_nothing_pushed, fresh};
+ghost use Rattle.worktree_stack.specs.Decided.{decision_of_decided};
 ghost use Rattle.worktree_stack.specs.Lending.{LendsState};
-ghost use Rattle.worktree_fs.specs.Kept.{AsksStore};
-ghost use Rattle.worktree_stack.specs.ChecksOut.{ChecksOut};
-ghost use Rattle.worktree_stack.specs.LooksUp.{LooksUp, Leaves};
-ghost use Rattle.worktree_stack.specs.HeldOut.{HoldsOut};
-ghost use Rattle.worktree_stack.specs.Making.{is_link_of, mkdirs, way_of};
+ghost use Rattle.worktree_fs.specs.Kept.{KeepsStoredObjects};
+ghost use Rattle.worktree_stack.specs.ChecksOut.{LooksUpMakingDirectories};
+ghost use Rattle.worktree_stack.specs.LooksUp.{LooksUpPath, LookupLeavesWorktree};
+ghost use Rattle.worktree_stack.specs.HeldOut.{KeepsLowestAppendsCheckoutLists};
+ghost use Rattle.worktree_stack.specs.Making.{is_symlink_by_mode, mkdir_count_of_stack, checkout_lookup_options};
 ghost use Rattle.worktree_stack.specs.declared.state.Checkout.{Checkout};
-ghost use Rattle.worktree_stack.specs.Lookups.{is_dir_of, is_dir_of_entry};
-ghost use Rattle.worktree_stack.specs.Mappings.{are_ascending, mappings_in, case_of};
-ghost use Rattle.worktree_stack.specs.Setup.{has_excludes, has_attributes, keeps_tree, attributes_setup_of, setup_of, deciding_if, all_lists, names_of};
-ghost use Rattle.worktree_stack.specs.Stacked.{made_of, attributes_of, checkout_of, ignore_of, IsInStep};
-ghost use Rattle.worktree_stack.specs.Reading.{Sources, Tells};
+ghost use Rattle.worktree_stack.specs.Lookups.{is_dir_by_mode, is_dir_by_mode_or_slash};
+ghost use Rattle.worktree_stack.specs.Mappings.{are_mapping_paths_ascending, rules_file_mappings_of_index, case_by_ignore_case};
+ghost use Rattle.worktree_stack.specs.Setup.{has_excludes, has_attributes, keeps_tree_in_lookups, setup_of_held_attributes, setup_of_held_ignore_rules, deciding_match_if_rules_held, global_and_held_lists, seen_attribute_names};
+ghost use Rattle.worktree_stack.specs.Stacked.{setup_of_stack, held_attributes_of_state, checkout_of_state, held_ignore_rules_of_state, IsInStepWithTree};
+ghost use Rattle.worktree_stack.specs.Reading.{TreeAndObjects, Tells};
 
 mod checkout;
 mod push_rules;
 mod read_text;
 mod steps;
 
-use crate::attributes::{asking_for_all, asking_for_these};
+use crate::attributes::{outcome_for_all_attributes, outcome_for_selected_attributes};
 use crate::mappings::{Mappings, PathIdMapping};
 use crate::matched::Decided;
 use crate::platform::Platform;
@@ -36,7 +36,7 @@ use glob_rules::Case;
 use glob_rules::attributes::{MetadataCollection, Outcome};
 use std::alloc::Global;
 use std::marker::Model;
-use worktree_fs::{PathStack, Worktree, is_normal};
+use worktree_fs::{PathStack, Worktree, is_relative_without_dots};
 
 /// The directories above the path that was looked up last, with the rules of each; gitoxide's
 /// `gix_worktree::Stack`.
@@ -63,17 +63,17 @@ pub struct Stack {
 }
 
 impl Model for Stack {
-    ghost use Rattle.worktree_stack.specs.Stacked.{Stacked, attributes_of, checkout_of, ignore_of};
+    ghost use Rattle.worktree_stack.specs.Stacked.{StackModel, held_attributes_of_state, checkout_of_state, held_ignore_rules_of_state};
 
-    ghost Value = { Stacked };
+    ghost Value = { StackModel };
 
     ghost view = { λ s. record {
       root = s.stack.root;
       case = s.case;
       mappings = s.id_mappings;
-      checkout = checkout_of s.state;
-      attributes = attributes_of s.state;
-      ignore = ignore_of s.state;
+      checkout = checkout_of_state s.state;
+      attributes = held_attributes_of_state s.state;
+      ignore = held_ignore_rules_of_state s.state;
       at = s.stack.deepest;
       current = s.stack.current;
       is_dir = s.is_dir;
@@ -99,9 +99,10 @@ impl Stack {
         buf: Bytes,
         id_mappings: Vec<PathIdMapping>,
     ) -> Stack
-        requires { are_ascending id_mappings.items ≡ true }
-        ensures { result ≡ unpushed worktree_root case id_mappings.items (checkout_of state)
-            (attributes_of state) (ignore_of state) }
+        requires { are_mapping_paths_ascending id_mappings.items ≡ true }
+        ensures { result ≡ stack_with_nothing_pushed worktree_root case id_mappings.items
+            (checkout_of_state state) (held_attributes_of_state state) (held_ignore_rules_of_state
+            state) }
     {
         Stack {
             stack: PathStack::new(alloc, worktree_root),
@@ -129,10 +130,12 @@ impl Stack {
         state: State,
         index: &Index,
     ) -> Result<Stack, OutOfMemory>
-        ensures { IfOk result (λ stack. stack ≡ unpushed root (case_of ignore_case)
-            (mappings_in (case_of ignore_case) (attributes_setup_of (attributes_of state))
-            (setup_of (ignore_of state)) index.now) (checkout_of state) (attributes_of state)
-            (ignore_of state)) }
+        ensures { IfOk result (λ stack. stack ≡ stack_with_nothing_pushed root
+            (case_by_ignore_case ignore_case) (rules_file_mappings_of_index
+            (case_by_ignore_case ignore_case) (setup_of_held_attributes (held_attributes_of_state
+            state)) (setup_of_held_ignore_rules (held_ignore_rules_of_state state)) index.now)
+            (checkout_of_state state) (held_attributes_of_state state) (held_ignore_rules_of_state
+            state)) }
     {
         let case = if ignore_case {
             Case::Fold
@@ -154,8 +157,8 @@ impl Stack {
     /// with whatever is told. Fails only where memory is refused.
     pub fn fresh(&self, alloc: Global) -> Result<Stack, OutOfMemory>
         ensures fresh { IfOk result (λ stack. stack ≡ fresh self.now) }
-        ensures made { IfOk result (λ stack. made_of stack ≡ made_of self.now) }
-        ensures in_step { (s : Sources) → IfOk result (λ stack. IsInStep s stack) }
+        ensures made { IfOk result (λ stack. setup_of_stack stack ≡ setup_of_stack self.now) }
+        ensures in_step { (s : TreeAndObjects) → IfOk result (λ stack. IsInStepWithTree s stack) }
     {
         Ok(Stack {
             stack: PathStack::new(alloc, PathText::from_bytes(alloc, self.base())?),
@@ -188,14 +191,14 @@ impl Stack {
 
     /// Whether the stack tells which paths are excluded.
     pub fn has_excludes(&self) -> bool
-        ensures { result ≡ has_excludes (made_of self.now) }
+        ensures { result ≡ has_excludes (setup_of_stack self.now) }
     {
         self.state.ignore().is_some()
     }
 
     /// Whether the stack tells the attributes of paths.
     pub fn has_attributes(&self) -> bool
-        ensures { result ≡ has_attributes (made_of self.now) }
+        ensures { result ≡ has_attributes (setup_of_stack self.now) }
     {
         self.state.attributes().is_some()
     }
@@ -210,7 +213,7 @@ impl Stack {
     /// What was counted, from which on zeros are counted up again.
     pub fn take_statistics(&mut self) -> Statistics
         ensures taken { result ≡ self.old.statistics }
-        ensures left { self.new ≡ record self.old { statistics = no_statistics } }
+        ensures left { self.new ≡ record self.old { statistics = zero_statistics } }
     {
         let taken = self.statistics;
         self.statistics = Statistics::default();
@@ -219,9 +222,9 @@ impl Stack {
 
     /// What the stack keeps for its directories.
     pub fn state(&self) -> &State
-        ensures checkout { checkout_of result.now ≡ self.now.checkout }
-        ensures attributes { attributes_of result.now ≡ self.now.attributes }
-        ensures ignore { ignore_of result.now ≡ self.now.ignore }
+        ensures checkout { checkout_of_state result.now ≡ self.now.checkout }
+        ensures attributes { held_attributes_of_state result.now ≡ self.now.attributes }
+        ensures ignore { held_ignore_rules_of_state result.now ≡ self.now.ignore }
     {
         &self.state
     }
@@ -238,29 +241,35 @@ impl Stack {
     /// The names of attributes that were seen, in the lists of the caller and in those that were
     /// read.
     pub fn attributes_collection(&self) -> &MetadataCollection
-        requires { has_attributes (made_of self.now) ≡ true }
-        ensures { result.now ≡ names_of self.now.attributes }
+        requires { has_attributes (setup_of_stack self.now) ≡ true }
+        ensures { result.now ≡ seen_attribute_names self.now.attributes }
     {
         match self.state.attributes() {
-            Some(attributes) => attributes.collection(),
+            Some(attributes) => attributes.collection_of_seen_names(),
             None => unreachable!(),
         }
     }
 
     /// The whole path that was looked up last.
     pub(crate) fn current(&self) -> &[u8]
-        ensures { result.now ≡ full_path self.now.root (spelled self.now.current) }
+        ensures { result.now ≡ root_joined_with_relative self.now.root (slash_joined_components
+            self.now.current) }
     {
         self.stack.current()
     }
 
     /// What decides about the path that was looked up last.
-    pub(crate) fn deciding(&self) -> Option<Decided<'_>>
-        ensures { option_map decided_of result ≡ deciding_if self.now.ignore
-            (spelled self.now.current) self.now.is_dir self.now.case }
+    pub(crate) fn deciding_match(&self) -> Option<Decided<'_>>
+        ensures { option_map decision_of_decided result ≡ deciding_match_if_rules_held
+            self.now.ignore (slash_joined_components self.now.current) self.now.is_dir
+            self.now.case }
     {
         match self.state.ignore() {
-            Some(ignore) => ignore.deciding(self.stack.current_relative(), self.is_dir, self.case),
+            Some(ignore) => ignore.deciding_match(
+                self.stack.current_relative(),
+                self.is_dir,
+                self.case,
+            ),
             None => None,
         }
     }
@@ -272,12 +281,13 @@ impl Stack {
         alloc: Global,
         out: &mut Outcome,
     ) -> Result<bool, OutOfMemory>
-        requires { has_attributes (made_of self.now) ≡ true }
-        ensures filled { OnOk result (out.new ≡ filled (all_lists self.now.attributes)
-            (spelled self.now.current) self.now.is_dir self.now.case
-            (asking_anew out.old (names_of self.now.attributes))) }
-        ensures finds { IfOk result (λ finds. finds ≡ finds_some out.new.rows) }
-        ensures refused { OnErr result (out.new ≡ nothing_asked) }
+        requires { has_attributes (setup_of_stack self.now) ≡ true }
+        ensures filled { OnOk result (out.new ≡ outcome_filled_for_path
+            (global_and_held_lists self.now.attributes) (slash_joined_components self.now.current)
+            self.now.is_dir self.now.case (outcome_reset_to_selection_or_names out.old
+            (seen_attribute_names self.now.attributes))) }
+        ensures finds { IfOk result (λ finds. finds ≡ is_any_state_found out.new.rows) }
+        ensures refused { OnErr result (out.new ≡ empty_outcome) }
     {
         match self.state.attributes() {
             Some(attributes) => attributes.matching(
@@ -294,11 +304,11 @@ impl Stack {
     /// An outcome that asks for the attributes that were seen so far, of which nothing is found
     /// yet. Fails only where memory is refused.
     pub fn attribute_matches(&self, alloc: Global) -> Result<Outcome, OutOfMemory>
-        requires { has_attributes (made_of self.now) ≡ true }
-        ensures { IfOk result (λ outcome. outcome ≡ asking_anew nothing_asked
-            (names_of self.now.attributes)) }
+        requires { has_attributes (setup_of_stack self.now) ≡ true }
+        ensures { IfOk result (λ outcome. outcome ≡ outcome_reset_to_selection_or_names
+            empty_outcome (seen_attribute_names self.now.attributes)) }
     {
-        asking_for_all(alloc, self.attributes_collection())
+        outcome_for_all_attributes(alloc, self.attributes_collection())
     }
 
     /// An outcome that asks for these attributes, in this order, of which nothing is found yet.
@@ -308,19 +318,19 @@ impl Stack {
         alloc: Global,
         given: &[Bytes],
     ) -> Result<Outcome, OutOfMemory>
-        requires { has_attributes (made_of self.now) ≡ true }
-        ensures { IfOk result (λ outcome. outcome ≡ asking_for true given.now) }
+        requires { has_attributes (setup_of_stack self.now) ≡ true }
+        ensures { IfOk result (λ outcome. outcome ≡ outcome_without_states true given.now) }
     {
-        asking_for_these(alloc, given)
+        outcome_for_selected_attributes(alloc, given)
     }
 
     /// What the stack keeps for its directories, to be changed. Nothing is promised of directories
     /// that are pushed already.
     pub fn state_mut(&mut self) -> &mut State
         ensures* lends { sem 𝓛 (LendsState self.entry result) }
-        ensures checkout { checkout_of result.now ≡ self.old.checkout }
-        ensures attributes { attributes_of result.now ≡ self.old.attributes }
-        ensures state { ignore_of result.now ≡ self.old.ignore }
+        ensures checkout { checkout_of_state result.now ≡ self.old.checkout }
+        ensures attributes { held_attributes_of_state result.now ≡ self.old.attributes }
+        ensures state { held_ignore_rules_of_state result.now ≡ self.old.ignore }
     {
         self.is_answered = false;
         &mut self.state
@@ -401,38 +411,40 @@ impl Stack {
         worktree: &mut W,
         objects: &mut F,
     ) -> Result<(), AtPathError>
-        ensures looks_up { keeps_tree (made_of self.old) ≡ true → LooksUp W.Worktree F.Find
-            worktree.old worktree.new objects.old objects.new relative.now (is_dir_of mode) self.old
-            self.new result }
+        ensures looks_up { keeps_tree_in_lookups (setup_of_stack self.old) ≡ true
+            → LooksUpPath W.Worktree F.Find worktree.old worktree.new objects.old objects.new
+            relative.now (is_dir_by_mode mode) self.old self.new result }
         ensures checks_out { (checkout : Checkout) → self.old.checkout ≡ Some checkout
-            → ChecksOut W.Worktree F.Find worktree.old worktree.new objects.old objects.new checkout
-            relative.now (is_dir_of mode) (is_link_of mode) self.old self.new result }
+            → LooksUpMakingDirectories W.Worktree F.Find worktree.old worktree.new objects.old
+            objects.new checkout relative.now (is_dir_by_mode mode) (is_symlink_by_mode mode)
+            self.old self.new result }
         ensures answered { OnOk result (self.new.is_answered ≡ true) }
-        ensures asked { W.reads worktree.new ≤ W.reads worktree.old + asked_on
-            (made_of self.old) (lookup_calls self.old.at (components relative.now)) }
-        ensures leaves { Leaves (keeps_tree (made_of self.old)) W.Worktree worktree.old
-            worktree.new }
-        ensures leaves_store { AsksStore F.Find objects.old objects.new }
+        ensures asked { W.reads worktree.new ≤ W.reads worktree.old +
+            number_of_all_files_asked_by_calls (setup_of_stack self.old) (delegate_calls_of_lookup
+            self.old.at (components relative.now)) }
+        ensures leaves { LookupLeavesWorktree (keeps_tree_in_lookups (setup_of_stack self.old))
+            W.Worktree worktree.old worktree.new }
+        ensures leaves_store { KeepsStoredObjects F.Find objects.old objects.new }
         ensures unfaulted { OnOk result (W.faults worktree.new ≡ W.faults worktree.old) }
         ensures unfaulted_store { OnOk result (F.faults objects.new ≡ F.faults objects.old) }
         ensures held { (checkout : Checkout) → self.old.checkout ≡ Some checkout
-            → (s : Sources) → Tells (W.told worktree.old) (F.holds objects.old) s
-            → OnOk result (HoldsOut (made_of self.old)
-            (way_of checkout (W.precomposes worktree.old) self.old.root (is_dir_of mode))
-            (mkdirs self.old) s (lookup_calls self.old.at (components relative.now))
-            self.old.attributes self.new.attributes) }
+            → (s : TreeAndObjects) → Tells (W.told worktree.old) (F.holds objects.old) s
+            → OnOk result (KeepsLowestAppendsCheckoutLists (setup_of_stack self.old)
+            (checkout_lookup_options checkout (W.precomposes worktree.old) self.old.root
+            (is_dir_by_mode mode)) (mkdir_count_of_stack self.old) s (delegate_calls_of_lookup
+            self.old.at (components relative.now)) self.old.attributes self.new.attributes) }
     {
-        self.count_platform();
-        if !is_normal(relative) {
+        self.count_lookup();
+        if !is_relative_without_dots(relative) {
             return Err(AtPathError::NotNormal);
         }
         let Some(checkout) = self.checkout() else {
-            self.look_up(alloc, relative, worktree, objects)?;
-            self.mark_answered(mode);
+            self.look_up_without_making_directories(alloc, relative, worktree, objects)?;
+            self.mark_lookup_answered(mode);
             return Ok(());
         };
         self.look_up_making_directories(alloc, relative, checkout, mode, worktree, objects)?;
-        self.mark_answered(mode);
+        self.mark_lookup_answered(mode);
         Ok(())
     }
 
@@ -451,28 +463,29 @@ impl Stack {
         worktree: &mut W,
         objects: &mut F,
     ) -> Result<(), AtPathError>
-        ensures looks_up { keeps_tree (made_of self.old) ≡ true → LooksUp W.Worktree F.Find
-            worktree.old worktree.new objects.old objects.new relative.now
-            (is_dir_of_entry relative.now mode) self.old self.new result }
+        ensures looks_up { keeps_tree_in_lookups (setup_of_stack self.old) ≡ true
+            → LooksUpPath W.Worktree F.Find worktree.old worktree.new objects.old objects.new
+            relative.now (is_dir_by_mode_or_slash relative.now mode) self.old self.new result }
         ensures checks_out { (checkout : Checkout) → self.old.checkout ≡ Some checkout
-            → ChecksOut W.Worktree F.Find worktree.old worktree.new objects.old objects.new checkout
-            relative.now (is_dir_of_entry relative.now mode) (is_link_of mode) self.old self.new
-            result }
+            → LooksUpMakingDirectories W.Worktree F.Find worktree.old worktree.new objects.old
+            objects.new checkout relative.now (is_dir_by_mode_or_slash relative.now mode)
+            (is_symlink_by_mode mode) self.old self.new result }
         ensures answered { OnOk result (self.new.is_answered ≡ true) }
-        ensures asked { W.reads worktree.new ≤ W.reads worktree.old + asked_on
-            (made_of self.old) (lookup_calls self.old.at (components relative.now)) }
-        ensures leaves { Leaves (keeps_tree (made_of self.old)) W.Worktree worktree.old
-            worktree.new }
-        ensures leaves_store { AsksStore F.Find objects.old objects.new }
+        ensures asked { W.reads worktree.new ≤ W.reads worktree.old +
+            number_of_all_files_asked_by_calls (setup_of_stack self.old) (delegate_calls_of_lookup
+            self.old.at (components relative.now)) }
+        ensures leaves { LookupLeavesWorktree (keeps_tree_in_lookups (setup_of_stack self.old))
+            W.Worktree worktree.old worktree.new }
+        ensures leaves_store { KeepsStoredObjects F.Find objects.old objects.new }
         ensures unfaulted { OnOk result (W.faults worktree.new ≡ W.faults worktree.old) }
         ensures unfaulted_store { OnOk result (F.faults objects.new ≡ F.faults objects.old) }
         ensures held { (checkout : Checkout) → self.old.checkout ≡ Some checkout
-            → (s : Sources) → Tells (W.told worktree.old) (F.holds objects.old) s
-            → OnOk result (HoldsOut (made_of self.old)
-            (way_of checkout (W.precomposes worktree.old) self.old.root
-            (is_dir_of_entry relative.now mode))
-            (mkdirs self.old) s (lookup_calls self.old.at (components relative.now))
-            self.old.attributes self.new.attributes) }
+            → (s : TreeAndObjects) → Tells (W.told worktree.old) (F.holds objects.old) s
+            → OnOk result (KeepsLowestAppendsCheckoutLists (setup_of_stack self.old)
+            (checkout_lookup_options checkout (W.precomposes worktree.old) self.old.root
+            (is_dir_by_mode_or_slash relative.now mode)) (mkdir_count_of_stack self.old) s
+            (delegate_calls_of_lookup self.old.at (components relative.now)) self.old.attributes
+            self.new.attributes) }
     {
         self.at_path(
             alloc,
@@ -486,8 +499,8 @@ impl Stack {
 
 /// The mode of an entry of an index: without one, a path that ends in a slash is a directory.
 fn entry_mode(relative: &[u8], mode: Option<Mode>) -> Option<Mode>
-    ensures is_dir { is_dir_of result ≡ is_dir_of_entry relative.now mode }
-    ensures is_link { is_link_of result ≡ is_link_of mode }
+    ensures is_dir { is_dir_by_mode result ≡ is_dir_by_mode_or_slash relative.now mode }
+    ensures is_link { is_symlink_by_mode result ≡ is_symlink_by_mode mode }
 {
     match mode {
         Some(mode) => Some(mode),

@@ -1,11 +1,11 @@
 //! What a stack keeps for the directories on the way to a path.
 ghost use Rattle.std.specs.Prelude.{◌≡◌, true, None, Some, is_some, IfOk, OnOk, OnErr, option_copied};
 ghost use Rattle.glob_rules.specs.AttributeLines as texts;
-ghost use Rattle.glob_rules.specs.AttributeNames.{SeesPart, names_in};
-ghost use Rattle.glob_rules.specs.Attributes.{list_from};
-ghost use Rattle.worktree_stack.specs.Stacked.{attributes_of, ignore_of, checkout_of};
-ghost use Rattle.worktree_stack.specs.Mappings.{mappings_in, are_ascending};
-ghost use Rattle.worktree_stack.specs.Setup.{attributes_setup_of, setup_of, lists_of, names_of, push_list, pop_list, pop_lists, bare_attributes, push_level, pop_level, bare};
+ghost use Rattle.glob_rules.specs.AttributeNames.{AddsSomeFirstNames, attribute_names_of_lines};
+ghost use Rattle.glob_rules.specs.Attributes.{attribute_list_from_lines};
+ghost use Rattle.worktree_stack.specs.Stacked.{held_attributes_of_state, held_ignore_rules_of_state, checkout_of_state};
+ghost use Rattle.worktree_stack.specs.Mappings.{rules_file_mappings_of_index, are_mapping_paths_ascending};
+ghost use Rattle.worktree_stack.specs.Setup.{setup_of_held_attributes, setup_of_held_ignore_rules, held_attribute_lists, seen_attribute_names, push_list, held_without_highest_list, held_without_lists_of_directory, held_attributes_without_lists, held_rules_with_directory_pushed, held_rules_with_directory_popped, held_rules_without_directories};
 
 use crate::mappings::PathIdMappings;
 use crate::matched::Matched;
@@ -57,12 +57,12 @@ impl State {
         validate: Options,
         attributes: Attributes,
     ) -> State
-        ensures checkout { checkout_of result ≡ Some (record {
+        ensures checkout { checkout_of_state result ≡ Some (record {
           unlink_on_collision = unlink_on_collision;
           validate = validate;
         }) }
-        ensures attributes { attributes_of result ≡ Some attributes }
-        ensures ignore { ignore_of result ≡ None }
+        ensures attributes { held_attributes_of_state result ≡ Some attributes }
+        ensures ignore { held_ignore_rules_of_state result ≡ None }
     {
         State::CreateDirectoryAndAttributesStack {
             unlink_on_collision,
@@ -74,9 +74,9 @@ impl State {
     /// A state for adding files to an index: it tells the attributes of paths, and which paths are
     /// excluded. Takes no memory.
     pub fn for_add(attributes: Attributes, ignore: Ignore) -> State
-        ensures checkout { checkout_of result ≡ None }
-        ensures attributes { attributes_of result ≡ Some attributes }
-        ensures ignore { ignore_of result ≡ Some ignore }
+        ensures checkout { checkout_of_state result ≡ None }
+        ensures attributes { held_attributes_of_state result ≡ Some attributes }
+        ensures ignore { held_ignore_rules_of_state result ≡ Some ignore }
     {
         State::AttributesAndIgnoreStack { attributes, ignore }
     }
@@ -96,10 +96,10 @@ impl State {
         index: &Index,
         case: Case,
     ) -> Result<PathIdMappings, OutOfMemory>
-        ensures mappings { IfOk result (λ mappings. mappings ≡ mappings_in case
-            (attributes_setup_of (attributes_of self.now)) (setup_of (ignore_of self.now))
-            index.now) }
-        ensures ascending { IfOk result (λ mappings. are_ascending mappings ≡ true) }
+        ensures mappings { IfOk result (λ mappings. mappings ≡ rules_file_mappings_of_index case
+            (setup_of_held_attributes (held_attributes_of_state self.now))
+            (setup_of_held_ignore_rules (held_ignore_rules_of_state self.now)) index.now) }
+        ensures ascending { IfOk result (λ mappings. are_mapping_paths_ascending mappings ≡ true) }
     {
         let items = mappings::collect_rules_mappings(alloc, self, index, case)?;
         Ok(PathIdMappings::from_vec(items))
@@ -107,7 +107,7 @@ impl State {
 
     /// The rules that exclude paths, where there are such.
     pub(crate) fn ignore(&self) -> Option<&Ignore>
-        ensures { option_copied result ≡ ignore_of self.now }
+        ensures { option_copied result ≡ held_ignore_rules_of_state self.now }
     {
         match self {
             State::CreateDirectoryAndAttributesStack {
@@ -126,7 +126,7 @@ impl State {
 
     /// What is said of attributes, where that is told.
     pub(crate) fn attributes(&self) -> Option<&Attributes>
-        ensures { option_copied result ≡ attributes_of self.now }
+        ensures { option_copied result ≡ held_attributes_of_state self.now }
     {
         match self {
             State::CreateDirectoryAndAttributesStack {
@@ -146,8 +146,8 @@ impl State {
     /// How directories are made on the way to a path, where they are. Such a state has no rules
     /// that exclude paths.
     pub(crate) fn checkout(&self) -> Option<Checkout>
-        ensures checkout { result ≡ checkout_of self.now }
-        ensures alone { is_some result ≡ true → ignore_of self.now ≡ None }
+        ensures checkout { result ≡ checkout_of_state self.now }
+        ensures alone { is_some result ≡ true → held_ignore_rules_of_state self.now ≡ None }
     {
         match self {
             State::CreateDirectoryAndAttributesStack {
@@ -169,10 +169,12 @@ impl State {
 
     /// The same with no directory pushed; fails only where memory is refused.
     pub(crate) fn fresh(&self, alloc: Global) -> Result<State, OutOfMemory>
-        ensures checkout { IfOk result (λ state. checkout_of state ≡ checkout_of self.now) }
-        ensures attributes { IfOk result (λ state. attributes_of state ≡ bare_attributes
-            (attributes_of self.now)) }
-        ensures ignore { IfOk result (λ state. ignore_of state ≡ bare (ignore_of self.now)) }
+        ensures checkout { IfOk result (λ state. checkout_of_state state ≡ checkout_of_state
+            self.now) }
+        ensures attributes { IfOk result (λ state. held_attributes_of_state state
+            ≡ held_attributes_without_lists (held_attributes_of_state self.now)) }
+        ensures ignore { IfOk result (λ state. held_ignore_rules_of_state state
+            ≡ held_rules_without_directories (held_ignore_rules_of_state self.now)) }
     {
         match self {
             State::CreateDirectoryAndAttributesStack {
@@ -205,11 +207,12 @@ impl State {
         list: List,
         matched: Option<Matched>,
     ) -> Result<(), OutOfMemory>
-        ensures pushed { OnOk result (ignore_of self.new ≡ push_level list matched
-            (ignore_of self.old)) }
-        ensures attributes { attributes_of self.new ≡ attributes_of self.old }
-        ensures checkout { checkout_of self.new ≡ checkout_of self.old }
-        ensures refused { OnErr result (ignore_of self.new ≡ ignore_of self.old) }
+        ensures pushed { OnOk result (held_ignore_rules_of_state self.new
+            ≡ held_rules_with_directory_pushed list matched (held_ignore_rules_of_state self.old)) }
+        ensures attributes { held_attributes_of_state self.new ≡ held_attributes_of_state self.old }
+        ensures checkout { checkout_of_state self.new ≡ checkout_of_state self.old }
+        ensures refused { OnErr result (held_ignore_rules_of_state self.new
+            ≡ held_ignore_rules_of_state self.old) }
     {
         match self {
             State::CreateDirectoryAndAttributesStack {
@@ -229,7 +232,7 @@ impl State {
     /// Pushes the list of bytes that were read at `source`, for the paths beneath the directory
     /// `base`, which speaks of attributes. Where memory is refused nothing is pushed, and the first
     /// of its names may be seen.
-    pub(crate) fn push_attributes(
+    pub(crate) fn parse_and_push_attributes(
         &mut self,
         alloc: Global,
         bytes: &[u8],
@@ -237,17 +240,20 @@ impl State {
         base: PathText,
         allow_macros: bool,
     ) -> Result<(), OutOfMemory>
-        ensures pushed { OnOk result (attributes_of self.new ≡ push_list
-            (list_from (texts.lines allow_macros bytes.now) source base)
-            (names_in (texts.lines allow_macros bytes.now)) (attributes_of self.old)) }
-        ensures setup { attributes_setup_of (attributes_of self.new) ≡ attributes_setup_of
-            (attributes_of self.old) }
-        ensures ignore { ignore_of self.new ≡ ignore_of self.old }
-        ensures checkout { checkout_of self.new ≡ checkout_of self.old }
-        ensures refused { OnErr result
-            (lists_of (attributes_of self.new) ≡ lists_of (attributes_of self.old)) }
-        ensures seen { OnErr result (SeesPart (names_of (attributes_of self.old))
-            (names_in (texts.lines allow_macros bytes.now)) (names_of (attributes_of self.new))) }
+        ensures pushed { OnOk result (held_attributes_of_state self.new
+            ≡ push_list (attribute_list_from_lines (texts.lines allow_macros bytes.now) source base)
+            (attribute_names_of_lines (texts.lines allow_macros bytes.now))
+            (held_attributes_of_state self.old)) }
+        ensures setup { setup_of_held_attributes (held_attributes_of_state self.new)
+            ≡ setup_of_held_attributes (held_attributes_of_state self.old) }
+        ensures ignore { held_ignore_rules_of_state self.new ≡ held_ignore_rules_of_state self.old }
+        ensures checkout { checkout_of_state self.new ≡ checkout_of_state self.old }
+        ensures refused { OnErr result (held_attribute_lists (held_attributes_of_state self.new)
+            ≡ held_attribute_lists (held_attributes_of_state self.old)) }
+        ensures seen { OnErr result
+            (AddsSomeFirstNames (seen_attribute_names (held_attributes_of_state self.old))
+            (attribute_names_of_lines (texts.lines allow_macros bytes.now))
+            (seen_attribute_names (held_attributes_of_state self.new))) }
     {
         match self {
             State::CreateDirectoryAndAttributesStack {
@@ -267,11 +273,11 @@ impl State {
     }
 
     /// Drops the lists of a directory that speak of attributes; they were pushed last.
-    pub(crate) fn pop_attributes(&mut self, directory: &[u8])
-        ensures attributes { attributes_of self.new ≡ pop_lists directory.now
-            (attributes_of self.old) }
-        ensures ignore { ignore_of self.new ≡ ignore_of self.old }
-        ensures checkout { checkout_of self.new ≡ checkout_of self.old }
+    pub(crate) fn pop_attributes_of_directory(&mut self, directory: &[u8])
+        ensures attributes { held_attributes_of_state self.new ≡ held_without_lists_of_directory
+            directory.now (held_attributes_of_state self.old) }
+        ensures ignore { held_ignore_rules_of_state self.new ≡ held_ignore_rules_of_state self.old }
+        ensures checkout { checkout_of_state self.new ≡ checkout_of_state self.old }
     {
         match self {
             State::CreateDirectoryAndAttributesStack {
@@ -290,9 +296,10 @@ impl State {
 
     /// Drops the list that speaks of attributes and was pushed last.
     pub(crate) fn pop_list(&mut self)
-        ensures attributes { attributes_of self.new ≡ pop_list (attributes_of self.old) }
-        ensures ignore { ignore_of self.new ≡ ignore_of self.old }
-        ensures checkout { checkout_of self.new ≡ checkout_of self.old }
+        ensures attributes { held_attributes_of_state self.new ≡ held_without_highest_list
+            (held_attributes_of_state self.old) }
+        ensures ignore { held_ignore_rules_of_state self.new ≡ held_ignore_rules_of_state self.old }
+        ensures checkout { checkout_of_state self.new ≡ checkout_of_state self.old }
     {
         match self {
             State::CreateDirectoryAndAttributesStack {
@@ -310,10 +317,11 @@ impl State {
     }
 
     /// Drops the ignore rules that were pushed last.
-    pub(crate) fn pop_ignore(&mut self)
-        ensures attributes { attributes_of self.new ≡ attributes_of self.old }
-        ensures ignore { ignore_of self.new ≡ pop_level (ignore_of self.old) }
-        ensures checkout { checkout_of self.new ≡ checkout_of self.old }
+    pub(crate) fn pop_ignore_rules(&mut self)
+        ensures attributes { held_attributes_of_state self.new ≡ held_attributes_of_state self.old }
+        ensures ignore { held_ignore_rules_of_state self.new ≡ held_rules_with_directory_popped
+            (held_ignore_rules_of_state self.old) }
+        ensures checkout { checkout_of_state self.new ≡ checkout_of_state self.old }
     {
         match self {
             State::CreateDirectoryAndAttributesStack {

@@ -1,7 +1,7 @@
 //! Cases of attributes in a work tree.
 ghost use Rattle.std.specs.Prelude.{◌≡◌, true};
 ghost use Rattle.worktree_stack.specs.Setup.{has_attributes};
-ghost use Rattle.worktree_stack.specs.Stacked.{made_of};
+ghost use Rattle.worktree_stack.specs.Stacked.{setup_of_stack};
 
 use crate::lookups::look_up_path;
 use crate::mapped::{LEFT_OUT, index_of};
@@ -154,10 +154,11 @@ fn is_found(
     name: &[u8],
     want: &[u8],
 ) -> bool
-    requires { has_attributes (made_of platform.now) ≡ true }
+    requires { has_attributes (setup_of_stack platform.now) ≡ true }
 {
     match platform.matching_attributes(alloc, out) {
-        Ok(finds) => is_state(out.value_of(name), want) && (finds || want == b"-".as_slice()),
+        Ok(finds) => is_state(out.found_state_of_name(name), want)
+            && (finds || want == b"-".as_slice()),
         Err(_) => false,
     }
 }
@@ -223,7 +224,7 @@ fn globals_of(
     collection: &mut MetadataCollection,
     lines: &[u8],
 ) -> Result<Search, OutOfMemory> {
-    let mut globals = Search::with_builtin(alloc, collection)?;
+    let mut globals = Search::new_with_builtin_binary_macro(alloc, collection)?;
     let source = PathText::from_bytes(alloc, b"/globals")?;
     globals.add_patterns_buffer(alloc, lines, source, PathText::new(alloc), collection, true)?;
     Ok(globals)

@@ -76,11 +76,11 @@ pub fn tree_of(alloc: Global, node: &[u8]) -> Result<MemoryWorktree, AddError> {
 /// Lets a call fail, where one is named.
 pub fn plan(alloc: Global, tree: &mut MemoryWorktree, call: &[u8]) -> Result<(), OutOfMemory> {
     match call {
-        b"m1" => tree.plan_fault(alloc, CallKind::MakeDir, 1),
-        b"m2" => tree.plan_fault(alloc, CallKind::MakeDir, 2),
-        b"m3" => tree.plan_fault(alloc, CallKind::MakeDir, 3),
-        b"r1" => tree.plan_fault(alloc, CallKind::RemoveNode, 1),
-        b"k1" => tree.plan_fault(alloc, CallKind::Kind, 1),
+        b"m1" => tree.plan_fault_of_nth_call(alloc, CallKind::MakeDir, 1),
+        b"m2" => tree.plan_fault_of_nth_call(alloc, CallKind::MakeDir, 2),
+        b"m3" => tree.plan_fault_of_nth_call(alloc, CallKind::MakeDir, 3),
+        b"r1" => tree.plan_fault_of_nth_call(alloc, CallKind::RemoveNode, 1),
+        b"k1" => tree.plan_fault_of_nth_call(alloc, CallKind::Kind, 1),
         _ => Ok(()),
     }
 }

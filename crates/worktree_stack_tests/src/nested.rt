@@ -2,7 +2,7 @@
 //! them.
 ghost use Rattle.std.specs.Prelude.{◌≡◌, true};
 ghost use Rattle.worktree_stack.specs.Setup.{has_excludes};
-ghost use Rattle.worktree_stack.specs.Stacked.{made_of};
+ghost use Rattle.worktree_stack.specs.Stacked.{setup_of_stack};
 
 use crate::answers::NESTED;
 use crate::cases::stack_at;
@@ -63,7 +63,7 @@ fn are_put(alloc: Global, tree: &mut MemoryWorktree, files: &[u8]) -> bool {
 /// Whether the rule that decides stands in this line of this file, and has this sign; line 0 says
 /// that there is none.
 fn is_decided(platform: &Platform<'_>, line: &[u8], sign: &[u8], file: &[u8]) -> bool
-    requires { has_excludes (made_of platform.now) ≡ true }
+    requires { has_excludes (setup_of_stack platform.now) ≡ true }
 {
     match platform.matching_exclude_pattern() {
         Some(found) => {

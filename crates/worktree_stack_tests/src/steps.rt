@@ -4,7 +4,7 @@
 //! written.
 ghost use Rattle.std.specs.Prelude.{◌≡◌, true};
 ghost use Rattle.worktree_stack.specs.Setup.{has_excludes};
-ghost use Rattle.worktree_stack.specs.Stacked.{made_of};
+ghost use Rattle.worktree_stack.specs.Stacked.{setup_of_stack};
 
 use crate::attributes;
 use crate::lookups::{look_up_entry, look_up_path};
@@ -80,7 +80,7 @@ fn is_origin(origin: Option<Origin>, line: &[u8], group: &[u8]) -> bool {
 
 /// Whether a rule with this text, of this file, decides.
 fn is_rule(platform: &Platform<'_>, text: &[u8], source: &[u8]) -> bool
-    requires { has_excludes (made_of platform.now) ≡ true }
+    requires { has_excludes (setup_of_stack platform.now) ≡ true }
 {
     match platform.matching_exclude_pattern() {
         Some(found) => found.pattern.text() == text && found.source == Some(source),
@@ -98,7 +98,7 @@ pub fn is_decided(
     group: &[u8],
     source: &[u8],
 ) -> bool
-    requires { has_excludes (made_of platform.now) ≡ true }
+    requires { has_excludes (setup_of_stack platform.now) ≡ true }
 {
     platform.excluded_kind() == kind
         && platform.is_excluded() == kind.is_some()
@@ -241,10 +241,13 @@ fn is_fresh(alloc: Global, stack: &mut Stack) -> bool {
 /// Whether a step that puts something into the tree or the store was taken.
 fn is_put(alloc: Global, scene: &mut Scene<'_>, what: &[u8], path: &[u8], text: &[u8]) -> bool {
     match what {
-        b"fail" => scene.tree.plan_fault(alloc, CallKind::Read, 1).is_ok(),
+        b"fail" => scene
+            .tree
+            .plan_fault_of_nth_call(alloc, CallKind::Read, 1)
+            .is_ok(),
         b"blob" => scene.store.insert(alloc, id_of(path), text).is_ok(),
         b"other object" => scene.store.insert_other(alloc, id_of(path)).is_ok(),
-        _ => test_cases::is_put(alloc, scene.tree, what, path, text),
+        _ => test_cases::try_add_node_of_kind(alloc, scene.tree, what, path, text),
     }
 }
 

@@ -2,7 +2,7 @@
 ghost use Rattle.std.specs.Prelude.{◌≡◌, ◌↔◌, None, true, false, IsTrue};
 ghost use Rattle.std.specs.Fs.{metadata_len, metadata_mode};
 ghost use Rattle.worktree_fs.specs.Disk.{is_fault};
-ghost use Rattle.diff_files.specs.Seconds.{seconds_of};
+ghost use Rattle.diff_files.specs.Seconds.{seconds_wrapped_to_32_bits};
 
 use super::Stats;
 use super::node_stat::NodeStat;
@@ -33,7 +33,7 @@ pub struct DiskStats<'a> {
 impl<'a> Model for DiskStats<'a> {
     ghost use Rattle.diff_files.specs.Stats as words;
 
-    ghost Value = { words.Counted };
+    ghost Value = { words.DiskStatsModel };
 
     ghost view = { λ stats. record { faults = stats.faults } };
 }
@@ -55,22 +55,22 @@ impl<'a> DiskStats<'a> {
 }
 
 /// The lowest 32 bits of a time.
-fn seconds(time: i64) -> u32
-    ensures { result ≡ seconds_of time }
+fn wrap_seconds_to_32_bits(time: i64) -> u32
+    ensures { result ≡ seconds_wrapped_to_32_bits time }
 {
     (time.cast_unsigned() % LIMIT) as u32
 }
 
 /// What the system's word on a node tells. Of the words that std hands on, its contracts name the
 /// mode and the size; that the others are not taken for one another is tested.
-fn stat_of(metadata: &Metadata) -> NodeStat
+fn node_stat_of_metadata(metadata: &Metadata) -> NodeStat
     ensures mode { result.mode ≡ metadata_mode metadata.now }
     ensures size { result.size ≡ metadata_len metadata.now }
 {
     NodeStat {
         mode: metadata.mode(),
-        mtime: seconds(metadata.mtime()),
-        ctime: seconds(metadata.ctime()),
+        mtime: wrap_seconds_to_32_bits(metadata.mtime()),
+        ctime: wrap_seconds_to_32_bits(metadata.ctime()),
         uid: metadata.uid(),
         gid: metadata.gid(),
         ino: metadata.ino(),
@@ -79,7 +79,7 @@ fn stat_of(metadata: &Metadata) -> NodeStat
 }
 
 /// Whether the system says that the path leads nowhere.
-fn is_absent(error: &io::Error) -> bool {
+fn is_path_absence_error(error: &io::Error) -> bool {
     error.kind() == ErrorKind::NotFound || error.kind() == ErrorKind::NotADirectory
 }
 
@@ -89,14 +89,14 @@ fn lstat_path(rt: &HostRuntime, path: &[u8]) -> Result<Option<NodeStat>, ReadErr
         return Err(ReadError::Fault);
     };
     match rt.symlink_metadata(text) {
-        Ok(metadata) => Ok(Some(stat_of(&metadata))),
-        Err(error) if is_absent(&error) => Ok(None),
+        Ok(metadata) => Ok(Some(node_stat_of_metadata(&metadata))),
+        Err(error) if is_path_absence_error(&error) => Ok(None),
         Err(_) => Err(ReadError::Fault),
     }
 }
 
 /// Whether the program's own allocator refused, and not the system.
-fn is_own_want(error: &io::Error) -> bool {
+fn is_allocator_out_of_memory(error: &io::Error) -> bool {
     error.kind() == ErrorKind::OutOfMemory && error.raw_os_error().is_none()
 }
 
@@ -111,8 +111,8 @@ fn read_link_target(
     };
     match rt.read_link(alloc, text) {
         Ok(target) => Ok(Some(Bytes::from_slice(alloc, target.as_str().as_bytes())?)),
-        Err(error) if is_absent(&error) => Ok(None),
-        Err(error) if is_own_want(&error) => Err(ReadError::OutOfMemory),
+        Err(error) if is_path_absence_error(&error) => Ok(None),
+        Err(error) if is_allocator_out_of_memory(&error) => Err(ReadError::OutOfMemory),
         Err(_) => Err(ReadError::Fault),
     }
 }

@@ -71,27 +71,27 @@ impl MemoryStats {
     }
 
     /// The first node at a path.
-    fn node_at(&self, path: &[u8]) -> Option<&StatNode>
-        ensures { option_copied result ≡ words.node_at self.now path.now }
+    fn first_node_at_path(&self, path: &[u8]) -> Option<&StatNode>
+        ensures { option_copied result ≡ words.first_node_at_path self.now path.now }
     {
         self.nodes.iter().find(|node| node.path.as_bytes() == path)
     }
 }
 
 impl Stats for MemoryStats {
-    ghost told = { λ stats. Some (words.told_in stats) };
+    ghost told = { λ stats. Some (words.stats_of_nodes stats) };
 
     ghost faults = { λ _. 0 };
 
     fn stat(&mut self, path: &[u8]) -> Result<Option<NodeStat>, ReadError> {
-        match self.node_at(path) {
+        match self.first_node_at_path(path) {
             Some(node) => Ok(Some(node.stat())),
             None => Ok(None),
         }
     }
 
     fn target(&mut self, alloc: Global, path: &[u8]) -> Result<Option<Bytes>, ReadError> {
-        match self.node_at(path) {
+        match self.first_node_at_path(path) {
             Some(node) => Ok(node.target(alloc)?),
             None => Ok(None),
         }

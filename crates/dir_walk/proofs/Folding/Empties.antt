@@ -6,11 +6,11 @@ use Rattle.dir_classify.specs.declared.classify.Outcome.{Outcome as Class}
 use Rattle.dir_classify.specs.declared.entry.Entry.{Entry}
 use Rattle.dir_classify.specs.declared.entry.Status.{Status}
 use Rattle.dir_classify.specs.declared.entry.Status.TheVariants.{Ignored, Untracked}
-use Rattle.dir_classify.specs.Chosen.{Chosen, collapses, collapses_if}
-use Rattle.dir_classify.specs.Evidence.{Evidence}
-use Rattle.dir_walk.specs.Emits.{folded_of}
-use Rattle.dir_walk.specs.Fold.{fold, fold_status, folded, folds_untracked, folds_expendable, folds_precious, are_all_untracked_or_ignored, is_foldable, may_delete_all, tally}
-use Rattle.dir_walk.specs.Walked.{holding}
+use Rattle.dir_classify.specs.Chosen.{WalkOptions, is_collapsing_mode, collapses_directories_if_some}
+use Rattle.dir_classify.specs.Evidence.{PathEvidence}
+use Rattle.dir_walk.specs.Emits.{folded_entry_unless_blocked}
+use Rattle.dir_walk.specs.Fold.{fold, status_of_folded_directory, entry_of_folded_directory, may_fold_as_untracked, may_fold_as_expendable, may_fold_as_precious, all_counted_untracked_or_ignored, is_foldable_by_contents, may_delete_all_at_once, tally_held_entries}
+use Rattle.dir_walk.specs.Walked.{walk_result_holding_entries}
 
 and-three : (a b : Bool) → (a && false && b) ≡ false
 and-three true b = refl
@@ -24,22 +24,22 @@ no-status : (u e p : Bool) → u ≡ false → e ≡ false → p ≡ false → (
 no-status u e p hu he hp = rw (hu, he, hp) refl
 
 -- there is no status for nothing
-status-empty : (o : Chosen) → fold_status o (tally []) ≡ None
+status-empty : (o : WalkOptions) → status_of_folded_directory o (tally_held_entries []) ≡ None
 status-empty o =
-    no-status (folds_untracked o (tally [])) (folds_expendable o (tally [])) (folds_precious o (tally []))
-    (and-four (collapses o.emit_untracked) (are_all_untracked_or_ignored (tally [])) (may_delete_all o (tally [])))
-    (and-three (collapses_if o.emit_ignored) ((tally []).expendable == (tally []).all))
-    (and-three (collapses_if o.emit_ignored) ((tally []).precious == (tally []).all))
+    no-status (may_fold_as_untracked o (tally_held_entries [])) (may_fold_as_expendable o (tally_held_entries [])) (may_fold_as_precious o (tally_held_entries []))
+    (and-four (is_collapsing_mode o.emit_untracked) (all_counted_untracked_or_ignored (tally_held_entries [])) (may_delete_all_at_once o (tally_held_entries [])))
+    (and-three (collapses_directories_if_some o.emit_ignored) ((tally_held_entries []).expendable == (tally_held_entries []).all))
+    (and-three (collapses_directories_if_some o.emit_ignored) ((tally_held_entries []).precious == (tally_held_entries []).all))
 
-no-fold : (o : Chosen) (d : List ℕ) (c : Class) (foldable : Bool) (s : Option Status) → s ≡ None → (if foldable then option_map (folded o d c (tally [])) s else None) ≡ None
+no-fold : (o : WalkOptions) (d : List ℕ) (c : Class) (foldable : Bool) (s : Option Status) → s ≡ None → (if foldable then option_map (entry_of_folded_directory o d c (tally_held_entries [])) s else None) ≡ None
 no-fold o d c true s e = rw e refl
 no-fold o d c false s e = refl
 
-fold-empty : (o : Chosen) (ev : Evidence) (d : List ℕ) (c : Class) → fold o ev d c (tally []) ≡ None
+fold-empty : (o : WalkOptions) (ev : PathEvidence) (d : List ℕ) (c : Class) → fold o ev d c (tally_held_entries []) ≡ None
 unfolding fold
-fold-empty o ev d c = no-fold o d c (is_foldable ev d (tally [])) (fold_status o (tally [])) (status-empty o)
+fold-empty o ev d c = no-fold o d c (is_foldable_by_contents ev d (tally_held_entries [])) (status_of_folded_directory o (tally_held_entries [])) (status-empty o)
 
-pub folded-empty : (o : Chosen) (ev : Evidence) (d : List ℕ) (c : Class) (items : List Entry) (blocked : Bool) → length items ≡ 0 → folded_of o ev d c (holding items blocked) ≡ None
+pub folded-empty : (o : WalkOptions) (ev : PathEvidence) (d : List ℕ) (c : Class) (items : List Entry) (blocked : Bool) → length items ≡ 0 → folded_entry_unless_blocked o ev d c (walk_result_holding_entries items blocked) ≡ None
 folded-empty o ev d c [] true e = refl
 folded-empty o ev d c [] false e = fold-empty o ev d c
 folded-empty o ev d c (x ∷ items) blocked e = absurd (cc e)

@@ -2,29 +2,29 @@
 use Rattle.std.proofs.Common.{◌≡◌, inl, inr, ◌≤◌, ℕ, List, true, Option, Some, Ok, Err, refl, ◌∙◌, arith}
 use Rattle.gitbase_core.specs.declared.find.Find.{Ghosts as FindOf}
 use Rattle.worktree_fs.specs.declared.worktree.Worktree.{Ghosts as WorktreeOf}
-use Rattle.worktree_fs.specs.Causes.{NotIncreased}
-use Rattle.worktree_fs.specs.Kept.{Asks}
-use Rattle.worktree_fs.specs.Naming.{IsTree}
-use Rattle.worktree_fs.specs.Paths.{full_path}
+use Rattle.worktree_fs.specs.Causes.{CountNotIncreased}
+use Rattle.worktree_fs.specs.Kept.{KeepsTreeAndListCounts}
+use Rattle.worktree_fs.specs.Naming.{IsValidTree}
+use Rattle.worktree_fs.specs.Paths.{root_joined_with_relative}
 use Rattle.worktree_fs.specs.Tree.{Names, directory}
-use Rattle.worktree_stack.specs.Reading.{Sources}
-use Rattle.worktree_stack.specs.Stacked.{Stacked}
+use Rattle.worktree_stack.specs.Reading.{TreeAndObjects}
+use Rattle.worktree_stack.specs.Stacked.{StackModel}
 use Rattle.dir_classify.specs.declared.error.Error.{Error}
-use Rattle.dir_classify.specs.Excludes.{made_with}
-use Rattle.dir_classify.specs.Layers.{Setting}
+use Rattle.dir_classify.specs.Excludes.{setup_of_optional_stack}
+use Rattle.dir_classify.specs.Layers.{WalkSetting}
 use Rattle.dir_walk.specs.declared.delegate.Delegate.{Ghosts as DelegateOf}
 use Rattle.dir_walk.specs.declared.handed.Stop.TheVariants.{Refused, Broken}
 use Rattle.dir_walk.specs.declared.outcome.Outcome.{Outcome}
-use Rattle.dir_walk.specs.Emits.{IsPartOfAll}
-use Rattle.dir_walk.specs.Kept.{HeedsDelegateBreak, KeepsDelegate}
-use Rattle.dir_walk.specs.Puts.{AddsShown, PutsFrom}
-use Rattle.dir_walk.specs.Report.{counts, out_of}
-use Rattle.dir_walk.specs.Root.{Walk, rooted, traversal_root, walk_in, walked_at}
-use Rattle.dir_walk.specs.Rooting.{IsNormalized}
-use Rattle.dir_walk.specs.Starts.{StartGives}
-use Rattle.dir_walk.specs.Walked.{Walked}
-use Rattle.dir_walk.specs.WalkRefused.{OnNoStart}
-use Rattle.dir_walk.specs.Walks.{Feeds, Tells}
+use Rattle.dir_walk.specs.Emits.{AddsPartOfWalkedAndHandedUp}
+use Rattle.dir_walk.specs.Kept.{HeedsDelegateBreak, KeepsDelegateRunning}
+use Rattle.dir_walk.specs.Puts.{AddsNoHiddenEmission, AddsEmissionsFromRoot}
+use Rattle.dir_walk.specs.Report.{counts, emissions_with_handed_up}
+use Rattle.dir_walk.specs.Root.{Walk, rooted, find_traversal_root, walk_over_sources, walk_result_from_traversal_root}
+use Rattle.dir_walk.specs.Rooting.{IsNormalizedRoot}
+use Rattle.dir_walk.specs.Starts.{GivesWalkFromRoot}
+use Rattle.dir_walk.specs.Walked.{WalkResult}
+use Rattle.dir_walk.specs.WalkRefused.{HoldsIfNothingStarted}
+use Rattle.dir_walk.specs.Walks.{FeedsDelegateWithReport, Tells}
 use Rattle.dir_walk.proofs.Order.Counts.{count_all}
 use Rattle.dir_walk.proofs.Gives.Emitting.{AddsWithin-none}
 use Rattle.dir_walk.proofs.Opens.Keeping.{KeepsDelegate-same}
@@ -33,8 +33,8 @@ use Rattle.dir_walk.proofs.Roots.Unstarted.{on-no-start}
 use Rattle.dir_walk.proofs.Walked.Wholly.{part-gives, part-walk, walk-gives}
 
 -- nothing
-pub feeds-nothing : {W F D : Type 0} (w : WorktreeOf W) (f : FindOf F) (d : DelegateOf D) {w0 w1 : W} {o0 : F} {old : Option Stacked} {d0 : D} (given : Setting) (explicit : Option (List ℕ)) (limit : ℕ) (e : Error)
-    → Feeds w f d w0 w1 o0 old d0 d0 given explicit limit (Err e)
+pub feeds-nothing : {W F D : Type 0} (w : WorktreeOf W) (f : FindOf F) (d : DelegateOf D) {w0 w1 : W} {o0 : F} {old : Option StackModel} {d0 : D} (given : WalkSetting) (explicit : Option (List ℕ)) (limit : ℕ) (e : Error)
+    → FeedsDelegateWithReport w f d w0 w1 o0 old d0 d0 given explicit limit (Err e)
 feeds-nothing w f d {d0 = d0} given explicit limit e =
     record {
       gives = λ s tells by quiet unbroken. tt;
@@ -50,24 +50,24 @@ feeds-nothing w f d {d0 = d0} given explicit limit e =
       seen = tt;
     }
 
-module _ {W F D : Type 0} (w : WorktreeOf W) (f : FindOf F) (d : DelegateOf D) (w0 w1 w2 : W) (o0 : F) (old : Option Stacked) (d0 d2 : D) (given : Setting) (explicit : Option (List ℕ)) (limit : ℕ) (root : List ℕ) (start stop : Outcome)
-    (keeps : Asks w w0 w1) (more : w.faults w1 ≤ w.faults w2) (normalized_is : IsNormalized given explicit root)
-    (rooted_is : (t : Names) → w.told w0 ≡ Some t → NotIncreased (w.faults w0) (w.faults w1) → traversal_root given t explicit ≡ rooted root)
-    (delegate : KeepsDelegate d d0 d2) (puts : PutsFrom root (d.given d0) (d.given d2) start stop) (filtered : AddsShown given.options (d.given d0) (d.given d2)) where
-  later : {s : Sources} → Tells w f w0 o0 old s → Tells w f w1 o0 old s
+module _ {W F D : Type 0} (w : WorktreeOf W) (f : FindOf F) (d : DelegateOf D) (w0 w1 w2 : W) (o0 : F) (old : Option StackModel) (d0 d2 : D) (given : WalkSetting) (explicit : Option (List ℕ)) (limit : ℕ) (root : List ℕ) (start stop : Outcome)
+    (keeps : KeepsTreeAndListCounts w w0 w1) (more : w.faults w1 ≤ w.faults w2) (normalized_is : IsNormalizedRoot given explicit root)
+    (rooted_is : (t : Names) → w.told w0 ≡ Some t → CountNotIncreased (w.faults w0) (w.faults w1) → find_traversal_root given t explicit ≡ rooted root)
+    (delegate : KeepsDelegateRunning d d0 d2) (puts : AddsEmissionsFromRoot root (d.given d0) (d.given d2) start stop) (filtered : AddsNoHiddenEmission given.options (d.given d0) (d.given d2)) where
+  later : {s : TreeAndObjects} → Tells w f w0 o0 old s → Tells w f w1 o0 old s
   later tells = record { tells = record { tree_is = keeps.tree ∙ tells.tells.tree_is; objects_are = tells.tells.objects_are }; in_step = tells.in_step }
 
   -- what is walked from the traversal root on, over the worktree as it was then
   abbrev Partly : Type 0
-  Partly = (s : Sources) → Tells w f w1 o0 old s → d.is_default d0 ≡ true → NotIncreased (w.faults w1) (w.faults w2) → (v : Walked) → walked_at given (made_with old) s root ≡ Some v → IsPartOfAll given.options v (d.given d0) (d.given d2) start stop
+  Partly = (s : TreeAndObjects) → Tells w f w1 o0 old s → d.is_default d0 ≡ true → CountNotIncreased (w.faults w1) (w.faults w2) → (v : WalkResult) → walk_result_from_traversal_root given (setup_of_optional_stack old) s root ≡ Some v → AddsPartOfWalkedAndHandedUp given.options v (d.given d0) (d.given d2) start stop
 
-  part-of : Partly → (s : Sources) → Tells w f w0 o0 old s → d.is_default d0 ≡ true → NotIncreased (w.faults w0) (w.faults w2)
-      → (walk : Walk) → walk_in given (made_with old) s explicit ≡ Some walk → IsPartOfAll given.options walk.gives (d.given d0) (d.given d2) start stop
+  part-of : Partly → (s : TreeAndObjects) → Tells w f w0 o0 old s → d.is_default d0 ≡ true → CountNotIncreased (w.faults w0) (w.faults w2)
+      → (walk : Walk) → walk_over_sources given (setup_of_optional_stack old) s explicit ≡ Some walk → AddsPartOfWalkedAndHandedUp given.options walk.gives (d.given d0) (d.given d2) start stop
   part-of part s tells by quiet walk is =
-      part-walk given (made_with old) s explicit limit root (rooted_is s.tree tells.tells.tree_is (omega (arith, quiet, more))) (d.given d0) (d.given d2) start stop walk is
+      part-walk given (setup_of_optional_stack old) s explicit limit root (rooted_is s.tree tells.tells.tree_is (omega (arith, quiet, more))) (d.given d0) (d.given d2) start stop walk is
       (part s (later tells) by (let k = keeps.faults in omega (arith, quiet, k)))
 
-  pub feeds-refused : (e : Error) → HeedsDelegateBreak {T = Unit {0}} d d0 d2 (Err (Refused e)) → Partly → OnNoStart (d.given d2 ≡ d.given d0) e → Feeds w f d w0 w2 o0 old d0 d2 given explicit limit (Err e)
+  pub feeds-refused : (e : Error) → HeedsDelegateBreak {T = Unit {0}} d d0 d2 (Err (Refused e)) → Partly → HoldsIfNothingStarted (d.given d2 ≡ d.given d0) e → FeedsDelegateWithReport w f d w0 w2 o0 old d0 d2 given explicit limit (Err e)
   feeds-refused e heeds part unfed =
       record {
         unfed = unfed;
@@ -83,16 +83,16 @@ module _ {W F D : Type 0} (w : WorktreeOf W) (f : FindOf F) (d : DelegateOf D) (
         seen = tt;
       }
 
-  module _ (read0 : start.read_dir_calls ≡ 0) (returned0 : start.returned_entries ≡ 0) (seen0 : start.seen_entries ≡ 0) (full : List ℕ) (full_is : full ≡ full_path given.root root) where
+  module _ (read0 : start.read_dir_calls ≡ 0) (returned0 : start.returned_entries ≡ 0) (seen0 : start.seen_entries ≡ 0) (full : List ℕ) (full_is : full ≡ root_joined_with_relative given.root root) where
     -- no more are counted than the walk has
-    counted : (walk : Walk) → IsPartOfAll given.options walk.gives (d.given d0) (d.given d2) start stop → stop.seen_entries ≤ (counts given.options walk.gives).seen_entries
-    counted walk part = omega (arith, part.seen (omega (arith, seen0)), seen0, count_all (out_of walk.gives))
+    counted : (walk : Walk) → AddsPartOfWalkedAndHandedUp given.options walk.gives (d.given d0) (d.given d2) start stop → stop.seen_entries ≤ (counts given.options walk.gives).seen_entries
+    counted walk part = omega (arith, part.seen (omega (arith, seen0)), seen0, count_all (emissions_with_handed_up walk.gives))
 
     -- all is a part of all
-    all : ((s : Sources) → Tells w f w1 o0 old s → NotIncreased (w.faults w1) (w.faults w2) → d.is_default d0 ≡ true → StartGives given (made_with old) s root limit (d.given d0) (d.given d2) start stop) → Partly
-    all gives = λ s tells by quiet v is. part-gives given (made_with old) s limit root (d.given d0) (d.given d2) start stop (gives s tells quiet by) v is
+    all : ((s : TreeAndObjects) → Tells w f w1 o0 old s → CountNotIncreased (w.faults w1) (w.faults w2) → d.is_default d0 ≡ true → GivesWalkFromRoot given (setup_of_optional_stack old) s root limit (d.given d0) (d.given d2) start stop) → Partly
+    all gives = λ s tells by quiet v is. part-gives given (setup_of_optional_stack old) s limit root (d.given d0) (d.given d2) start stop (gives s tells quiet by) v is
 
-    pub feeds-broken : HeedsDelegateBreak {T = Unit {0}} d d0 d2 (Err Broken) → Partly → Feeds w f d w0 w2 o0 old d0 d2 given explicit limit (Ok (stop, full))
+    pub feeds-broken : HeedsDelegateBreak {T = Unit {0}} d d0 d2 (Err Broken) → Partly → FeedsDelegateWithReport w f d w0 w2 o0 old d0 d2 given explicit limit (Ok (stop, full))
     feeds-broken heeds part =
         record {
           unfed = tt;
@@ -108,15 +108,15 @@ module _ {W F D : Type 0} (w : WorktreeOf W) (f : FindOf F) (d : DelegateOf D) (
           seen = seen-since puts returned0 seen0;
         }
 
-    pub feeds-done : d.breaks d2 ≡ d.breaks d0 → ((s : Sources) → w.told w0 ≡ Some s.tree → IsTree (directory s.tree))
-        → ((s : Sources) → Tells w f w1 o0 old s → NotIncreased (w.faults w1) (w.faults w2) → d.is_default d0 ≡ true → StartGives given (made_with old) s root limit (d.given d0) (d.given d2) start stop)
-        → Feeds w f d w0 w2 o0 old d0 d2 given explicit limit (Ok (stop, full))
+    pub feeds-done : d.breaks d2 ≡ d.breaks d0 → ((s : TreeAndObjects) → w.told w0 ≡ Some s.tree → IsValidTree (directory s.tree))
+        → ((s : TreeAndObjects) → Tells w f w1 o0 old s → CountNotIncreased (w.faults w1) (w.faults w2) → d.is_default d0 ≡ true → GivesWalkFromRoot given (setup_of_optional_stack old) s root limit (d.given d0) (d.given d2) start stop)
+        → FeedsDelegateWithReport w f d w0 w2 o0 old d0 d2 given explicit limit (Ok (stop, full))
     feeds-done kept tree gives =
         record {
           unfed = tt;
           filtered = filtered;
           gives = λ s tells by quiet unbroken.
-              walk-gives given (made_with old) s explicit limit root (rooted_is s.tree tells.tells.tree_is (omega (arith, quiet, more))) (d.given d0) (d.given d2) start stop
+              walk-gives given (setup_of_optional_stack old) s explicit limit root (rooted_is s.tree tells.tells.tree_is (omega (arith, quiet, more))) (d.given d0) (d.given d2) start stop
               (gives s (later tells) (let k = keeps.faults in omega (arith, quiet, k)) by)
               (tree s tells.tells.tree_is) delegate.given read0 returned0 seen0 full full_is;
           part = λ s tells by quiet walk is. (part-of (all gives) s tells by quiet walk is).adds;

@@ -15,7 +15,7 @@ use Rattle.dir_classify.specs.declared.entry.Kind.{Kind}
 use Rattle.dir_classify.specs.declared.entry.Kind.TheVariants.{Untrackable, File, Symlink, Directory, Repository}
 use Rattle.dir_classify.specs.declared.entry.PathspecMatch.{PathspecMatch}
 use Rattle.dir_classify.specs.declared.entry.PathspecMatch.TheVariants.{Always, Excluded, Prefix, WildcardMatch, Verbatim}
-use Rattle.dir_walk.specs.Emissions.{Emission, emission_of}
+use Rattle.dir_walk.specs.Emissions.{Emission, emission_with_fold_status}
 
 -- ---- each part as a number, and back
 
@@ -192,8 +192,8 @@ read some (a ∷ b ∷ c ∷ d ∷ e ∷ f ∷ g ∷ h ∷ i ∷ path) = made a 
 read some text = some
 
 entry_of : (path : List ℕ) (s t : Status) (p q : Option Property) (k l i j : Option Kind) (m n : Option PathspecMatch) (x y : Option Origin) (u v : Option Status) → s ≡ t → p ≡ q → k ≡ l → i ≡ j → m ≡ n → x ≡ y → u ≡ v
-    → emission_of (record { rela_path = path; status = s; property = p; disk_kind = k; index_kind = i; pathspec_match = m; origin = x }) u
-    ≡ emission_of (record { rela_path = path; status = t; property = q; disk_kind = l; index_kind = j; pathspec_match = n; origin = y }) v
+    → emission_with_fold_status (record { rela_path = path; status = s; property = p; disk_kind = k; index_kind = i; pathspec_match = m; origin = x }) u
+    ≡ emission_with_fold_status (record { rela_path = path; status = t; property = q; disk_kind = l; index_kind = j; pathspec_match = n; origin = y }) v
 entry_of path s t p q k l i j m n x y u v e f g h o r w = cc
 
 read-spelled : (some x : Emission) → read some (spelled x) ≡ x

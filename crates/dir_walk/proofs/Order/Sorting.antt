@@ -11,13 +11,13 @@ use Rattle.std.proofs.lemmas.Cmp.{nat_list_eq_equiv, nat_list_cmp_total}
 use Rattle.std.proofs.lemmas.Bool.{true≢false}
 use Rattle.std.proofs.lemmas.Map.Text.{is_eq-slice_cmp}
 use Rattle.std.proofs.lemmas.List.Sorted.{sorted_far, ranks_by}
-use Rattle.dir_walk.specs.Emissions.{Emission, path_of, is_before, insert_emission, by_path}
-use Rattle.dir_walk.specs.Distinct.{HasDistinctPaths, IsAscending}
+use Rattle.dir_walk.specs.Emissions.{Emission, path_of_emission, is_before_by_path, insert_emission_by_path, sort_emissions_by_path}
+use Rattle.dir_walk.specs.Distinct.{HasDistinctPaths, IsAscendingByPath}
 use Rattle.dir_walk.proofs.Order.Counts.{count_by-cons, count_by-yes, count_by-no}
 use Rattle.dir_walk.proofs.Order.Same.{same_emission, emission_is, emission_same}
 
-pub by_paths : IsStrictWeakOrder is_before
-by_paths = ranks_by nat_list_cmp_total path_of
+pub by_paths : IsStrictWeakOrder is_before_by_path
+by_paths = ranks_by nat_list_cmp_total path_of_emission
 
 -- ---- from the sort of std
 
@@ -25,57 +25,57 @@ all_after : (P : Emission → Type 0) (xs : List Emission) (d : Emission) → ((
 all_after P [] d h = tt
 all_after P (y ∷ ys) d h = (h 0 (omega arith), all_after P ys d (λ k p. h (suc k) (omega arith)))
 
-IsAscending-from_far : (xs : List Emission) → ((i j : ℕ) (d : Emission) → i ≤ j → j < length xs → is_before (get_or xs j d) (get_or xs i d) ≡ false) → IsAscending xs
+IsAscending-from_far : (xs : List Emission) → ((i j : ℕ) (d : Emission) → i ≤ j → j < length xs → is_before_by_path (get_or xs j d) (get_or xs i d) ≡ false) → IsAscendingByPath xs
 IsAscending-from_far [] h = tt
-IsAscending-from_far (x ∷ xs) h = (all_after (λ y. is_before y x ≡ false) xs x (λ k p. h 0 (suc k) x (omega arith) (omega arith)), IsAscending-from_far xs (λ i j d p q. h (suc i) (suc j) d (omega arith) (omega arith)))
+IsAscending-from_far (x ∷ xs) h = (all_after (λ y. is_before_by_path y x ≡ false) xs x (λ k p. h 0 (suc k) x (omega arith) (omega arith)), IsAscending-from_far xs (λ i j d p q. h (suc i) (suc j) d (omega arith) (omega arith)))
 
-pub IsAscending-from_sort : (xs : List Emission) → IsSortedBy is_before xs → IsAscending xs
-IsAscending-from_sort xs up = IsAscending-from_far xs (sorted_far is_before by_paths xs up)
+pub IsAscending-from_sort : (xs : List Emission) → IsSortedBy is_before_by_path xs → IsAscendingByPath xs
+IsAscending-from_sort xs up = IsAscending-from_far xs (sorted_far is_before_by_path by_paths xs up)
 
 -- ---- by_path
 
-all_insert : (P : Emission → Type 0) (e : Emission) (xs : List Emission) → P e → AllByRecursion P xs → AllByRecursion P (insert_emission e xs)
+all_insert : (P : Emission → Type 0) (e : Emission) (xs : List Emission) → P e → AllByRecursion P xs → AllByRecursion P (insert_emission_by_path e xs)
 all_insert P e [] pe h = (pe, tt)
-all_insert P e (x ∷ xs) pe h = go (is_before x e) (all_insert P e xs pe h.1)
+all_insert P e (x ∷ xs) pe h = go (is_before_by_path x e) (all_insert P e xs pe h.1)
   where
-    go : (b : Bool) → AllByRecursion P (insert_emission e xs) → AllByRecursion P (cond b (x ∷ insert_emission e xs) (e ∷ x ∷ xs))
+    go : (b : Bool) → AllByRecursion P (insert_emission_by_path e xs) → AllByRecursion P (cond b (x ∷ insert_emission_by_path e xs) (e ∷ x ∷ xs))
     go true ih = (h.0, ih)
     go false ih = (pe, h)
 
-pub all-by_path : (P : Emission → Type 0) (xs : List Emission) → AllByRecursion P xs → AllByRecursion P (by_path xs)
-unfolding by_path
+pub all-by_path : (P : Emission → Type 0) (xs : List Emission) → AllByRecursion P xs → AllByRecursion P (sort_emissions_by_path xs)
+unfolding sort_emissions_by_path
 all-by_path P [] h = tt
-all-by_path P (x ∷ xs) h = all_insert P x (by_path xs) h.0 (all-by_path P xs h.1)
+all-by_path P (x ∷ xs) h = all_insert P x (sort_emissions_by_path xs) h.0 (all-by_path P xs h.1)
 
-all_chain : (x e : Emission) (xs : List Emission) → is_before x e ≡ false → AllByRecursion (λ y. is_before y x ≡ false) xs → AllByRecursion (λ y. is_before y e ≡ false) xs
+all_chain : (x e : Emission) (xs : List Emission) → is_before_by_path x e ≡ false → AllByRecursion (λ y. is_before_by_path y x ≡ false) xs → AllByRecursion (λ y. is_before_by_path y e ≡ false) xs
 all_chain x e [] h all = tt
 all_chain x e (y ∷ ys) h all = (by_paths.chain y x e all.0 h, all_chain x e ys h all.1)
 
-IsAscending-insert : (e : Emission) (xs : List Emission) → IsAscending xs → IsAscending (insert_emission e xs)
+IsAscending-insert : (e : Emission) (xs : List Emission) → IsAscendingByPath xs → IsAscendingByPath (insert_emission_by_path e xs)
 IsAscending-insert e [] up = (tt, tt)
-IsAscending-insert e (x ∷ xs) up = go (is_before x e) refl (IsAscending-insert e xs up.1)
+IsAscending-insert e (x ∷ xs) up = go (is_before_by_path x e) refl (IsAscending-insert e xs up.1)
   where
-    go : (b : Bool) → is_before x e ≡ b → IsAscending (insert_emission e xs) → IsAscending (cond b (x ∷ insert_emission e xs) (e ∷ x ∷ xs))
-    go true is ih = (all_insert (λ y. is_before y x ≡ false) e xs (by_paths.one_way x e is) up.0, ih)
+    go : (b : Bool) → is_before_by_path x e ≡ b → IsAscendingByPath (insert_emission_by_path e xs) → IsAscendingByPath (cond b (x ∷ insert_emission_by_path e xs) (e ∷ x ∷ xs))
+    go true is ih = (all_insert (λ y. is_before_by_path y x ≡ false) e xs (by_paths.one_way x e is) up.0, ih)
     go false is ih = ((is, all_chain x e xs is up.0), up)
 
-pub IsAscending-by_path : (xs : List Emission) → IsAscending (by_path xs)
-unfolding by_path
+pub IsAscending-by_path : (xs : List Emission) → IsAscendingByPath (sort_emissions_by_path xs)
+unfolding sort_emissions_by_path
 IsAscending-by_path [] = tt
-IsAscending-by_path (x ∷ xs) = IsAscending-insert x (by_path xs) (IsAscending-by_path xs)
+IsAscending-by_path (x ∷ xs) = IsAscending-insert x (sort_emissions_by_path xs) (IsAscending-by_path xs)
 
-count_by-insert : (p : Emission → Bool) (e : Emission) (xs : List Emission) → count_by p (insert_emission e xs) ≡ cond (p e) 1 0 + count_by p xs
+count_by-insert : (p : Emission → Bool) (e : Emission) (xs : List Emission) → count_by p (insert_emission_by_path e xs) ≡ cond (p e) 1 0 + count_by p xs
 count_by-insert p e [] = count_by-cons p e []
-count_by-insert p e (x ∷ xs) = go (is_before x e) (count_by-insert p e xs)
+count_by-insert p e (x ∷ xs) = go (is_before_by_path x e) (count_by-insert p e xs)
   where
-    go : (b : Bool) → count_by p (insert_emission e xs) ≡ cond (p e) 1 0 + count_by p xs → count_by p (cond b (x ∷ insert_emission e xs) (e ∷ x ∷ xs)) ≡ cond (p e) 1 0 + count_by p (x ∷ xs)
-    go true ih = omega (arith, ih, count_by-cons p x (insert_emission e xs), count_by-cons p x xs)
+    go : (b : Bool) → count_by p (insert_emission_by_path e xs) ≡ cond (p e) 1 0 + count_by p xs → count_by p (cond b (x ∷ insert_emission_by_path e xs) (e ∷ x ∷ xs)) ≡ cond (p e) 1 0 + count_by p (x ∷ xs)
+    go true ih = omega (arith, ih, count_by-cons p x (insert_emission_by_path e xs), count_by-cons p x xs)
     go false ih = count_by-cons p e (x ∷ xs)
 
-pub count_by-by_path : (p : Emission → Bool) (xs : List Emission) → count_by p (by_path xs) ≡ count_by p xs
-unfolding by_path
+pub count_by-by_path : (p : Emission → Bool) (xs : List Emission) → count_by p (sort_emissions_by_path xs) ≡ count_by p xs
+unfolding sort_emissions_by_path
 count_by-by_path p [] = refl
-count_by-by_path p (x ∷ xs) = omega (arith, count_by-insert p x (by_path xs), count_by-by_path p xs, count_by-cons p x xs)
+count_by-by_path p (x ∷ xs) = omega (arith, count_by-insert p x (sort_emissions_by_path xs), count_by-by_path p xs, count_by-cons p x xs)
 
 -- ---- one order
 
@@ -109,13 +109,13 @@ abbrev pub SameCounts : List Emission → List Emission → Type 0
 SameCounts xs ys = (p : Emission → Bool) → count_by p xs ≡ count_by p ys
 
 -- where the heads differ, one head stands among the others of the other list
-not_before : (x y : Emission) (xs ys : List Emission) → same_emission x y ≡ false → SameCounts (x ∷ xs) (y ∷ ys) → AllByRecursion (λ z. is_before z y ≡ false) ys → (0 < count_by (same_emission x) ys) × (is_before x y ≡ false)
+not_before : (x y : Emission) (xs ys : List Emission) → same_emission x y ≡ false → SameCounts (x ∷ xs) (y ∷ ys) → AllByRecursion (λ z. is_before_by_path z y ≡ false) ys → (0 < count_by (same_emission x) ys) × (is_before_by_path x y ≡ false)
 not_before x y xs ys differ same all =
     let some : 0 < count_by (same_emission x) ys = omega (arith, same (same_emission x), count_by-no (same_emission x) y ys differ, count_by-yes (same_emission x) x xs (emission_same x)) in
-    let found = some_passes (same_emission x) (λ z. is_before z y ≡ false) ys some all in
-    (some, subst (λ (z : Emission). is_before z y ≡ false) (sym (emission_is x found.0 found.1)) found.2)
+    let found = some_passes (same_emission x) (λ z. is_before_by_path z y ≡ false) ys some all in
+    (some, subst (λ (z : Emission). is_before_by_path z y ≡ false) (sym (emission_is x found.0 found.1)) found.2)
 
-heads : (x y : Emission) (xs ys : List Emission) → IsAscending (x ∷ xs) → IsAscending (y ∷ ys) → SameCounts (x ∷ xs) (y ∷ ys) → HasDistinctPaths (x ∷ xs) → x ≡ y
+heads : (x y : Emission) (xs ys : List Emission) → IsAscendingByPath (x ∷ xs) → IsAscendingByPath (y ∷ ys) → SameCounts (x ∷ xs) (y ∷ ys) → HasDistinctPaths (x ∷ xs) → x ≡ y
 heads x y xs ys up up' same distinct = go (same_emission x y) refl
   where
     back : same_emission x y ≡ false → (b : Bool) → same_emission y x ≡ b → same_emission y x ≡ false
@@ -127,12 +127,12 @@ heads x y xs ys up up' same distinct = go (same_emission x y) refl
     go false is =
         let a = not_before x y xs ys is same up'.0 in
         let b = not_before y x ys xs (back is (same_emission y x) refl) (λ p. sym (same p)) up.0 in
-        let path : bytes_eq (path_of x) (path_of y) ≡ true = tie (path_of y) (path_of x) b.1 a.1 in
-        let more : count_by (same_emission y) xs ≤ count_by (λ e. bytes_eq (path_of x) (path_of e)) xs =
-        count_by-le (same_emission y) (λ e. bytes_eq (path_of x) (path_of e)) xs (λ e h. subst (λ (z : Emission). bytes_eq (path_of x) (path_of z) ≡ true) (emission_is y e h) path) in
-        absurd (omega (arith, distinct.once (path_of x), b.0, more, count_by-yes (λ e. bytes_eq (path_of x) (path_of e)) x xs (nat_list_eq_equiv.refl (path_of x))))
+        let path : bytes_eq (path_of_emission x) (path_of_emission y) ≡ true = tie (path_of_emission y) (path_of_emission x) b.1 a.1 in
+        let more : count_by (same_emission y) xs ≤ count_by (λ e. bytes_eq (path_of_emission x) (path_of_emission e)) xs =
+        count_by-le (same_emission y) (λ e. bytes_eq (path_of_emission x) (path_of_emission e)) xs (λ e h. subst (λ (z : Emission). bytes_eq (path_of_emission x) (path_of_emission z) ≡ true) (emission_is y e h) path) in
+        absurd (omega (arith, distinct.once (path_of_emission x), b.0, more, count_by-yes (λ e. bytes_eq (path_of_emission x) (path_of_emission e)) x xs (nat_list_eq_equiv.refl (path_of_emission x))))
 
-unique : (xs ys : List Emission) → IsAscending xs → IsAscending ys → SameCounts xs ys → HasDistinctPaths xs → xs ≡ ys
+unique : (xs ys : List Emission) → IsAscendingByPath xs → IsAscendingByPath ys → SameCounts xs ys → HasDistinctPaths xs → xs ≡ ys
 unique [] [] up up' same distinct = refl
 unique [] (y ∷ ys) up up' same distinct = absurd (omega (arith, same (λ _. true), count_by-cons (λ _. true) y ys))
 unique (x ∷ xs) [] up up' same distinct = absurd (omega (arith, same (λ _. true), count_by-cons (λ _. true) x xs))
@@ -140,11 +140,11 @@ unique (x ∷ xs) (y ∷ ys) up up' same distinct =
     let e : x ≡ y = heads x y xs ys up up' same distinct in
     let rest : xs ≡ ys = unique xs ys up.1 up'.1
     (λ p. let n : Emission → ℕ = λ z. cond (p z) 1 0 in let one : n x ≡ n y = ap n e in omega (arith, one, same p, count_by-cons p x xs, count_by-cons p y ys))
-    (record { once = λ q. omega (arith, distinct.once q, count_by-cons (λ e. bytes_eq q (path_of e)) x xs) }) in
+    (record { once = λ q. omega (arith, distinct.once q, count_by-cons (λ e. bytes_eq q (path_of_emission e)) x xs) }) in
     ap (λ (z : Emission). z ∷ xs) e ∙ ap (λ (zs : List Emission). y ∷ zs) rest
 
 -- the order in which entries were met leaves no trace
-pub by_path-same : (xs ys : List Emission) → SameCounts xs ys → HasDistinctPaths ys → by_path xs ≡ by_path ys
+pub by_path-same : (xs ys : List Emission) → SameCounts xs ys → HasDistinctPaths ys → sort_emissions_by_path xs ≡ sort_emissions_by_path ys
 by_path-same xs ys same distinct =
-    unique (by_path xs) (by_path ys) (IsAscending-by_path xs) (IsAscending-by_path ys) (λ p. omega (arith, same p, count_by-by_path p xs, count_by-by_path p ys))
-    (record { once = λ q. omega (arith, distinct.once q, count_by-by_path (λ e. bytes_eq q (path_of e)) xs, same (λ e. bytes_eq q (path_of e))) })
+    unique (sort_emissions_by_path xs) (sort_emissions_by_path ys) (IsAscending-by_path xs) (IsAscending-by_path ys) (λ p. omega (arith, same p, count_by-by_path p xs, count_by-by_path p ys))
+    (record { once = λ q. omega (arith, distinct.once q, count_by-by_path (λ e. bytes_eq q (path_of_emission e)) xs, same (λ e. bytes_eq q (path_of_emission e))) })

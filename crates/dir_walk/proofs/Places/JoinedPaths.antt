@@ -2,8 +2,8 @@
 use Rattle.std.proofs.Common.{◌≡◌, ℕ, suc, ◌-◌, ◌<◌, List, [], ◌∷◌, ◌++◌, Bool, true, false, ◌||◌, length, length-append, get_or, refl, sym, ap, ◌∙◌, arith}
 use Rattle.std.specs.Prelude.{◌==◌, if◌then◌else◌}
 use Rattle.std.specs.List.{list_any}
-use Rattle.gitbase_core.specs.Path.{is_slash, is_empty, is_top, ends_in_slash, joined}
-use Rattle.worktree_fs.specs.Naming.{IsName}
+use Rattle.gitbase_core.specs.Path.{is_slash, is_empty, is_empty_or_root_path, ends_in_slash, path_joined_with_slash}
+use Rattle.worktree_fs.specs.Naming.{IsValidEntryName}
 use Rattle.worktree_fs.proofs.Paths.NameParts.{name_parts}
 
 -- ---- where a path ends in a slash
@@ -19,7 +19,7 @@ ends_in_slash-append [] b back = refl
 ends_in_slash-append (a ∷ []) b back = ends_in_slash-cons a b back
 ends_in_slash-append (a ∷ x ∷ front) b back = ends_in_slash-cons a x (front ++ b ∷ back) ∙ ends_in_slash-append (x ∷ front) b back
 
-pub joined-plain : (a : ℕ) (path name : List ℕ) → ends_in_slash (a ∷ path) ≡ false → joined (a ∷ path) name ≡ (a ∷ path) ++ 47 ∷ name
+pub joined-plain : (a : ℕ) (path name : List ℕ) → ends_in_slash (a ∷ path) ≡ false → path_joined_with_slash (a ∷ path) name ≡ (a ∷ path) ++ 47 ∷ name
 joined-plain a path name e = ap (λ b. if b then (a ∷ path) ++ name else (a ∷ path) ++ 47 ∷ name) e
 
 -- ---- names
@@ -39,14 +39,14 @@ pub record Spelled (name : List ℕ) : Type 0 where
   pub spelling : name ≡ first ∷ rest
   pub plain : ends_in_slash name ≡ false
 
-pub spelled : (name : List ℕ) → IsName name → Spelled name
+pub spelled : (name : List ℕ) → IsValidEntryName name → Spelled name
 spelled [] is = absurd (let e = (name_parts [] is).full in cc e)
 spelled (b ∷ bytes) is = record { first = b; rest = bytes; spelling = refl; plain = name_plain b bytes (name_parts (b ∷ bytes) is).no_slash }
 
 -- ---- a name in a directory
 
 -- the path of a name in a directory is not empty, and does not end in a slash
-pub joined-some : (d name : List ℕ) → IsName name → is_empty (joined d name) ≡ false
+pub joined-some : (d name : List ℕ) → IsValidEntryName name → is_empty (path_joined_with_slash d name) ≡ false
 joined-some [] name is = let s = spelled name is in ap is_empty s.spelling
 joined-some (a ∷ d) name is = go (ends_in_slash (a ∷ d))
   where
@@ -54,7 +54,7 @@ joined-some (a ∷ d) name is = go (ends_in_slash (a ∷ d))
     go true = refl
     go false = refl
 
-pub joined-plain_end : (d name : List ℕ) → Spelled name → ends_in_slash (joined d name) ≡ false
+pub joined-plain_end : (d name : List ℕ) → Spelled name → ends_in_slash (path_joined_with_slash d name) ≡ false
 joined-plain_end [] name s = s.plain
 joined-plain_end (a ∷ d) name s = go (ends_in_slash (a ∷ d))
   where
@@ -66,11 +66,11 @@ joined-plain_end (a ∷ d) name s = go (ends_in_slash (a ∷ d))
     go false =
         ends_in_slash-append (a ∷ d) 47 name ∙ ap (λ (n : List ℕ). ends_in_slash (47 ∷ n)) s.spelling ∙ ends_in_slash-append (47 ∷ []) s.first s.rest ∙ at_name
 
-pub joined-ends : (d name : List ℕ) → IsName name → ends_in_slash (joined d name) ≡ false
+pub joined-ends : (d name : List ℕ) → IsValidEntryName name → ends_in_slash (path_joined_with_slash d name) ≡ false
 joined-ends d name is = joined-plain_end d name (spelled name is)
 
 -- it is longer than the directory's
-pub joined-longer : (d name : List ℕ) → IsName name → length d < length (joined d name)
+pub joined-longer : (d name : List ℕ) → IsValidEntryName name → length d < length (path_joined_with_slash d name)
 joined-longer [] name is = let s = spelled name is in omega (arith, ap length s.spelling)
 joined-longer (a ∷ d) name is = go (ends_in_slash (a ∷ d))
   where
@@ -82,10 +82,10 @@ joined-longer (a ∷ d) name is = go (ends_in_slash (a ∷ d))
     go false = omega (arith, length-append (a ∷ d) (47 ∷ name))
 
 -- a path that is not empty and does not end in a slash is no top
-pub no-top : (path : List ℕ) → is_empty path ≡ false → ends_in_slash path ≡ false → is_top path ≡ false
+pub no-top : (path : List ℕ) → is_empty path ≡ false → ends_in_slash path ≡ false → is_empty_or_root_path path ≡ false
 no-top [] some plain = absurd (cc some)
 no-top (b ∷ []) some plain = plain
 no-top (b ∷ c ∷ path) some plain = refl
 
-pub joined-no_top : (d name : List ℕ) → IsName name → is_top (joined d name) ≡ false
-joined-no_top d name is = no-top (joined d name) (joined-some d name is) (joined-ends d name is)
+pub joined-no_top : (d name : List ℕ) → IsValidEntryName name → is_empty_or_root_path (path_joined_with_slash d name) ≡ false
+joined-no_top d name is = no-top (path_joined_with_slash d name) (joined-some d name is) (joined-ends d name is)

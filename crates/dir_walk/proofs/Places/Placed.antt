@@ -3,17 +3,17 @@ use Rattle.std.proofs.Common.{◌≡◌, ◌≤◌, ℕ, ◌+◌, take, drop, Li
 use Rattle.std.proofs.lemmas.List.{append-nil, drop_all}
 use Rattle.std.specs.Prelude.{◌==◌, if◌then◌else◌}
 use Rattle.std.specs.List.{list_any}
-use Rattle.gitbase_core.specs.Path.{is_empty, is_absolute, ends_in_slash, components, joined, directory_prefix}
-use Rattle.worktree_fs.specs.Tree.{Names, child, look, found, directory}
-use Rattle.worktree_fs.specs.Naming.{IsName}
-use Rattle.worktree_fs.specs.Paths.{is_dots, is_normal, full_path}
+use Rattle.gitbase_core.specs.Path.{is_empty, is_absolute, ends_in_slash, components, path_joined_with_slash, path_with_trailing_slash}
+use Rattle.worktree_fs.specs.Tree.{Names, child_by_name, look, found, directory}
+use Rattle.worktree_fs.specs.Naming.{IsValidEntryName}
+use Rattle.worktree_fs.specs.Paths.{is_dot_or_dot_dot, is_relative_without_dots, root_joined_with_relative}
 use Rattle.std.proofs.lemmas.Bool.{and_parts}
-use Rattle.worktree_fs.specs.Last.{at_child}
+use Rattle.worktree_fs.specs.Last.{found_or_absent}
 use Rattle.worktree_fs.proofs.Routes.Join.{look-join, look-join_slash, look-join_empty}
 use Rattle.worktree_fs.proofs.Paths.NameParts.{name_parts, pieces-name}
 use Rattle.worktree_fs.proofs.Paths.Texts.{pieces-join}
 use Rattle.worktree_fs.proofs.Routes.Follow.{look-follow}
-use Rattle.dir_walk.specs.Report.{depth_of}
+use Rattle.dir_walk.specs.Report.{count_components}
 use Rattle.dir_walk.proofs.Places.JoinedPaths.{ends_in_slash-append, ends_in_slash-cons, joined-plain, joined-some, or-false}
 
 -- ---- where a path ends in a slash
@@ -26,13 +26,13 @@ without_slash (a ∷ b ∷ path) e =
     let rest = without_slash (b ∷ path) (sym (ends_in_slash-cons a b path) ∙ e) in
     (a ∷ rest.0, ap (λ (l : List ℕ). a ∷ l) rest.1)
 
-pub joined-slash : (path name : List ℕ) → ends_in_slash path ≡ true → joined path name ≡ path ++ name
+pub joined-slash : (path name : List ℕ) → ends_in_slash path ≡ true → path_joined_with_slash path name ≡ path ++ name
 joined-slash [] name e = refl
 joined-slash (a ∷ path) name e = ap (λ b. if b then (a ∷ path) ++ name else (a ∷ path) ++ 47 ∷ name) e
 
 -- ---- both forms of a path
 
-full_path-some : (root path : List ℕ) → is_empty path ≡ false → full_path root path ≡ joined root path
+full_path-some : (root path : List ℕ) → is_empty path ≡ false → root_joined_with_relative root path ≡ path_joined_with_slash root path
 full_path-some root [] e = absurd (cc e)
 full_path-some root (b ∷ path) e = refl
 
@@ -41,7 +41,7 @@ abbrev between : Bool → List ℕ → List ℕ
 between true path = path
 between false path = 47 ∷ path
 
-joined-between : (root path : List ℕ) → joined root path ≡ root ++ between (is_empty root || ends_in_slash root) path
+joined-between : (root path : List ℕ) → path_joined_with_slash root path ≡ root ++ between (is_empty root || ends_in_slash root) path
 joined-between root path = go (is_empty root || ends_in_slash root)
   where
     go : (b : Bool) → (if b then root ++ path else root ++ 47 ∷ path) ≡ root ++ between b path
@@ -62,31 +62,31 @@ module _ (a : ℕ) (d : List ℕ) (plain : ends_in_slash (a ∷ d) ≡ false) wh
   plain_at_end front true = ends_in_slash-append front a d ∙ plain
   plain_at_end front false = ends_in_slash-append front 47 (a ∷ d) ∙ ends_in_slash-append (47 ∷ []) a d ∙ plain
 
-at_end : (path more : List ℕ) → is_empty path ≡ false → ends_in_slash path ≡ false → joined path more ≡ path ++ 47 ∷ more
+at_end : (path more : List ℕ) → is_empty path ≡ false → ends_in_slash path ≡ false → path_joined_with_slash path more ≡ path ++ 47 ∷ more
 at_end [] more some plain = absurd (cc some)
 at_end (a ∷ path) more some plain = joined-plain a path more plain
 
-joined_twice : (root d name : List ℕ) → is_empty d ≡ false → ends_in_slash d ≡ false → joined (joined root d) name ≡ joined root (joined d name)
+joined_twice : (root d name : List ℕ) → is_empty d ≡ false → ends_in_slash d ≡ false → path_joined_with_slash (path_joined_with_slash root d) name ≡ path_joined_with_slash root (path_joined_with_slash d name)
 joined_twice root [] name some plain = absurd (cc some)
 joined_twice root (a ∷ d) name some plain =
     let b : Bool = is_empty root || ends_in_slash root in
-    ap (λ (p : List ℕ). joined p name) (joined-between root (a ∷ d))
+    ap (λ (p : List ℕ). path_joined_with_slash p name) (joined-between root (a ∷ d))
     ∙ at_end (root ++ between b (a ∷ d)) name (some_at_end a d plain root b) (plain_at_end a d plain root b)
     ∙ append_assoc root (between b (a ∷ d)) (47 ∷ name)
     ∙ ap (λ (p : List ℕ). root ++ p) (between-more b (a ∷ d) (47 ∷ name) ∙ ap (between b) (sym (joined-plain a d name plain)))
-    ∙ sym (joined-between root (joined (a ∷ d) name))
+    ∙ sym (joined-between root (path_joined_with_slash (a ∷ d) name))
 
 -- ---- a normal path
 
 -- the components of the path of a name in a directory
-pub components-child : (d name : List ℕ) → IsName name → components (joined d name) ≡ components d ++ name ∷ []
+pub components-child : (d name : List ℕ) → IsValidEntryName name → components (path_joined_with_slash d name) ≡ components d ++ name ∷ []
 components-child [] name is = pieces-name name is
 components-child (a ∷ d) name is = go (ends_in_slash (a ∷ d)) refl
   where
     behind_slash : (front : List ℕ) → components (front ++ 47 ∷ name) ≡ components front ++ name ∷ []
     behind_slash front = pieces-join front name ∙ ap (λ (l : List (List ℕ)). components front ++ l) (pieces-name name is)
 
-    go : (slash : Bool) → ends_in_slash (a ∷ d) ≡ slash → components (joined (a ∷ d) name) ≡ components (a ∷ d) ++ name ∷ []
+    go : (slash : Bool) → ends_in_slash (a ∷ d) ≡ slash → components (path_joined_with_slash (a ∷ d) name) ≡ components (a ∷ d) ++ name ∷ []
     go false e = ap components (joined-plain a d name e) ∙ behind_slash (a ∷ d)
     go true e =
         let front = without_slash (a ∷ d) e in
@@ -94,7 +94,7 @@ components-child (a ∷ d) name is = go (ends_in_slash (a ∷ d)) refl
         ap components (joined-slash (a ∷ d) name e ∙ ap (λ (p : List ℕ). p ++ name) front.1 ∙ append_assoc front.0 (47 ∷ []) name) ∙ behind_slash front.0
         ∙ ap (λ (l : List (List ℕ)). l ++ name ∷ []) (sym at_slash)
 
-is_absolute-child : (d name : List ℕ) → IsName name → is_absolute d ≡ false → is_absolute (joined d name) ≡ false
+is_absolute-child : (d name : List ℕ) → IsValidEntryName name → is_absolute d ≡ false → is_absolute (path_joined_with_slash d name) ≡ false
 is_absolute-child [] [] is e = refl
 is_absolute-child [] (b ∷ bytes) is e = (or-false (b == 47) (list_any (λ x. x == 47) bytes) (name_parts (b ∷ bytes) is).no_slash).0
 is_absolute-child (a ∷ d) name is e = go (ends_in_slash (a ∷ d))
@@ -103,10 +103,10 @@ is_absolute-child (a ∷ d) name is e = go (ends_in_slash (a ∷ d))
     go true = e
     go false = e
 
-any-last : (xs : List (List ℕ)) (x : List ℕ) → list_any is_dots xs ≡ false → is_dots x ≡ false → list_any is_dots (xs ++ x ∷ []) ≡ false
+any-last : (xs : List (List ℕ)) (x : List ℕ) → list_any is_dot_or_dot_dot xs ≡ false → is_dot_or_dot_dot x ≡ false → list_any is_dot_or_dot_dot (xs ++ x ∷ []) ≡ false
 any-last [] x e f = rw f refl
 any-last (y ∷ xs) x e f =
-    let parts = or-false (is_dots y) (list_any is_dots xs) e in
+    let parts = or-false (is_dot_or_dot_dot y) (list_any is_dot_or_dot_dot xs) e in
     rw (parts.0, any-last xs x parts.1 f) refl
 
 not-true : (b : Bool) → not b ≡ true → b ≡ false
@@ -114,18 +114,18 @@ not-true false e = refl
 not-true true e = absurd (cc e)
 
 -- the path of a name in a directory is normal where the directory's is
-pub normal-child : (d name : List ℕ) → IsName name → is_normal d ≡ true → is_normal (joined d name) ≡ true
+pub normal-child : (d name : List ℕ) → IsValidEntryName name → is_relative_without_dots d ≡ true → is_relative_without_dots (path_joined_with_slash d name) ≡ true
 normal-child d name is normal =
-    let parts = and_parts (not (is_absolute d)) (not (list_any is_dots (components d))) normal in
+    let parts = and_parts (not (is_absolute d)) (not (list_any is_dot_or_dot_dot (components d))) normal in
     let name_is = name_parts name is in
-    let dots : is_dots name ≡ false = rw (name_is.no_dot, name_is.no_dot_dot) refl in
-    let none : list_any is_dots (components (joined d name)) ≡ false = ap (list_any is_dots) (components-child d name is) ∙ any-last (components d) name (not-true (list_any is_dots (components d)) parts.1) dots in
+    let dots : is_dot_or_dot_dot name ≡ false = rw (name_is.no_dot, name_is.no_dot_dot) refl in
+    let none : list_any is_dot_or_dot_dot (components (path_joined_with_slash d name)) ≡ false = ap (list_any is_dot_or_dot_dot) (components-child d name is) ∙ any-last (components d) name (not-true (list_any is_dot_or_dot_dot (components d)) parts.1) dots in
     rw (is_absolute-child d name is (not-true (is_absolute d) parts.0), none) refl
 
 -- the whole path of a name in a directory
-pub full_path-child : (root d name : List ℕ) → IsName name → ends_in_slash d ≡ false → joined (full_path root d) name ≡ full_path root (joined d name)
+pub full_path-child : (root d name : List ℕ) → IsValidEntryName name → ends_in_slash d ≡ false → path_joined_with_slash (root_joined_with_relative root d) name ≡ root_joined_with_relative root (path_joined_with_slash d name)
 full_path-child root [] name is plain = sym (full_path-some root name (joined-some [] name is))
-full_path-child root (a ∷ d) name is plain = joined_twice root (a ∷ d) name refl plain ∙ sym (full_path-some root (joined (a ∷ d) name) (joined-some (a ∷ d) name is))
+full_path-child root (a ∷ d) name is plain = joined_twice root (a ∷ d) name refl plain ∙ sym (full_path-some root (path_joined_with_slash (a ∷ d) name) (joined-some (a ∷ d) name is))
 
 -- ---- a root and what stands behind it
 
@@ -140,14 +140,14 @@ back (b ∷ root) path = back root path
 none_behind : (root : List ℕ) (n : ℕ) → length root ≤ n → drop n root ≡ []
 none_behind root n h = drop_all n root h
 
-prefix-length : (root : List ℕ) → length root ≤ length (directory_prefix root)
+prefix-length : (root : List ℕ) → length root ≤ length (path_with_trailing_slash root)
 prefix-length root = go (is_empty root || ends_in_slash root)
   where
     go : (b : Bool) → length root ≤ length (if b then root else root ++ 47 ∷ [])
     go true = omega arith
     go false = omega (arith, length-append root (47 ∷ []))
 
-joined-prefix : (root path : List ℕ) → joined root path ≡ directory_prefix root ++ path
+joined-prefix : (root path : List ℕ) → path_joined_with_slash root path ≡ path_with_trailing_slash root ++ path
 joined-prefix root path = go (is_empty root || ends_in_slash root)
   where
     go : (b : Bool) → (if b then root ++ path else root ++ 47 ∷ path) ≡ (if b then root else root ++ 47 ∷ []) ++ path
@@ -155,42 +155,42 @@ joined-prefix root path = go (is_empty root || ends_in_slash root)
     go false = sym (append_assoc root (47 ∷ []) path)
 
 -- the root is found again in the whole path, and so is the path behind it
-pub root-found : (root path : List ℕ) → take (length root) (full_path root path) ≡ root
+pub root-found : (root path : List ℕ) → take (length root) (root_joined_with_relative root path) ≡ root
 root-found root [] = ap (take (length root)) (sym (append-nil root)) ∙ front root []
 root-found root (b ∷ path) = ap (take (length root)) (joined-between root (b ∷ path)) ∙ front root (between (is_empty root || ends_in_slash root) (b ∷ path))
 
-pub path-found : (root path : List ℕ) → drop (length (directory_prefix root)) (full_path root path) ≡ path
-path-found root [] = none_behind root (length (directory_prefix root)) (prefix-length root)
-path-found root (b ∷ path) = ap (drop (length (directory_prefix root))) (joined-prefix root (b ∷ path)) ∙ back (directory_prefix root) (b ∷ path)
+pub path-found : (root path : List ℕ) → drop (length (path_with_trailing_slash root)) (root_joined_with_relative root path) ≡ path
+path-found root [] = none_behind root (length (path_with_trailing_slash root)) (prefix-length root)
+path-found root (b ∷ path) = ap (drop (length (path_with_trailing_slash root))) (joined-prefix root (b ∷ path)) ∙ back (path_with_trailing_slash root) (b ∷ path)
 
 -- ---- how deep it lies
 
 -- a name in a directory lies one deeper
-pub depth_of-joined : (d name : List ℕ) → IsName name → depth_of (joined d name) ≡ depth_of d + 1
+pub depth_of-joined : (d name : List ℕ) → IsValidEntryName name → count_components (path_joined_with_slash d name) ≡ count_components d + 1
 depth_of-joined [] name is = ap (λ (l : List (List ℕ)). length l) (pieces-name name is)
 depth_of-joined (a ∷ d) name is = go (ends_in_slash (a ∷ d)) refl
   where
-    behind_slash : (front : List ℕ) → depth_of (front ++ 47 ∷ name) ≡ length (components front) + 1
+    behind_slash : (front : List ℕ) → count_components (front ++ 47 ∷ name) ≡ length (components front) + 1
     behind_slash front =
         ap (λ (l : List (List ℕ)). length l) (pieces-join front name ∙ ap (λ (l : List (List ℕ)). components front ++ l) (pieces-name name is))
         ∙ length-append (components front) (name ∷ [])
 
-    go : (slash : Bool) → ends_in_slash (a ∷ d) ≡ slash → depth_of (joined (a ∷ d) name) ≡ depth_of (a ∷ d) + 1
-    go false e = ap depth_of (joined-plain a d name e) ∙ behind_slash (a ∷ d)
+    go : (slash : Bool) → ends_in_slash (a ∷ d) ≡ slash → count_components (path_joined_with_slash (a ∷ d) name) ≡ count_components (a ∷ d) + 1
+    go false e = ap count_components (joined-plain a d name e) ∙ behind_slash (a ∷ d)
     go true e =
         let front = without_slash (a ∷ d) e in
-        let at_slash : depth_of (a ∷ d) ≡ length (components front.0) =
-        ap depth_of front.1 ∙ ap (λ (l : List (List ℕ)). length l) (pieces-join front.0 []) ∙ ap (λ (l : List (List ℕ)). length l) (append-nil (components front.0)) in
-        ap depth_of (joined-slash (a ∷ d) name e ∙ ap (λ (p : List ℕ). p ++ name) front.1 ∙ append_assoc front.0 (47 ∷ []) name) ∙ behind_slash front.0
+        let at_slash : count_components (a ∷ d) ≡ length (components front.0) =
+        ap count_components front.1 ∙ ap (λ (l : List (List ℕ)). length l) (pieces-join front.0 []) ∙ ap (λ (l : List (List ℕ)). length l) (append-nil (components front.0)) in
+        ap count_components (joined-slash (a ∷ d) name e ∙ ap (λ (p : List ℕ). p ++ name) front.1 ∙ append_assoc front.0 (47 ∷ []) name) ∙ behind_slash front.0
         ∙ ap (λ (n : ℕ). n + 1) (sym at_slash)
 
 -- ---- what it leads to
 
 -- the node under a name of a directory
-pub look-joined : (t names : Names) (path name : List ℕ) → IsName name → look t path true ≡ found (directory names) → look t (joined path name) false ≡ at_child (child names name)
+pub look-joined : (t names : Names) (path name : List ℕ) → IsValidEntryName name → look t path true ≡ found (directory names) → look t (path_joined_with_slash path name) false ≡ found_or_absent (child_by_name names name)
 look-joined t names path name is there = go path there (is_empty path) (ends_in_slash path) refl refl
   where
-    go : (p : List ℕ) → look t p true ≡ found (directory names) → (none slash : Bool) → is_empty p ≡ none → ends_in_slash p ≡ slash → look t (joined p name) false ≡ at_child (child names name)
+    go : (p : List ℕ) → look t p true ≡ found (directory names) → (none slash : Bool) → is_empty p ≡ none → ends_in_slash p ≡ slash → look t (path_joined_with_slash p name) false ≡ found_or_absent (child_by_name names name)
     go [] e none slash n s = look-join_empty names name is t e
     go (a ∷ p) e none false n s = ap (λ (q : List ℕ). look t q false) (joined-plain a p name s) ∙ look-join names name is t (a ∷ p) e
     go (a ∷ p) e none true n s =

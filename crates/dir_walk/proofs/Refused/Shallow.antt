@@ -5,25 +5,25 @@ use Rattle.worktree_stack.specs.Setup.{StackSetup}
 use Rattle.dir_classify.specs.declared.classify.RootOutcome.{RootOutcome}
 use Rattle.dir_classify.specs.declared.error.Error.{Error}
 use Rattle.dir_classify.specs.declared.error.Error.TheVariants as errors
-use Rattle.dir_classify.specs.Layers.{Setting}
+use Rattle.dir_classify.specs.Layers.{WalkSetting}
 use Rattle.dir_classify.specs.Refused as classes
-use Rattle.dir_classify.specs.Rooted.{OnWayTo}
+use Rattle.dir_classify.specs.Rooted.{HoldsOfPathOnWay}
 use Rattle.dir_walk.specs.declared.handed.Stop.{Stop}
 use Rattle.dir_walk.specs.declared.handed.Stop.TheVariants.{Broken, Refused}
-use Rattle.dir_walk.specs.Given.{OnRefused}
-use Rattle.dir_walk.specs.Kept.{WantsMemory}
-use Rattle.dir_walk.specs.Rooting.{RootAbout}
-use Rattle.dir_walk.specs.Starts.{OnlyRoot}
-use Rattle.dir_walk.specs.Unopened.{too_deep_count, deep_walk}
+use Rattle.dir_walk.specs.Given.{HoldsOfErrorIfRefused}
+use Rattle.dir_walk.specs.Kept.{RefusesOnlyOutOfMemory}
+use Rattle.dir_walk.specs.Rooting.{IsErrorOfTraversalRoot}
+use Rattle.dir_walk.specs.Starts.{IsNonDirectoryRootError}
+use Rattle.dir_walk.specs.Unopened.{count_too_deep_error, count_too_deep_in_walk}
 
 -- want of memory
-pub shallow-memory : {T : Type 0} (result : Result T Stop) → WantsMemory result → deep_walk result ≡ 0
+pub shallow-memory : {T : Type 0} (result : Result T Stop) → RefusesOnlyOutOfMemory result → count_too_deep_in_walk result ≡ 0
 shallow-memory (Ok done) memory = refl
 shallow-memory (Err Broken) memory = refl
-shallow-memory (Err (Refused e)) memory = ap {B = ℕ} too_deep_count memory
+shallow-memory (Err (Refused e)) memory = ap {B = ℕ} count_too_deep_error memory
 
 -- a class
-pub shallow-class : (made : Option StackSetup) (path : List ℕ) (e : Error) → classes.IsAbout made path e → too_deep_count e ≡ 0
+pub shallow-class : (made : Option StackSetup) (path : List ℕ) (e : Error) → classes.IsClassErrorAboutPath made path e → count_too_deep_error e ≡ 0
 shallow-class made path errors.Interrupted about = refl
 shallow-class made path (errors.WorktreeRootIsFile root) about = refl
 shallow-class made path (errors.NormalizeRoot root) about = refl
@@ -36,11 +36,11 @@ shallow-class made path (errors.DirEntry directory) about = refl
 shallow-class made path errors.OutOfMemory about = refl
 
 -- one on the way to the traversal root
-pub shallow-way : (made : Option StackSetup) (root : List ℕ) (e : Error) → OnWayTo root (λ path. classes.IsAbout made path e) → too_deep_count e ≡ 0
+pub shallow-way : (made : Option StackSetup) (root : List ℕ) (e : Error) → HoldsOfPathOnWay root (λ path. classes.IsClassErrorAboutPath made path e) → count_too_deep_error e ≡ 0
 shallow-way made root e (path, leads, about) = shallow-class made path e about
 
 -- there is no traversal root
-pub shallow-outside : (given : Setting) (explicit : Option (List ℕ)) (e : Error) → RootAbout given explicit e → too_deep_count e ≡ 0
+pub shallow-outside : (given : WalkSetting) (explicit : Option (List ℕ)) (e : Error) → IsErrorOfTraversalRoot given explicit e → count_too_deep_error e ≡ 0
 shallow-outside given explicit errors.Interrupted about = refl
 shallow-outside given explicit (errors.WorktreeRootIsFile at) about = refl
 shallow-outside given explicit (errors.NormalizeRoot root) about = refl
@@ -53,7 +53,7 @@ shallow-outside given explicit (errors.DirEntry at) about = refl
 shallow-outside given explicit errors.OutOfMemory about = refl
 
 -- or it is not entered
-shallow-root : (top root : List ℕ) (reached : RootOutcome) (e : Error) → OnlyRoot top root reached e → too_deep_count e ≡ 0
+shallow-root : (top root : List ℕ) (reached : RootOutcome) (e : Error) → IsNonDirectoryRootError top root reached e → count_too_deep_error e ≡ 0
 shallow-root top root reached errors.Interrupted only = refl
 shallow-root top root reached (errors.WorktreeRootIsFile path) only = refl
 shallow-root top root reached (errors.NormalizeRoot path) only = refl
@@ -65,7 +65,7 @@ shallow-root top root reached (errors.ReadDir path why) only = refl
 shallow-root top root reached (errors.DirEntry path) only = refl
 shallow-root top root reached errors.OutOfMemory only = refl
 
-pub shallow-put : {T : Type 0} (top root : List ℕ) (reached : RootOutcome) (result : Result T Stop) → IfErr result (OnRefused (OnlyRoot top root reached)) → deep_walk result ≡ 0
+pub shallow-put : {T : Type 0} (top root : List ℕ) (reached : RootOutcome) (result : Result T Stop) → IfErr result (HoldsOfErrorIfRefused (IsNonDirectoryRootError top root reached)) → count_too_deep_in_walk result ≡ 0
 shallow-put top root reached (Ok done) only = refl
 shallow-put top root reached (Err Broken) only = refl
 shallow-put top root reached (Err (Refused e)) only = shallow-root top root reached e only

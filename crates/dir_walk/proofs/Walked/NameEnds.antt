@@ -2,23 +2,23 @@
 use Rattle.std.proofs.Common.{◌≡◌, ◌≤◌, ◌+◌, ◌-◌, ℕ, List, Option, refl, ◌∙◌, arith}
 use Rattle.std.specs.Prelude.{Result, Err}
 use Rattle.gitbase_core.specs.declared.find.Find.{Ghosts as FindOf}
-use Rattle.gitbase_core.specs.Path.{joined}
+use Rattle.gitbase_core.specs.Path.{path_joined_with_slash}
 use Rattle.worktree_fs.specs.declared.interrupt.Interrupt.{Ghosts as InterruptOf}
 use Rattle.worktree_fs.specs.declared.worktree.Worktree.{Ghosts as WorktreeOf}
-use Rattle.worktree_stack.specs.Stacked.{Stacked}
+use Rattle.worktree_stack.specs.Stacked.{StackModel}
 use Rattle.dir_classify.specs.declared.classify.Outcome.{Outcome as Class}
 use Rattle.dir_classify.specs.declared.error.Error.TheVariants as errors
-use Rattle.dir_classify.specs.Layers.{Setting}
+use Rattle.dir_classify.specs.Layers.{WalkSetting}
 use Rattle.dir_walk.specs.declared.delegate.Delegate.{Ghosts as DelegateOf}
 use Rattle.dir_walk.specs.declared.handed.Handed.{Handed}
 use Rattle.dir_walk.specs.declared.handed.Stop.{Stop}
 use Rattle.dir_walk.specs.declared.handed.Stop.TheVariants.{Refused}
 use Rattle.dir_walk.specs.declared.outcome.Outcome.{Outcome}
-use Rattle.dir_walk.specs.Kept.{HeedsDelegateBreak, KeepsDelegate, WantsMemory}
-use Rattle.dir_walk.specs.Moments.{Moment}
-use Rattle.dir_walk.specs.Puts.{AddsShown, HandsUpEntryAt, once_at}
-use Rattle.dir_walk.specs.Report.{depth_of}
-use Rattle.dir_walk.specs.WalkSteps.{Step, WalksAny, at_directory, at_name}
+use Rattle.dir_walk.specs.Kept.{HeedsDelegateBreak, KeepsDelegateRunning, RefusesOnlyOutOfMemory}
+use Rattle.dir_walk.specs.Moments.{WalkState}
+use Rattle.dir_walk.specs.Puts.{AddsNoHiddenEmission, HandsUpOnlyEntryAtPath, one_at_path}
+use Rattle.dir_walk.specs.Report.{count_components}
+use Rattle.dir_walk.specs.WalkSteps.{WalkStep, StepWalksOverAnyWorktree, at_directory, at_name}
 use Rattle.dir_walk.proofs.Walked.CallByCall.{Before, unlisted}
 use Rattle.dir_walk.proofs.Walked.Ending.{Caused-later, Caused-memory}
 use Rattle.dir_walk.proofs.Folding.Hiding.{AddsShown-same}
@@ -27,15 +27,15 @@ use Rattle.dir_walk.proofs.Refused.Refusals.{memory-only}
 use Rattle.dir_walk.proofs.Places.Rooms.{Hands-leaf, Hands-none}
 
 -- nothing came before
-pub Before-same : {W F : Type 0} {w : WorktreeOf W} {f : FindOf F} {w0 : W} {o0 : F} {rules : Option Stacked} → Before w f w0 w0 o0 o0 rules rules
+pub Before-same : {W F : Type 0} {w : WorktreeOf W} {f : FindOf F} {w0 : W} {o0 : F} {rules : Option StackModel} → Before w f w0 w0 o0 o0 rules rules
 Before-same = record { worktree = record { tree = refl; faults = omega arith; list_faults = refl; reads = omega arith; lists = refl; precomposes = refl }; store = AsksStore-same; rules = KeepsRules-same }
 
 -- the delegate was asked whether it is entered, and it is walked
-pub any-entered : {W F I D : Type 0} {w : WorktreeOf W} {f : FindOf F} {i : InterruptOf I} {d : DelegateOf D} {before now : Moment W F I D} (asked : Moment W F I D) {given : Setting} {levels : ℕ} {directory name p : List ℕ} {k : Class} {result : Result Handed Stop}
+pub any-entered : {W F I D : Type 0} {w : WorktreeOf W} {f : FindOf F} {i : InterruptOf I} {d : DelegateOf D} {before now : WalkState W F I D} (asked : WalkState W F I D) {given : WalkSetting} {levels : ℕ} {directory name p : List ℕ} {k : Class} {result : Result Handed Stop}
     → Before w f before.worktree asked.worktree before.objects asked.objects before.rules asked.rules
     → d.is_default asked.delegate ≡ d.is_default before.delegate → d.given asked.delegate ≡ d.given before.delegate → d.breaks asked.delegate ≡ d.breaks before.delegate → d.refusals before.delegate ≤ d.refusals asked.delegate
-    → p ≡ joined directory name → (levels - 1) + depth_of p ≡ levels + depth_of directory
-    → WalksAny w f i d (record asked { interrupt = before.interrupt; outcome = before.outcome }) now given (levels - 1) (at_directory p k) result → WalksAny w f i d before now given levels (at_name directory name) result
+    → p ≡ path_joined_with_slash directory name → (levels - 1) + count_components p ≡ levels + count_components directory
+    → StepWalksOverAnyWorktree w f i d (record asked { interrupt = before.interrupt; outcome = before.outcome }) now given (levels - 1) (at_directory p k) result → StepWalksOverAnyWorktree w f i d before now given levels (at_name directory name) result
 any-entered {d = d} {before = before} {now = now} asked {given = given} {result = result} b default same_given same_breaks refusals path_is levels_is walks =
     record {
       about = λ limit level. rw b.rules.made at (walks.about limit (levels_is ∙ level));
@@ -51,12 +51,12 @@ any-entered {d = d} {before = before} {now = now} asked {given = given} {result 
     }
 
 -- it is not entered, and handed up or put out
-pub any-leaf : {W F I D : Type 0} {w : WorktreeOf W} {f : FindOf F} {i : InterruptOf I} {d : DelegateOf D} {before : Moment W F I D} {w1 : W} {o1 : F} (d1 : D) {d2 : D} {r1 : Option Stacked} {stop : Outcome} {given : Setting} {levels : ℕ} {directory name p : List ℕ} (result : Result Handed Stop)
+pub any-leaf : {W F I D : Type 0} {w : WorktreeOf W} {f : FindOf F} {i : InterruptOf I} {d : DelegateOf D} {before : WalkState W F I D} {w1 : W} {o1 : F} (d1 : D) {d2 : D} {r1 : Option StackModel} {stop : Outcome} {given : WalkSetting} {levels : ℕ} {directory name p : List ℕ} (result : Result Handed Stop)
     → Before w f before.worktree w1 before.objects o1 before.rules r1
     → d.is_default d1 ≡ d.is_default before.delegate → d.given d1 ≡ d.given before.delegate → d.breaks d1 ≡ d.breaks before.delegate → d.refusals before.delegate ≤ d.refusals d1
-    → KeepsDelegate d d1 d2 → AddsShown given.options (d.given d1) (d.given d2) → HeedsDelegateBreak d d1 d2 result
-    → p ≡ joined directory name → HandsUpEntryAt p (once_at p) (d.given d1) (d.given d2) before.outcome stop result → WantsMemory result
-    → WalksAny w f i d before (record { worktree = w1; objects = o1; interrupt = before.interrupt; delegate = d2; rules = r1; outcome = stop }) given levels (at_name directory name) result
+    → KeepsDelegateRunning d d1 d2 → AddsNoHiddenEmission given.options (d.given d1) (d.given d2) → HeedsDelegateBreak d d1 d2 result
+    → p ≡ path_joined_with_slash directory name → HandsUpOnlyEntryAtPath p (one_at_path p) (d.given d1) (d.given d2) before.outcome stop result → RefusesOnlyOutOfMemory result
+    → StepWalksOverAnyWorktree w f i d before (record { worktree = w1; objects = o1; interrupt = before.interrupt; delegate = d2; rules = r1; outcome = stop }) given levels (at_name directory name) result
 any-leaf {d = d} {before = before} d1 {d2 = d2} {given = given} result b default same_given same_breaks refusals keeps shown heeds path_is hands memory =
     record {
       about = λ limit level. memory-only result _ tt memory;
@@ -72,10 +72,10 @@ any-leaf {d = d} {before = before} d1 {d2 = d2} {given = given} result b default
     }
 
 -- there is no memory for it
-pub any-memory : {W F I D : Type 0} {w : WorktreeOf W} {f : FindOf F} {i : InterruptOf I} {d : DelegateOf D} {before : Moment W F I D} {w1 : W} {o1 : F} {d1 : D} {r1 : Option Stacked} {given : Setting} {levels : ℕ} {step : Step}
+pub any-memory : {W F I D : Type 0} {w : WorktreeOf W} {f : FindOf F} {i : InterruptOf I} {d : DelegateOf D} {before : WalkState W F I D} {w1 : W} {o1 : F} {d1 : D} {r1 : Option StackModel} {given : WalkSetting} {levels : ℕ} {step : WalkStep}
     → Before w f before.worktree w1 before.objects o1 before.rules r1
     → d.is_default d1 ≡ d.is_default before.delegate → d.given d1 ≡ d.given before.delegate → d.breaks d1 ≡ d.breaks before.delegate → d.refusals before.delegate ≤ d.refusals d1
-    → WalksAny w f i d before (record { worktree = w1; objects = o1; interrupt = before.interrupt; delegate = d1; rules = r1; outcome = before.outcome }) given levels step (Err (Refused errors.OutOfMemory))
+    → StepWalksOverAnyWorktree w f i d before (record { worktree = w1; objects = o1; interrupt = before.interrupt; delegate = d1; rules = r1; outcome = before.outcome }) given levels step (Err (Refused errors.OutOfMemory))
 any-memory {given = given} b default same_given same_breaks refusals =
     record {
       about = λ limit level. tt;

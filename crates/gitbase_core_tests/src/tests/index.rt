@@ -1,5 +1,5 @@
 //! Lists of entries, and what an index says of a path.
-ghost use Rattle.gitbase_core.specs.Lookup.{IsLookupOf};
+ghost use Rattle.gitbase_core.specs.Lookup.{IsCaseFoldedLookupOfEntries};
 
 use gitbase_core::{
     AccelerateLookup, EntryKind, Flags, IndexEntry, IndexError, IndexKinds, Mode, ObjectId,
@@ -139,7 +139,7 @@ fn is_refused(alloc: Global, texts: &[u8], why: &[u8]) -> bool {
 
 /// Puts an entry behind those that are there, if it may stand there.
 fn push(alloc: Global, state: &mut State, entry: IndexEntry) -> bool {
-    state.error_of(&entry).is_none() && state.push(alloc, entry).is_ok()
+    state.error_if_entry_were_pushed(&entry).is_none() && state.push(alloc, entry).is_ok()
 }
 
 /// Whether an index takes entries one by one, up to the last one's path.
@@ -187,7 +187,7 @@ fn are(kinds: IndexKinds, want: &[u8]) -> bool {
 fn says(state: &State, question: &[u8], path: &[u8], want: &[u8]) -> bool {
     match question {
         b"says" => are(state.kinds(path), want),
-        b"says in d" => are(state.beneath(b"d").kinds(path), want),
+        b"says in d" => are(state.entries_beneath_directory(b"d").kinds(path), want),
         _ => false,
     }
 }
@@ -206,21 +206,21 @@ fn says_folded(
     path: &[u8],
     want: &[u8],
 ) -> bool
-    requires { IsLookupOf state.now lookup.now }
+    requires { IsCaseFoldedLookupOfEntries state.now lookup.now }
 {
     match question {
-        b"says folded" => are(state.kinds_icase(path, lookup), want),
+        b"says folded" => are(state.index_kinds_of_path_icase(path, lookup), want),
         b"first folded" => {
             is_at(state.entry_by_path_icase(path, lookup), want)
-                && state.has_entry_icase(path, lookup)
-                && !state.has_entry_icase(b"none of them", lookup)
+                && state.has_entry_at_path_icase(path, lookup)
+                && !state.has_entry_at_path_icase(b"none of them", lookup)
         }
         b"first beneath" => {
             is_at(
                 state.entry_closest_to_directory_or_directory_icase(path, lookup),
                 want,
-            ) && state.has_entry_beneath_icase(path, lookup)
-                && !state.has_entry_beneath_icase(b"none of them", lookup)
+            ) && state.has_entry_beneath_directory_icase(path, lookup)
+                && !state.has_entry_beneath_directory_icase(b"none of them", lookup)
         }
         _ => false,
     }

@@ -21,17 +21,17 @@ pub struct MetadataCollection {
 
 impl Model for MetadataCollection {
     ghost use Rattle.std.specs.Prelude.{ℕ, List};
-    ghost use Rattle.glob_rules.specs.AttributeNames.{AreSame};
+    ghost use Rattle.glob_rules.specs.AttributeNames.{HaveSameTexts};
 
     ghost Value = { List (List ℕ) };
 
     ghost view = { λ collection. collection.names.items };
 
-    ghost invariant = { λ collection. AreSame collection.sorted.keys collection.names.items };
+    ghost invariant = { λ collection. HaveSameTexts collection.sorted.keys collection.names.items };
 }
 
 /// Equal names, in the same order.
-fn copy_of(alloc: Global, names: &[Bytes]) -> Result<Vec<Bytes>, OutOfMemory>
+fn copy_attribute_names(alloc: Global, names: &[Bytes]) -> Result<Vec<Bytes>, OutOfMemory>
     ensures { IfOk result (λ copies. copies.items ≡ names.now) }
 {
     let mut copies = Vec::with_capacity(alloc, names.len())?;
@@ -64,14 +64,14 @@ impl MetadataCollection {
         ensures { IfOk result (λ copy. copy ≡ self.now) }
     {
         Ok(MetadataCollection {
-            names: copy_of(alloc, &self.names)?,
+            names: copy_attribute_names(alloc, &self.names)?,
             sorted: self.sorted.clone()?,
         })
     }
 
     /// Sees a name. Where memory is refused, the collection is as before.
     fn add_name_once(&mut self, alloc: Global, name: &Bytes) -> Result<(), OutOfMemory>
-        ensures seen { OnOk result (self.new ≡ names.with_name self.old name.now) }
+        ensures seen { OnOk result (self.new ≡ names.names_with_name_added_once self.old name.now) }
         ensures refused { OnErr result (self.new ≡ self.old) }
     {
         if self.sorted.contains(name) {
@@ -94,10 +94,10 @@ impl MetadataCollection {
         alloc: Global,
         assignments: &[Assigned],
     ) -> Result<(), OutOfMemory>
-        ensures seen { OnOk result (self.new
-            ≡ names.with_names self.old (names.said_names assignments.now)) }
-        ensures refused { OnErr result (names.SeesPart self.old
-            (names.said_names assignments.now) self.new) }
+        ensures seen { OnOk result (self.new ≡ names.names_with_names_added_once self.old
+            (names.names_of_assignments assignments.now)) }
+        ensures refused { OnErr result (names.AddsSomeFirstNames self.old
+            (names.names_of_assignments assignments.now) self.new) }
     {
         let mut rest = assignments;
         while let Some((assigned, after)) = rest.split_first() {
@@ -110,9 +110,9 @@ impl MetadataCollection {
     /// Sees the names of which a line speaks.
     fn add_names_of_line(&mut self, alloc: Global, line: &Line) -> Result<(), OutOfMemory>
         ensures seen { OnOk result (self.new
-            ≡ names.with_names self.old (names.line_names line.now)) }
-        ensures refused { OnErr result (names.SeesPart self.old
-            (names.line_names line.now) self.new) }
+            ≡ names.names_with_names_added_once self.old (names.attribute_names_of_line line.now)) }
+        ensures refused { OnErr result (names.AddsSomeFirstNames self.old
+            (names.attribute_names_of_line line.now) self.new) }
     {
         if let Head::Macro(name) = &line.head {
             self.add_name_once(alloc, name)?;
@@ -127,10 +127,10 @@ impl MetadataCollection {
         alloc: Global,
         lines: &[Line],
     ) -> Result<(), OutOfMemory>
-        ensures seen { OnOk result (self.new
-            ≡ names.with_names self.old (names.names_in lines.now)) }
-        ensures refused { OnErr result (names.SeesPart self.old
-            (names.names_in lines.now) self.new) }
+        ensures seen { OnOk result (self.new ≡ names.names_with_names_added_once self.old
+            (names.attribute_names_of_lines lines.now)) }
+        ensures refused { OnErr result (names.AddsSomeFirstNames self.old
+            (names.attribute_names_of_lines lines.now) self.new) }
     {
         let mut rest = lines;
         while let Some((line, after)) = rest.split_first() {

@@ -19,12 +19,12 @@ pub struct Left<'a> {
 
 impl<'a> Model for Left<'a> {
     ghost use Rattle.std.specs.Prelude.{List, ◌++◌, reverse};
-    ghost use Rattle.glob_rules.specs.Standing.{spread};
+    ghost use Rattle.glob_rules.specs.Standing.{reversed_words_of_slices};
     ghost use Rattle.glob_rules.specs.declared.attributes.word.Assigned as declared;
 
     ghost Value = { List declared.Assigned };
 
-    ghost view = { λ left. reverse left.words.now ++ spread left.pending.items };
+    ghost view = { λ left. reverse left.words.now ++ reversed_words_of_slices left.pending.items };
 }
 
 impl<'a> Left<'a> {

@@ -1,6 +1,6 @@
 //! What one file says of attributes.
 ghost use Rattle.std.specs.Prelude.{◌≡◌, IfOk, option_copied};
-ghost use Rattle.glob_rules.specs.AttributeValues.{body_in};
+ghost use Rattle.glob_rules.specs.AttributeValues.{macro_body_in_list};
 ghost use Rattle.glob_rules.specs.Attributes as lists;
 
 use super::line::{Head, Line};
@@ -45,7 +45,7 @@ impl Model for List {
 }
 
 /// Equal lines, in the same order.
-fn copy_of(alloc: Global, lines: &[PathLine]) -> Result<Vec<PathLine>, OutOfMemory>
+fn copy_path_lines(alloc: Global, lines: &[PathLine]) -> Result<Vec<PathLine>, OutOfMemory>
     ensures { IfOk result (λ copies. copies.items ≡ lines.now) }
 {
     let mut copies = Vec::with_capacity(alloc, lines.len())?;
@@ -67,7 +67,8 @@ impl List {
         source: PathText,
         base: PathText,
     ) -> Result<List, OutOfMemory>
-        ensures { IfOk result (λ list. list ≡ lists.list_from from.items source base) }
+        ensures { IfOk result (λ list. list ≡ lists.attribute_list_from_lines from.items source
+            base) }
     {
         let mut lines = Vec::new(alloc);
         let mut macros = BTreeMap::new(alloc);
@@ -101,15 +102,15 @@ impl List {
         ensures { IfOk result (λ copy. copy ≡ self.now) }
     {
         Ok(List {
-            lines: copy_of(alloc, &self.lines)?,
+            lines: copy_path_lines(alloc, &self.lines)?,
             macros: self.macros.clone()?,
             source: PathText::from_bytes(alloc, self.source.as_bytes())?,
             base: PathText::from_bytes(alloc, self.base.as_bytes())?,
         })
     }
     /// What the macro of a name stands for, if it is defined here.
-    pub fn body(&self, name: &Bytes) -> Option<&Assignments>
-        ensures { option_copied result ≡ body_in name.now self.now.macros }
+    pub fn assignments_of_macro(&self, name: &Bytes) -> Option<&Assignments>
+        ensures { option_copied result ≡ macro_body_in_list name.now self.now.macros }
     {
         self.macros.get(name)
     }

@@ -2,11 +2,11 @@
 ghost use Rattle.std.specs.Prelude.{◌≡◌, ◌++◌, map, true, IfOk, OnOk, OnErr, option_copied};
 ghost use Rattle.glob_rules.specs.AttributeOutcome as outcomes;
 ghost use Rattle.glob_rules.specs.AttributeValues as values;
-ghost use Rattle.glob_rules.specs.AttributeOutcome.{asking_anew, asking_for, filled, finds_some, found_of, nothing_asked};
+ghost use Rattle.glob_rules.specs.AttributeOutcome.{outcome_reset_to_selection_or_names, outcome_without_states, outcome_filled_for_path, is_any_state_found, found_state_of_name, empty_outcome};
 
 use super::selected::Selected;
 use super::standing::Standing;
-use super::standing_at::standing_at;
+use super::standing_at::standing_assignments_of_path;
 use super::{Assignment, MetadataCollection, Search};
 use crate::Case;
 use gitbase_core::{Bytes, OutOfMemory};
@@ -32,16 +32,16 @@ pub struct Outcome {
 }
 
 impl Model for Outcome {
-    ghost use Rattle.glob_rules.specs.AttributeOutcome.{Answers};
+    ghost use Rattle.glob_rules.specs.AttributeOutcome.{OutcomeRows};
 
-    ghost Value = { Answers };
+    ghost Value = { OutcomeRows };
 
     ghost view = { λ o. record { rows = o.rows.items; is_selection = o.is_selection } };
 }
 
 /// The names, of which nothing was found.
-fn unanswered(alloc: Global, names: &[Bytes]) -> Result<Vec<Row>, OutOfMemory>
-    ensures { IfOk result (λ rows. rows.items ≡ map outcomes.unanswered names.now) }
+fn rows_for_names_without_states(alloc: Global, names: &[Bytes]) -> Result<Vec<Row>, OutOfMemory>
+    ensures { IfOk result (λ rows. rows.items ≡ map outcomes.row_without_state names.now) }
 {
     let mut rows = Vec::with_capacity(alloc, names.len())?;
     for name in names {
@@ -54,9 +54,9 @@ fn unanswered(alloc: Global, names: &[Bytes]) -> Result<Vec<Row>, OutOfMemory>
 }
 
 /// The names of rows, of which nothing was found.
-fn forgotten(alloc: Global, rows: Vec<Row>) -> Result<Vec<Row>, OutOfMemory>
+fn rows_with_states_cleared(alloc: Global, rows: Vec<Row>) -> Result<Vec<Row>, OutOfMemory>
     ensures { IfOk result (λ made. made.items
-        ≡ map outcomes.unanswered (outcomes.asked_names rows.items)) }
+        ≡ map outcomes.row_without_state (outcomes.names_of_rows rows.items)) }
 {
     let mut made = Vec::with_capacity(alloc, rows.len())?;
     for row in rows {
@@ -70,8 +70,11 @@ fn forgotten(alloc: Global, rows: Vec<Row>) -> Result<Vec<Row>, OutOfMemory>
 }
 
 /// The state of a name among those that stand.
-fn state_of(standing: &Standing<'_>, name: &Bytes) -> Result<Option<Assignment>, OutOfMemory>
-    ensures { IfOk result (λ state. state ≡ values.state_in name.now standing.now) }
+fn cloned_state_of_name(
+    standing: &Standing<'_>,
+    name: &Bytes,
+) -> Result<Option<Assignment>, OutOfMemory>
+    ensures { IfOk result (λ state. state ≡ values.state_of_name name.now standing.now) }
 {
     match standing.state(name.as_bytes()) {
         Some(state) => Ok(Some(state.clone()?)),
@@ -80,8 +83,13 @@ fn state_of(standing: &Standing<'_>, name: &Bytes) -> Result<Option<Assignment>,
 }
 
 /// The names of rows, with what stands of them.
-fn answered(alloc: Global, rows: Vec<Row>, standing: &Standing<'_>) -> Result<Vec<Row>, OutOfMemory>
-    ensures { IfOk result (λ made. made.items ≡ map (outcomes.answered standing.now) rows.items) }
+fn rows_with_standing_states(
+    alloc: Global,
+    rows: Vec<Row>,
+    standing: &Standing<'_>,
+) -> Result<Vec<Row>, OutOfMemory>
+    ensures { IfOk result (λ made. made.items ≡ map (outcomes.row_with_standing_state standing.now)
+        rows.items) }
 {
     let mut made = Vec::with_capacity(alloc, rows.len())?;
     for row in rows {
@@ -89,15 +97,15 @@ fn answered(alloc: Global, rows: Vec<Row>, standing: &Standing<'_>) -> Result<Ve
             name,
             state: _state,
         } = row;
-        let state = state_of(standing, &name)?;
+        let state = cloned_state_of_name(standing, &name)?;
         made.push(Row { name, state })?;
     }
     Ok(made)
 }
 
 /// Whether something was found of a name.
-fn finds_some(rows: &[Row]) -> bool
-    ensures { result ≡ outcomes.finds_some rows.now }
+fn is_any_state_found(rows: &[Row]) -> bool
+    ensures { result ≡ outcomes.is_any_state_found rows.now }
 {
     rows.iter().any(|row| row.state.is_some())
 }
@@ -105,7 +113,7 @@ fn finds_some(rows: &[Row]) -> bool
 impl Outcome {
     /// An outcome that asks for nothing until it is initialized; takes no memory.
     pub fn new(alloc: Global) -> Outcome
-        ensures { result ≡ nothing_asked }
+        ensures { result ≡ empty_outcome }
     {
         Outcome {
             rows: Vec::new(alloc),
@@ -115,7 +123,7 @@ impl Outcome {
 
     /// Takes the rows, so that nothing is asked for any more; tells whether they were a selection.
     fn take(&mut self, alloc: Global) -> (bool, Vec<Row>)
-        ensures nothing { self.new ≡ nothing_asked }
+        ensures nothing { self.new ≡ empty_outcome }
         ensures selection { result.0 ≡ self.old.is_selection }
         ensures rows { result.1.items ≡ self.old.rows }
     {
@@ -134,16 +142,17 @@ impl Outcome {
         alloc: Global,
         collection: &MetadataCollection,
     ) -> Result<(), OutOfMemory>
-        ensures asked { OnOk result (self.new ≡ asking_anew self.old collection.now) }
-        ensures refused { OnErr result (self.new ≡ nothing_asked) }
+        ensures asked { OnOk result (self.new ≡ outcome_reset_to_selection_or_names self.old
+            collection.now) }
+        ensures refused { OnErr result (self.new ≡ empty_outcome) }
     {
         let (is_selection, rows) = self.take(alloc);
         if is_selection {
-            self.rows = forgotten(alloc, rows)?;
+            self.rows = rows_with_states_cleared(alloc, rows)?;
             self.is_selection = true;
             return Ok(());
         }
-        self.rows = unanswered(alloc, collection.names())?;
+        self.rows = rows_for_names_without_states(alloc, collection.names())?;
         Ok(())
     }
 
@@ -154,11 +163,11 @@ impl Outcome {
         alloc: Global,
         names: &[Bytes],
     ) -> Result<(), OutOfMemory>
-        ensures asked { OnOk result (self.new ≡ asking_for true names.now) }
-        ensures refused { OnErr result (self.new ≡ nothing_asked) }
+        ensures asked { OnOk result (self.new ≡ outcome_without_states true names.now) }
+        ensures refused { OnErr result (self.new ≡ empty_outcome) }
     {
         self.take(alloc);
-        self.rows = unanswered(alloc, names)?;
+        self.rows = rows_for_names_without_states(alloc, names)?;
         self.is_selection = true;
         Ok(())
     }
@@ -166,8 +175,8 @@ impl Outcome {
     /// What was found of a name. None where nothing was, and where the name is not asked for. All
     /// names that were asked for are gone over for it: [`Outcome::iter_selected`] gives them in one
     /// pass.
-    pub fn value_of(&self, name: &[u8]) -> Option<&Assignment>
-        ensures { option_copied result ≡ found_of name.now self.now.rows }
+    pub fn found_state_of_name(&self, name: &[u8]) -> Option<&Assignment>
+        ensures { option_copied result ≡ found_state_of_name name.now self.now.rows }
     {
         let mut rest = self.rows.as_slice();
         while let Some((row, after)) = rest.split_first() {
@@ -189,14 +198,17 @@ impl Outcome {
     /// Finds what is asked for of a path.
     fn fill(&mut self, alloc: Global, standing: &Standing<'_>) -> Result<bool, OutOfMemory>
         ensures filled { OnOk result (self.new
-            ≡ record self.old { rows = map (outcomes.answered standing.now) self.old.rows }) }
-        ensures finds { IfOk result (λ finds. finds ≡ finds_some self.new.rows) }
-        ensures refused { OnErr result (self.new ≡ nothing_asked) }
+            ≡ record self.old {
+              rows = map (outcomes.row_with_standing_state standing.now)
+                  self.old.rows;
+            }) }
+        ensures finds { IfOk result (λ finds. finds ≡ is_any_state_found self.new.rows) }
+        ensures refused { OnErr result (self.new ≡ empty_outcome) }
     {
         let (is_selection, rows) = self.take(alloc);
-        self.rows = answered(alloc, rows, standing)?;
+        self.rows = rows_with_standing_states(alloc, rows, standing)?;
         self.is_selection = is_selection;
-        Ok(finds_some(&self.rows))
+        Ok(is_any_state_found(&self.rows))
     }
 }
 
@@ -217,11 +229,11 @@ pub fn fill(
     out: &mut Outcome,
 ) -> Result<bool, OutOfMemory>
     ensures filled { OnOk result (out.new
-        ≡ filled (globals.now ++ stack.now) path.now is_dir case out.old) }
-    ensures finds { IfOk result (λ finds. finds ≡ finds_some out.new.rows) }
-    ensures refused { OnErr result (out.new ≡ nothing_asked) }
+        ≡ outcome_filled_for_path (globals.now ++ stack.now) path.now is_dir case out.old) }
+    ensures finds { IfOk result (λ finds. finds ≡ is_any_state_found out.new.rows) }
+    ensures refused { OnErr result (out.new ≡ empty_outcome) }
 {
-    match standing_at(alloc, globals, stack, path, is_dir, case) {
+    match standing_assignments_of_path(alloc, globals, stack, path, is_dir, case) {
         Ok(standing) => out.fill(alloc, &standing),
         Err(refused) => {
             out.take(alloc);

@@ -19,8 +19,8 @@ pub enum Quoted {
 }
 
 /// What a byte between quotes is there; `escaped` says that a `\` stands before it.
-fn byte_in_quotes(escaped: bool, byte: u8) -> Quoted
-    ensures { result ≡ lines.byte_in_quotes escaped byte }
+fn role_of_byte_in_quotes(escaped: bool, byte: u8) -> Quoted
+    ensures { result ≡ lines.role_of_byte_in_quotes escaped byte }
 {
     match (escaped, byte) {
         (true, b'"') => Quoted::Stands,
@@ -35,15 +35,19 @@ fn byte_in_quotes(escaped: bool, byte: u8) -> Quoted
 /// The text up to the closing quote, and what follows that; none where there is no such quote, or a
 /// `\` stands before another byte than a quote or a `\`. See
 /// docs/DIFFERENCES.md#attributes-escapes.
-pub fn unquoted(alloc: Global, bytes: &[u8]) -> Result<Option<(Bytes, &[u8])>, OutOfMemory>
-    ensures { IfOk result (λ read. MatchOption read (lines.unquoted false bytes.now ≡ None)
-        (λ parts. lines.unquoted false bytes.now ≡ Some (parts.0, parts.1.now))) }
+pub fn unquoted_text_and_rest(
+    alloc: Global,
+    bytes: &[u8],
+) -> Result<Option<(Bytes, &[u8])>, OutOfMemory>
+    ensures { IfOk result (λ read. MatchOption read (lines.unquoted_text_and_rest false bytes.now
+        ≡ None) (λ parts. lines.unquoted_text_and_rest false bytes.now
+        ≡ Some (parts.0, parts.1.now))) }
 {
     let mut text = Vec::new(alloc);
     let mut escaped = false;
     let mut rest = bytes;
     while let Some((byte, after)) = rest.split_first() {
-        match byte_in_quotes(escaped, *byte) {
+        match role_of_byte_in_quotes(escaped, *byte) {
             Quoted::Closes => return Ok(Some((Bytes::from_vec(text), after))),
             Quoted::Breaks => return Ok(None),
             Quoted::Escapes => escaped = true,

@@ -1,12 +1,12 @@
 //! Several lists of what files say of attributes.
 ghost use Rattle.std.specs.Prelude.{◌≡◌, ◌↔◌, ◌<◌, ◌-◌, ◌++◌, [], ◌∷◌, length, take, true, reverse, IfOk, OnOk, OnErr, IsTrue, option_copied};
-ghost use Rattle.glob_rules.specs.AttributeValues.{body_of};
+ghost use Rattle.glob_rules.specs.AttributeValues.{macro_body_in_first_list};
 ghost use Rattle.glob_rules.specs.AttributeLines as texts;
-ghost use Rattle.glob_rules.specs.AttributeNames.{names_in, SeesNames};
-ghost use Rattle.glob_rules.specs.Attributes.{builtin_list, builtin_text, list_from};
+ghost use Rattle.glob_rules.specs.AttributeNames.{attribute_names_of_lines, AddsNamesOrPartOnError};
+ghost use Rattle.glob_rules.specs.Attributes.{builtin_attribute_list, builtin_attributes_text, attribute_list_from_lines};
 
 use super::MetadataCollection;
-use super::line::read_lines;
+use super::line::read_attribute_lines;
 use super::list::List;
 use super::word::Assignments;
 use gitbase_core::{Bytes, OutOfMemory, PathText};
@@ -47,13 +47,13 @@ impl Search {
     /// `[attr]binary -diff -merge -text`. Its names go to the collection, and where memory is
     /// refused, the first of them may have gone there.
     #[tactic(auto, using(crate::proofs::SeenNames::part_none))]
-    pub fn with_builtin(
+    pub fn new_with_builtin_binary_macro(
         alloc: Global,
         collection: &mut MetadataCollection,
     ) -> Result<Search, OutOfMemory>
-        ensures lists { IfOk result (λ search. search ≡ builtin_list ∷ []) }
-        ensures names { SeesNames result collection.old
-            (names_in (texts.lines true builtin_text)) collection.new }
+        ensures lists { IfOk result (λ search. search ≡ builtin_attribute_list ∷ []) }
+        ensures names { AddsNamesOrPartOnError result collection.old
+            (attribute_names_of_lines (texts.lines true builtin_attributes_text)) collection.new }
     {
         let mut search = Search::new(alloc);
         search.add_patterns_buffer(
@@ -84,14 +84,13 @@ impl Search {
         collection: &mut MetadataCollection,
         allow_macros: bool,
     ) -> Result<(), OutOfMemory>
-        ensures added { OnOk result
-            (self.new
-            ≡ self.old ++ list_from (texts.lines allow_macros bytes.now) source base ∷ []) }
+        ensures added { OnOk result (self.new ≡ self.old ++ attribute_list_from_lines
+            (texts.lines allow_macros bytes.now) source base ∷ []) }
         ensures kept { OnErr result (self.new ≡ self.old) }
-        ensures names { SeesNames result collection.old
-            (names_in (texts.lines allow_macros bytes.now)) collection.new }
+        ensures names { AddsNamesOrPartOnError result collection.old
+            (attribute_names_of_lines (texts.lines allow_macros bytes.now)) collection.new }
     {
-        let lines = read_lines(alloc, allow_macros, bytes)?;
+        let lines = read_attribute_lines(alloc, allow_macros, bytes)?;
         collection.add_names_of_lines(alloc, &lines)?;
         let list = List::from_lines(alloc, lines, source, base)?;
         self.lists.push(list)?;
@@ -117,13 +116,13 @@ impl Search {
         Ok(Search { lists })
     }
     /// What the macro of a name stands for, by the highest list that defines it.
-    pub(super) fn body(&self, name: &Bytes) -> Option<&Assignments>
-        ensures { option_copied result ≡ body_of name.now (reverse self.now) }
+    pub(super) fn assignments_of_macro(&self, name: &Bytes) -> Option<&Assignments>
+        ensures { option_copied result ≡ macro_body_in_first_list name.now (reverse self.now) }
     {
         let mut at = self.lists.len();
         while at > 0 {
             at -= 1;
-            if let Some(body) = self.lists[at].body(name) {
+            if let Some(body) = self.lists[at].assignments_of_macro(name) {
                 return Some(body);
             }
         }

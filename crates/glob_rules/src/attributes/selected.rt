@@ -1,7 +1,7 @@
 //! What was found of the attributes that are asked for, one after another.
 ghost use Rattle.std.specs.Prelude.{◌≡◌};
 ghost use Rattle.std.specs.Iterator.{YieldsFirstBy, item_count};
-ghost use Rattle.glob_rules.specs.AttributeOutcome.{row_seen};
+ghost use Rattle.glob_rules.specs.AttributeOutcome.{row_from_references};
 
 use super::Assignment;
 use super::outcome::Row;
@@ -36,7 +36,7 @@ impl<'a> Selected<'a> {
 impl<'a> Iterator for Selected<'a> {
     type Item = (&'a [u8], Option<&'a Assignment>);
 
-    ghost next_gives = { YieldsFirstBy row_seen (λ left. left) };
+    ghost next_gives = { YieldsFirstBy row_from_references (λ left. left) };
 
     ghost remaining = { item_count (λ left. left) };
 

@@ -34,21 +34,23 @@ impl<'a> Sources<'a> {
     }
 
     /// What the macro of a name stands for, by the highest list that defines it.
-    fn body(&self, name: &Bytes) -> Option<&'a Assignments>
-        ensures { option_copied result ≡ values.body_of name.now (reverse self.now) }
+    fn assignments_of_macro(&self, name: &Bytes) -> Option<&'a Assignments>
+        ensures { option_copied result ≡ values.macro_body_in_first_list name.now
+            (reverse self.now) }
     {
-        match self.stack.body(name) {
+        match self.stack.assignments_of_macro(name) {
             Some(body) => Some(body),
-            None => self.globals.body(name),
+            None => self.globals.assignments_of_macro(name),
         }
     }
 
     /// What is said too where this is said first of its attribute, the last at first.
-    pub fn macro_expansion_of(&self, assigned: &Assigned) -> &'a [Assigned]
-        ensures { reverse result.now ≡ values.follows (reverse self.now) assigned.now }
+    pub fn macro_expansion_if_set(&self, assigned: &Assigned) -> &'a [Assigned]
+        ensures { reverse result.now ≡ values.macro_assignments_if_set (reverse self.now)
+            assigned.now }
     {
         match assigned.state {
-            Assignment::Set => match self.body(&assigned.name) {
+            Assignment::Set => match self.assignments_of_macro(&assigned.name) {
                 Some(body) => body.as_slice(),
                 None => &[],
             },

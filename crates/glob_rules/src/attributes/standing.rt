@@ -1,7 +1,7 @@
 //! What stands of what was said so far.
 ghost use Rattle.std.specs.Prelude.{◌≡◌, [], not, IfOk, OnOk, option_copied};
 ghost use Rattle.glob_rules.specs.AttributeValues as values;
-ghost use Rattle.glob_rules.specs.Standing.{with_said};
+ghost use Rattle.glob_rules.specs.Standing.{standing_with_assignment_if_first};
 
 use super::Assignment;
 use super::word::Assigned;
@@ -22,14 +22,15 @@ pub struct Standing<'a> {
 
 impl<'a> Model for Standing<'a> {
     ghost use Rattle.std.specs.Prelude.{List};
-    ghost use Rattle.glob_rules.specs.Standing.{dereferenced_assignments, HasStates};
+    ghost use Rattle.glob_rules.specs.Standing.{dereferenced_assignments, TableHasAllStates};
     ghost use Rattle.glob_rules.specs.declared.attributes.word.Assigned as declared;
 
     ghost Value = { List declared.Assigned };
 
     ghost view = { λ s. dereferenced_assignments s.said.items };
 
-    ghost invariant = { λ s. HasStates s.states.entries (dereferenced_assignments s.said.items) };
+    ghost invariant = { λ s. TableHasAllStates s.states.entries (dereferenced_assignments
+        s.said.items) };
 }
 
 impl<'a> Standing<'a> {
@@ -45,7 +46,7 @@ impl<'a> Standing<'a> {
 
     /// The state of a name, where something stands of it.
     pub fn state(&self, name: &[u8]) -> Option<&'a Assignment>
-        ensures { option_copied result ≡ values.state_in name.now self.now }
+        ensures { option_copied result ≡ values.state_of_name name.now self.now }
     {
         match self.states.get(name) {
             Some(state) => Some(*state),
@@ -57,7 +58,8 @@ impl<'a> Standing<'a> {
     pub fn add_if_first(&mut self, assigned: &'a Assigned) -> Result<bool, OutOfMemory>
         ensures first { IfOk result (λ is_first. is_first
             ≡ not (values.has_assigned_name assigned.now.name self.old)) }
-        ensures said { OnOk result (self.new ≡ with_said self.old assigned.now) }
+        ensures said { OnOk result (self.new ≡ standing_with_assignment_if_first self.old
+            assigned.now) }
     {
         let name = assigned.name.as_bytes();
         if self.states.contains_key(name) {

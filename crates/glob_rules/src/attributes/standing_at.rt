@@ -1,9 +1,9 @@
 //! What holds of a path, by lists.
 ghost use Rattle.std.specs.Prelude.{◌≡◌, ◌++◌, reverse, IfOk, OnOk, option_copied};
 ghost use Rattle.glob_rules.specs.AttributeValues as values;
-ghost use Rattle.glob_rules.specs.AttributeValues.{path_assignments_reversed, line_says, lines_say, list_says};
+ghost use Rattle.glob_rules.specs.AttributeValues.{path_assignments_reversed, line_assignments_for_path, lines_assignments_for_path, list_assignments_for_path};
 ghost use Rattle.glob_rules.specs.Rule as rules;
-ghost use Rattle.glob_rules.specs.Standing.{standing_after};
+ghost use Rattle.glob_rules.specs.Standing.{standing_after_assignments};
 
 use super::Search;
 use super::left::Left;
@@ -12,25 +12,25 @@ use super::sources::Sources;
 use super::standing::Standing;
 use super::word::Assigned;
 use crate::Case;
-use crate::pattern::{last_component, relative_to};
+use crate::pattern::{last_component, strip_directory_prefix};
 use gitbase_core::OutOfMemory;
 use std::alloc::Global;
 use std::marker::Model;
 
 /// Says words, from the last back, and at once what follows where one sets a macro.
-fn apply_assignments<'a>(
+fn apply_assignments_expanding_macros<'a>(
     alloc: Global,
     sources: &Sources<'a>,
     words: &'a [Assigned],
     standing: &mut Standing<'a>,
 ) -> Result<(), OutOfMemory>
     ensures { OnOk result (standing.new
-        ≡ standing_after sources.now standing.old (reverse words.now)) }
+        ≡ standing_after_assignments sources.now standing.old (reverse words.now)) }
 {
     let mut left = Left::new(alloc, words);
     while let Some(assigned) = left.take() {
         if standing.add_if_first(assigned)? {
-            left.put(sources.macro_expansion_of(assigned))?;
+            left.put(sources.macro_expansion_if_set(assigned))?;
         }
     }
     Ok(())
@@ -50,9 +50,9 @@ struct Question<'a> {
 impl<'a> Model for Question<'a> {
     ghost use Rattle.std.specs.Prelude.{◌≡◌};
     ghost use Rattle.glob_rules.specs.Rule.{last_component};
-    ghost use Rattle.glob_rules.specs.Standing.{Asked};
+    ghost use Rattle.glob_rules.specs.Standing.{AttributeQuestion};
 
-    ghost Value = { Asked };
+    ghost Value = { AttributeQuestion };
 
     ghost view = { λ q. record { path = q.path.now; is_dir = q.is_dir; case = q.case } };
 
@@ -65,14 +65,13 @@ fn assignments_for_path<'a>(
     question: &Question<'_>,
     relative: Option<&[u8]>,
 ) -> &'a [Assigned]
-    ensures { result.now
-        ≡ line_says (rules.last_component question.now.path) (option_copied relative.entry)
-        question.now.is_dir question.now.case line.now }
+    ensures { result.now ≡ line_assignments_for_path (rules.last_component question.now.path)
+        (option_copied relative.entry) question.now.is_dir question.now.case line.now }
 {
     let is_dir = question.is_dir;
     if line
         .pattern
-        .matches_parts(question.name, relative, is_dir, question.case)
+        .matches_name_or_relative_path(question.name, relative, is_dir, question.case)
     {
         line.assignments.as_slice()
     } else {
@@ -81,7 +80,7 @@ fn assignments_for_path<'a>(
 }
 
 /// Says what lines say of a path that reads `relative` from their directory, from the last up.
-fn apply_matching_lines<'a>(
+fn apply_lines_matching_path<'a>(
     alloc: Global,
     sources: &Sources<'a>,
     lines: &'a [PathLine],
@@ -89,13 +88,13 @@ fn apply_matching_lines<'a>(
     relative: Option<&[u8]>,
     standing: &mut Standing<'a>,
 ) -> Result<(), OutOfMemory>
-    ensures { OnOk result (standing.new ≡ standing_after sources.now standing.old
-        (reverse (lines_say (rules.last_component question.now.path)
+    ensures { OnOk result (standing.new ≡ standing_after_assignments sources.now standing.old
+        (reverse (lines_assignments_for_path (rules.last_component question.now.path)
         (option_copied relative.entry) question.now.is_dir question.now.case lines.now))) }
 {
     let mut rest = lines;
     while let Some((line, before)) = rest.split_last() {
-        apply_assignments(
+        apply_assignments_expanding_macros(
             alloc,
             sources,
             assignments_for_path(line, question, relative),
@@ -114,11 +113,12 @@ fn apply_list_to_path<'a>(
     question: &Question<'_>,
     standing: &mut Standing<'a>,
 ) -> Result<(), OutOfMemory>
-    ensures { OnOk result (standing.new ≡ standing_after sources.now standing.old
-        (reverse (list_says question.now.path question.now.is_dir question.now.case list.now))) }
+    ensures { OnOk result (standing.new ≡ standing_after_assignments sources.now standing.old
+        (reverse (list_assignments_for_path question.now.path question.now.is_dir question.now.case
+        list.now))) }
 {
-    let relative = relative_to(question.path, list.base());
-    apply_matching_lines(alloc, sources, list.lines(), question, relative, standing)
+    let relative = strip_directory_prefix(question.path, list.base());
+    apply_lines_matching_path(alloc, sources, list.lines(), question, relative, standing)
 }
 
 /// Says what lists say of a path, from the highest down.
@@ -129,7 +129,7 @@ fn apply_lists_to_path<'a>(
     question: &Question<'_>,
     standing: &mut Standing<'a>,
 ) -> Result<(), OutOfMemory>
-    ensures { OnOk result (standing.new ≡ standing_after sources.now standing.old
+    ensures { OnOk result (standing.new ≡ standing_after_assignments sources.now standing.old
         (path_assignments_reversed lists.now question.now.path question.now.is_dir question.now.case)) }
 {
     let mut rest = lists;
@@ -141,7 +141,7 @@ fn apply_lists_to_path<'a>(
 }
 
 /// What stands of a path, by the lists of two searches.
-pub fn standing_at<'a>(
+pub fn standing_assignments_of_path<'a>(
     alloc: Global,
     globals: &'a Search,
     stack: &'a Search,
@@ -150,7 +150,7 @@ pub fn standing_at<'a>(
     case: Case,
 ) -> Result<Standing<'a>, OutOfMemory>
     ensures { IfOk result (λ standing. standing
-        ≡ values.standing_at (globals.now ++ stack.now) path.now is_dir case) }
+        ≡ values.standing_assignments_of_path (globals.now ++ stack.now) path.now is_dir case) }
 {
     let sources = Sources::new(globals, stack);
     let question = Question {

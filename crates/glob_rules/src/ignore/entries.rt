@@ -1,12 +1,12 @@
 //! The rules of a list in their order, and the last of them that matches a path.
 ghost use Rattle.std.specs.Prelude.{◌≡◌, [], IfOk, IfSome, option_copied};
 ghost use Rattle.glob_rules.specs.Ignore as rules;
-ghost use Rattle.glob_rules.specs.Ignore.{last_match};
-ghost use Rattle.glob_rules.specs.Tables.{IsTable};
+ghost use Rattle.glob_rules.specs.Ignore.{last_matching_entry};
+ghost use Rattle.glob_rules.specs.Tables.{IsTableOfRules};
 ghost use Rattle.glob_rules.specs.declared.Case.TheVariants.{Sensitive};
 
 use super::ParseIgnore;
-use super::line::{Entry, read_rules};
+use super::line::{Entry, read_ignore_rules};
 use super::table::Table;
 use crate::Case;
 use gitbase_core::OutOfMemory;
@@ -30,18 +30,18 @@ impl Model for Entries {
     ghost use Rattle.std.specs.Prelude.{List, IfSome};
     ghost use Rattle.glob_rules.specs.declared.ignore.line.Entry.{Entry};
     ghost use Rattle.glob_rules.specs.declared.ignore.table.Table.{Table};
-    ghost use Rattle.glob_rules.specs.Tables.{IsTable};
+    ghost use Rattle.glob_rules.specs.Tables.{IsTableOfRules};
 
     ghost Value = { List Entry };
 
     ghost view = { λ e. e.items.items };
 
     ghost invariant = { λ e. IfSome e.table
-        (λ (table : Table). IsTable e.items.items table.sorted.items table.rest.items) };
+        (λ (table : Table). IsTableOfRules e.items.items table.sorted.items table.rest.items) };
 }
 
 /// The last rule that matches a path in its parts.
-fn last_match_of<'a>(
+fn last_matching_entry_by_trial<'a>(
     entries: &'a [Entry],
     name: &[u8],
     relative: Option<&[u8]>,
@@ -49,13 +49,16 @@ fn last_match_of<'a>(
     case: Case,
 ) -> Option<&'a Entry>
     ensures { option_copied result
-        ≡ last_match entries.now name.now (option_copied relative.entry) is_dir case }
+        ≡ last_matching_entry entries.now name.now (option_copied relative.entry) is_dir case }
 {
     let mut at = entries.len();
     while at > 0 {
         at -= 1;
         let entry = &entries[at];
-        if entry.pattern.matches_parts(name, relative, is_dir, case) {
+        if entry
+            .pattern
+            .matches_name_or_relative_path(name, relative, is_dir, case)
+        {
             return Some(entry);
         }
     }
@@ -63,7 +66,7 @@ fn last_match_of<'a>(
 }
 
 /// Equal rules, in the same order.
-fn copy_of(alloc: Global, entries: &[Entry]) -> Result<Vec<Entry>, OutOfMemory>
+fn copy_entries(alloc: Global, entries: &[Entry]) -> Result<Vec<Entry>, OutOfMemory>
     ensures { IfOk result (λ copies. copies.items ≡ entries.now) }
 {
     let mut copies = Vec::with_capacity(alloc, entries.len())?;
@@ -74,9 +77,9 @@ fn copy_of(alloc: Global, entries: &[Entry]) -> Result<Vec<Entry>, OutOfMemory>
 }
 
 /// The tables of rules, where there are so many.
-fn table_of(alloc: Global, entries: &[Entry]) -> Result<Option<Table>, OutOfMemory>
+fn table_if_list_is_long(alloc: Global, entries: &[Entry]) -> Result<Option<Table>, OutOfMemory>
     ensures { IfOk result (λ made. IfSome made
-        (λ table. IsTable entries.now table.sorted.items table.rest.items)) }
+        (λ table. IsTableOfRules entries.now table.sorted.items table.rest.items)) }
 {
     if entries.len() < LONG {
         return Ok(None);
@@ -86,15 +89,15 @@ fn table_of(alloc: Global, entries: &[Entry]) -> Result<Option<Table>, OutOfMemo
 }
 
 /// Equal tables.
-fn copy_of_table(
+fn copy_optional_table(
     alloc: Global,
     table: &Option<Table>,
     _entries: &[Entry],
 ) -> Result<Option<Table>, OutOfMemory>
     requires { IfSome table.now
-        (λ table. IsTable _entries.now table.sorted.items table.rest.items) }
+        (λ table. IsTableOfRules _entries.now table.sorted.items table.rest.items) }
     ensures { IfOk result (λ made. IfSome made
-        (λ table. IsTable _entries.now table.sorted.items table.rest.items)) }
+        (λ table. IsTableOfRules _entries.now table.sorted.items table.rest.items)) }
 {
     let Some(table) = table else {
         return Ok(None);
@@ -123,8 +126,8 @@ impl Entries {
     ) -> Result<Entries, OutOfMemory>
         ensures { IfOk result (λ made. made ≡ rules.entries parse.support_precious bytes.now) }
     {
-        let items = read_rules(alloc, bytes, parse)?;
-        let table = table_of(alloc, &items)?;
+        let items = read_ignore_rules(alloc, bytes, parse)?;
+        let table = table_if_list_is_long(alloc, &items)?;
         Ok(Entries { items, table })
     }
 
@@ -132,13 +135,13 @@ impl Entries {
     pub fn copy(&self, alloc: Global) -> Result<Entries, OutOfMemory>
         ensures { IfOk result (λ copy. copy ≡ self.now) }
     {
-        let items = copy_of(alloc, &self.items)?;
-        let table = copy_of_table(alloc, &self.table, &items)?;
+        let items = copy_entries(alloc, &self.items)?;
+        let table = copy_optional_table(alloc, &self.table, &items)?;
         Ok(Entries { items, table })
     }
 
     /// The last rule that matches a path in its parts.
-    pub fn last_match(
+    pub fn last_matching_entry(
         &self,
         name: &[u8],
         relative: Option<&[u8]>,
@@ -146,27 +149,39 @@ impl Entries {
         case: Case,
     ) -> Option<&Entry>
         ensures { option_copied result
-            ≡ last_match self.now name.now (option_copied relative.entry) is_dir case }
+            ≡ last_matching_entry self.now name.now (option_copied relative.entry) is_dir case }
     {
         match case {
-            Case::Sensitive => self.last_exact(name, relative, is_dir),
-            Case::Fold => last_match_of(&self.items, name, relative, is_dir, Case::Fold),
+            Case::Sensitive => self.last_matching_entry_case_sensitive(name, relative, is_dir),
+            Case::Fold => last_matching_entry_by_trial(
+                &self.items,
+                name,
+                relative,
+                is_dir,
+                Case::Fold,
+            ),
         }
     }
 
     /// The same where case counts.
-    fn last_exact(
+    fn last_matching_entry_case_sensitive(
         &self,
         name: &[u8],
         relative: Option<&[u8]>,
         is_dir: Option<bool>,
     ) -> Option<&Entry>
-        ensures { option_copied result
-            ≡ last_match self.now name.now (option_copied relative.entry) is_dir Sensitive }
+        ensures { option_copied result ≡ last_matching_entry self.now name.now
+            (option_copied relative.entry) is_dir Sensitive }
     {
         match &self.table {
-            Some(table) => table.last_match(&self.items, name, relative, is_dir),
-            None => last_match_of(&self.items, name, relative, is_dir, Case::Sensitive),
+            Some(table) => table.last_matching_entry(&self.items, name, relative, is_dir),
+            None => last_matching_entry_by_trial(
+                &self.items,
+                name,
+                relative,
+                is_dir,
+                Case::Sensitive,
+            ),
         }
     }
 }

@@ -5,7 +5,7 @@ use std::alloc::Global;
 use worktree_fs::{MemoryWorktree, NewNode, PlannedInterrupt};
 use worktree_report::{
     Activity, Attributes, Config, Environment, Permission, Permissions, Report, ReportError, Setup,
-    Trust, load_modules, report_bytes, report_status, worktree_report,
+    Trust, exit_status_of_report_error, load_modules, report_bytes, worktree_report,
 };
 
 /// A submodule `m` at `f`, and a configuration that says that it is active.
@@ -33,7 +33,7 @@ fn tree(alloc: Global) -> Option<MemoryWorktree> {
 }
 
 /// Whether a setup has a configuration of this kind.
-fn names_config(setup: &Setup, source: Source) -> bool {
+fn has_single_config_of_source(setup: &Setup, source: Source) -> bool {
     match setup.configs.as_slice() {
         [named] => named.0 == source && named.1.as_bytes() == b"/c".as_slice(),
         _ => false,
@@ -41,15 +41,15 @@ fn names_config(setup: &Setup, source: Source) -> bool {
 }
 
 /// Whether the setup text is read as it stands.
-pub fn parses(alloc: Global) -> bool {
+pub fn setup_text_parses_as_expected(alloc: Global) -> bool {
     match Setup::parse(alloc, SETUP) {
-        Ok(setup) => names_config(&setup, Source::Local) && setup.options.submodules,
+        Ok(setup) => has_single_config_of_source(&setup, Source::Local) && setup.options.submodules,
         Err(_) => false,
     }
 }
 
 /// Whether the files that tell of submodules give one, with this configuration.
-pub fn loads(alloc: Global) -> Option<bool> {
+pub fn loads_one_submodule(alloc: Global) -> Option<bool> {
     let setup = Setup::parse(alloc, SETUP).ok()?;
     let mut tree = tree(alloc)?;
     let modules = load_modules(alloc, &mut tree, b"/w", &setup).ok()?;
@@ -65,7 +65,7 @@ fn report(alloc: Global, setup: &Setup) -> Option<Report> {
 }
 
 /// Whether the last entry of a report is an active submodule.
-fn ends_active(report: &Report) -> bool {
+fn last_entry_is_active_submodule(report: &Report) -> bool {
     match report.entries.as_slice() {
         [_, last] => match &last.facts {
             Some(facts) => facts.active == Activity::Active
@@ -77,22 +77,22 @@ fn ends_active(report: &Report) -> bool {
 }
 
 /// Whether the report and its text are as they must be.
-pub fn reports(alloc: Global) -> Option<bool> {
+pub fn makes_expected_report_text(alloc: Global) -> Option<bool> {
     let setup = Setup::parse(alloc, SETUP).ok()?;
     let report = report(alloc, &setup)?;
     let text = report_bytes(alloc, &report, &setup.options).ok()?;
-    Some(ends_active(&report) && text.as_bytes() == TEXT)
+    Some(last_entry_is_active_submodule(&report) && text.as_bytes() == TEXT)
 }
 
 /// Whether statuses are those of the program.
-pub fn has_statuses() -> bool {
-    report_status(&ReportError::Modules { line: 1 }) == 5
-        && report_status(&ReportError::ReadFault) == 6
-        && report_status(&ReportError::OutOfMemory) == 8
+pub fn report_errors_have_statuses() -> bool {
+    exit_status_of_report_error(&ReportError::Modules { line: 1 }) == 5
+        && exit_status_of_report_error(&ReportError::ReadFault) == 6
+        && exit_status_of_report_error(&ReportError::OutOfMemory) == 8
 }
 
 /// Whether the defaults admit all but what git's installation has.
-pub fn has_defaults() -> bool {
+pub fn permissions_have_defaults() -> bool {
     Config::default() == Config::all()
         && Attributes::default() == Attributes::all()
         && Permissions::default() == Permissions::secure()
@@ -101,7 +101,7 @@ pub fn has_defaults() -> bool {
 }
 
 /// Whether nothing is admitted from outside a repository that is isolated.
-pub fn isolates() -> bool {
+pub fn isolated_permissions_deny_outside() -> bool {
     let isolated = Permissions::isolated();
     isolated.config == Config::isolated()
         && isolated.attributes == Attributes::isolated()

@@ -1,6 +1,6 @@
 //! A worktree that composes names.
 use crate::tests::rows::A_FILE;
-use crate::tests::{REPORT, USAGE, answers};
+use crate::tests::{REPORT, USAGE, is_answered_as};
 use std::alloc::Global;
 use worktree_fs::{AddError, MemoryWorktree};
 
@@ -35,9 +35,9 @@ static COMPOSED_CALLS: [(&[&[u8]], &[u8]); 4] = [
 ];
 
 /// Whether each of these is answered so.
-fn answers_composed(alloc: Global, tree: &mut MemoryWorktree) -> bool {
+fn answers_composed_calls(alloc: Global, tree: &mut MemoryWorktree) -> bool {
     for (words, text) in COMPOSED_CALLS {
-        if !answers(alloc, words, tree, (0, text, b"")) {
+        if !is_answered_as(alloc, words, tree, (0, text, b"")) {
             return false;
         }
     }
@@ -45,13 +45,13 @@ fn answers_composed(alloc: Global, tree: &mut MemoryWorktree) -> bool {
 }
 
 /// Whether names that were composed are asked for by the word `composed`, and not without it.
-pub fn is_composed(alloc: Global) -> Result<bool, AddError> {
+pub fn composes_only_with_composed_word(alloc: Global) -> Result<bool, AddError> {
     let mut tree = MemoryWorktree::new(alloc, true);
     tree.add(alloc, DECOMPOSED, A_FILE)?;
     tree.add(alloc, b"/s", A_FILE)?;
     Ok(
-        answers_composed(alloc, &mut tree)
-            && answers(alloc, REPORT, &mut tree, (2, b"", USAGE))
+        answers_composed_calls(alloc, &mut tree)
+            && is_answered_as(alloc, REPORT, &mut tree, (2, b"", USAGE))
             && matches!(tree.add(alloc, COMPOSED, A_FILE), Err(AddError::Exists)),
     )
 }

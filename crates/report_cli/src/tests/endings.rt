@@ -1,7 +1,7 @@
 //! How each planner ends where it is refused, or something fails in it: with which status, and with
 //! what it says.
-use crate::tests::ends_so;
 use crate::tests::faults::{Ending, Failing};
+use crate::tests::run_ends_as_expected;
 use std::alloc::Global;
 use worktree_fs::{CallKind, NewNode};
 
@@ -128,15 +128,15 @@ pub static ENDINGS: [Case; 33] = [
 ];
 
 /// Whether this case ends as it says.
-pub fn is_so(alloc: Global, case: &Case) -> bool {
+pub fn case_ends_as_expected(alloc: Global, case: &Case) -> bool {
     let (words, setup, failing, ending) = case;
-    ends_so(alloc, words, CHECKOUT, setup, *failing, *ending)
+    run_ends_as_expected(alloc, words, CHECKOUT, setup, *failing, *ending)
 }
 
 /// Whether each planner says that there is no setup.
-pub fn miss_the_setup(alloc: Global) -> bool {
+pub fn planners_refuse_missing_setup(alloc: Global) -> bool {
     for words in WITHOUT_SETUP {
-        if !ends_so(
+        if !run_ends_as_expected(
             alloc,
             words,
             CHECKOUT,

@@ -1,6 +1,6 @@
 //! Work trees of which it is asked what may be removed, what an update of the submodules would do,
 //! and what became of the index paths.
-use crate::tests::{answers, tree};
+use crate::tests::{is_answered_as, tree};
 use std::alloc::Global;
 use worktree_fs::{MemoryWorktree, NewNode};
 
@@ -286,10 +286,10 @@ static NO_PLANS: [(&[&[u8]], &[u8]); 7] = [
 ];
 
 /// Whether each of these is answered by how it is used.
-pub fn says_usages(alloc: Global) -> bool {
+pub fn wrong_words_show_usages(alloc: Global) -> bool {
     let mut tree = MemoryWorktree::new(alloc, false);
     for (words, usage) in NO_PLANS {
-        if !answers(alloc, words, &mut tree, (2, b"", usage)) {
+        if !is_answered_as(alloc, words, &mut tree, (2, b"", usage)) {
             return false;
         }
     }
@@ -297,20 +297,22 @@ pub fn says_usages(alloc: Global) -> bool {
 }
 
 /// Whether a plan's words are answered as it says, in one order of listing.
-fn is_planned(alloc: Global, plan: &Plan, reversed: bool) -> bool {
+fn plan_is_answered_as_expected(alloc: Global, plan: &Plan, reversed: bool) -> bool {
     match tree(alloc, plan.nodes, plan.setup) {
         Ok(mut tree) => {
-            tree.set_reversed(reversed);
-            answers(alloc, plan.words, &mut tree, (0, plan.out, b""))
+            tree.set_listing_reversed(reversed);
+            is_answered_as(alloc, plan.words, &mut tree, (0, plan.out, b""))
         }
         Err(_) => false,
     }
 }
 
 /// The name of the first plan that is answered otherwise, in one order of listing or the other.
-pub fn first_lie(alloc: Global, plans: &[Plan]) -> Option<&'static str> {
+pub fn first_failing_plan(alloc: Global, plans: &[Plan]) -> Option<&'static str> {
     for plan in plans {
-        if !is_planned(alloc, plan, false) || !is_planned(alloc, plan, true) {
+        if !plan_is_answered_as_expected(alloc, plan, false)
+            || !plan_is_answered_as_expected(alloc, plan, true)
+        {
             return Some(plan.name);
         }
     }

@@ -1,6 +1,6 @@
 //! Faults that a walk goes on with: a report is given, and a plan is not.
-use crate::tests::ends_so;
 use crate::tests::faults::{Ending, Failing, NESTED};
+use crate::tests::run_ends_as_expected;
 use std::alloc::Global;
 use worktree_fs::CallKind;
 
@@ -22,9 +22,14 @@ static SWALLOWED: [Failing; 5] = [
 ];
 
 /// Whether both end so where this fails in them.
-fn clean_and_status_end_so(alloc: Global, failing: Failing, clean: Ending, status: Ending) -> bool {
-    ends_so(alloc, CLEAN, NESTED, b"", failing, clean)
-        && ends_so(alloc, STATUS, NESTED, b"", failing, status)
+fn clean_and_status_end_as_expected(
+    alloc: Global,
+    failing: Failing,
+    clean: Ending,
+    status: Ending,
+) -> bool {
+    run_ends_as_expected(alloc, CLEAN, NESTED, b"", failing, clean)
+        && run_ends_as_expected(alloc, STATUS, NESTED, b"", failing, status)
 }
 
 /// A plan asks for one real path behind its report, and for no more; the walk asks for two.
@@ -32,15 +37,15 @@ fn clean_and_status_end_so(alloc: Global, failing: Failing, clean: Ending, statu
 fn asks_for_one_real_path(rt: HostRuntime) {
     let last = Failing::Call(CallKind::RealPath, 3);
     let none = Failing::Call(CallKind::RealPath, 4);
-    assert!(rt; ends_so(rt.alloc(), CLEAN, NESTED, b"", last, FAULT));
-    assert!(rt; ends_so(rt.alloc(), CLEAN, NESTED, b"", none, (0, b"d/a\n", 0)));
+    assert!(rt; run_ends_as_expected(rt.alloc(), CLEAN, NESTED, b"", last, FAULT));
+    assert!(rt; run_ends_as_expected(rt.alloc(), CLEAN, NESTED, b"", none, (0, b"d/a\n", 0)));
 }
 
 #[test]
 fn plans_nothing_by_a_report_with_a_fault(rt: HostRuntime) {
     let found = b"untracked file - always - -\td/a\nuntracked repository - always - -\td/r\n";
     assert!(rt;
-        clean_and_status_end_so(
+        clean_and_status_end_as_expected(
             rt.alloc(),
             Failing::Nothing,
             (0, b"d/a\n", 0),
@@ -49,7 +54,7 @@ fn plans_nothing_by_a_report_with_a_fault(rt: HostRuntime) {
     );
     for failing in &SWALLOWED {
         assert!(rt;
-            clean_and_status_end_so(rt.alloc(), *failing, FAULT, FAULT),
+            clean_and_status_end_as_expected(rt.alloc(), *failing, FAULT, FAULT),
             "{failing:?}"
         );
     }

@@ -2,38 +2,50 @@
 ghost use Rattle.std.specs.Prelude.{◌≡◌, IfOk};
 ghost use Rattle.tizhagor.specs.Refusals as words;
 
-use crate::lines::files::files_line;
-use crate::lines::index::{entry_reason, file_reason};
-use crate::lines::places::places_line;
-use crate::lines::{FAULT, MEMORY, elsewhere_line, fixed, foreign_line, value_line, with_path};
+use crate::lines::files::line_of_files_error;
+use crate::lines::index::{index_entry_error_reason, index_file_error_reason};
+use crate::lines::places::line_of_places_error;
+use crate::lines::{
+    FAULT, MEMORY, bad_config_value_line, copy_fixed_line, dubious_ownership_line,
+    text_with_escaped_path, variable_not_heeded_line,
+};
 use git_index::IndexFileError;
 use git_setup::GitRefusal;
 use gitbase_core::{Bytes, IndexError, OutOfMemory};
 use std::alloc::Global;
 
 /// The line of an index file outside its grammar.
-fn file_line(alloc: Global, path: &[u8], error: &IndexFileError) -> Result<Bytes, OutOfMemory>
-    ensures { IfOk result (λ line. line ≡ words.git_line (GitRefusal.IndexFile path.now
+fn index_file_error_line(
+    alloc: Global,
+    path: &[u8],
+    error: &IndexFileError,
+) -> Result<Bytes, OutOfMemory>
+    ensures { IfOk result (λ line. line ≡ words.line_of_git_refusal (GitRefusal.IndexFile path.now
         error.now)) }
 {
-    let reason = file_reason(alloc, error)?;
-    with_path(alloc, b"fatal: ", path, reason.as_bytes())
+    let reason = index_file_error_reason(alloc, error)?;
+    text_with_escaped_path(alloc, b"fatal: ", path, reason.as_bytes())
 }
 
 /// The line of an entry that breaks a rule.
-fn entry_line(alloc: Global, path: &[u8], error: &IndexError) -> Result<Bytes, OutOfMemory>
-    ensures { IfOk result (λ line. line ≡ words.git_line (GitRefusal.IndexEntry path.now
+fn index_entry_error_line(
+    alloc: Global,
+    path: &[u8],
+    error: &IndexError,
+) -> Result<Bytes, OutOfMemory>
+    ensures { IfOk result (λ line. line ≡ words.line_of_git_refusal (GitRefusal.IndexEntry path.now
         error.now)) }
 {
-    let reason = entry_reason(alloc, error)?;
-    with_path(alloc, b"fatal: ", path, reason.as_bytes())
+    let reason = index_entry_error_reason(alloc, error)?;
+    text_with_escaped_path(alloc, b"fatal: ", path, reason.as_bytes())
 }
 
 /// The line of a directory that the index leaves out as sparse, and in which something is.
-fn sparse_directory_line(alloc: Global, path: &[u8]) -> Result<Bytes, OutOfMemory>
-    ensures { IfOk result (λ line. line ≡ words.git_line (GitRefusal.SparseDirectory path.now)) }
+fn present_sparse_directory_line(alloc: Global, path: &[u8]) -> Result<Bytes, OutOfMemory>
+    ensures { IfOk result (λ line. line ≡ words.line_of_git_refusal (GitRefusal.SparseDirectory
+        path.now)) }
 {
-    with_path(
+    text_with_escaped_path(
         alloc,
         b"fatal: the index leaves out directory '",
         path,
@@ -42,10 +54,11 @@ fn sparse_directory_line(alloc: Global, path: &[u8]) -> Result<Bytes, OutOfMemor
 }
 
 /// The line of a submodule where names compare without regard to case.
-fn submodule_case_line(alloc: Global, path: &[u8]) -> Result<Bytes, OutOfMemory>
-    ensures { IfOk result (λ line. line ≡ words.git_line (GitRefusal.SubmoduleCase path.now)) }
+fn submodule_ignoring_case_line(alloc: Global, path: &[u8]) -> Result<Bytes, OutOfMemory>
+    ensures { IfOk result (λ line. line ≡ words.line_of_git_refusal (GitRefusal.SubmoduleCase
+        path.now)) }
 {
-    with_path(
+    text_with_escaped_path(
         alloc,
         b"fatal: nothing to remove is named with core.ignoreCase and a submodule; ask git: '",
         path,
@@ -54,66 +67,86 @@ fn submodule_case_line(alloc: Global, path: &[u8]) -> Result<Bytes, OutOfMemory>
 }
 
 /// The line of a directory outside the work tree.
-fn outside_line(alloc: Global, directory: &[u8], root: &[u8]) -> Result<Bytes, OutOfMemory>
+fn directory_outside_repository_line(
+    alloc: Global,
+    directory: &[u8],
+    root: &[u8],
+) -> Result<Bytes, OutOfMemory>
     ensures { IfOk result
-        (λ line. line ≡ words.git_line (GitRefusal.OutsideRoot directory.now root.now)) }
+        (λ line. line ≡ words.line_of_git_refusal (GitRefusal.OutsideRoot directory.now root.now)) }
 {
-    let end = with_path(alloc, b"' is outside repository at '", root, b"'\n")?;
-    with_path(alloc, b"fatal: '", directory, end.as_bytes())
+    let end = text_with_escaped_path(alloc, b"' is outside repository at '", root, b"'\n")?;
+    text_with_escaped_path(alloc, b"fatal: '", directory, end.as_bytes())
 }
 
 /// The line of a path spec whose directory has special bytes.
-fn prefix_line(alloc: Global, text: &[u8], prefix: &[u8]) -> Result<Bytes, OutOfMemory>
-    ensures { IfOk result (λ line. line ≡ words.git_line (GitRefusal.Prefix text.now prefix.now)) }
+fn pathspec_prefix_error_line(
+    alloc: Global,
+    text: &[u8],
+    prefix: &[u8],
+) -> Result<Bytes, OutOfMemory>
+    ensures { IfOk result (λ line. line ≡ words.line_of_git_refusal (GitRefusal.Prefix text.now
+        prefix.now)) }
 {
-    let end = with_path(
+    let end = text_with_escaped_path(
         alloc,
         b"' is not read from directory '",
         prefix,
         b"'; write it from the top, with ':/'\n",
     )?;
-    with_path(alloc, b"fatal: pathspec '", text, end.as_bytes())
+    text_with_escaped_path(alloc, b"fatal: pathspec '", text, end.as_bytes())
 }
 
 /// The line of a setup that is not found.
-pub fn git_line(alloc: Global, refusal: &GitRefusal) -> Result<Bytes, OutOfMemory>
-    ensures { IfOk result (λ line. line ≡ words.git_line refusal.now) }
+pub fn line_of_git_refusal(alloc: Global, refusal: &GitRefusal) -> Result<Bytes, OutOfMemory>
+    ensures { IfOk result (λ line. line ≡ words.line_of_git_refusal refusal.now) }
 {
     match refusal {
-        GitRefusal::Elsewhere { name } => elsewhere_line(alloc, name.as_bytes()),
-        GitRefusal::Places(error) => places_line(alloc, error),
-        GitRefusal::Foreign { path } => foreign_line(alloc, path.as_bytes()),
-        GitRefusal::IndexNode { path } => with_path(
+        GitRefusal::Elsewhere { name } => variable_not_heeded_line(alloc, name.as_bytes()),
+        GitRefusal::Places(error) => line_of_places_error(alloc, error),
+        GitRefusal::Foreign { path } => dubious_ownership_line(alloc, path.as_bytes()),
+        GitRefusal::IndexNode { path } => text_with_escaped_path(
             alloc,
             b"fatal: '",
             path.as_bytes(),
             b"' is no file\n",
         ),
-        GitRefusal::IndexFile { path, error } => file_line(alloc, path.as_bytes(), error),
-        GitRefusal::IndexEntry { path, error } => entry_line(alloc, path.as_bytes(), error),
-        GitRefusal::Files(error) => files_line(alloc, error),
-        GitRefusal::Boolean { path, key } => value_line(alloc, path, key.as_bytes()),
-        GitRefusal::SparseDirectory { path } => sparse_directory_line(alloc, path.as_bytes()),
+        GitRefusal::IndexFile { path, error } => index_file_error_line(
+            alloc,
+            path.as_bytes(),
+            error,
+        ),
+        GitRefusal::IndexEntry { path, error } => index_entry_error_line(
+            alloc,
+            path.as_bytes(),
+            error,
+        ),
+        GitRefusal::Files(error) => line_of_files_error(alloc, error),
+        GitRefusal::Boolean { path, key } => bad_config_value_line(alloc, path, key.as_bytes()),
+        GitRefusal::SparseDirectory { path } => present_sparse_directory_line(
+            alloc,
+            path.as_bytes(),
+        ),
         GitRefusal::OutsideRoot { directory, root } => {
-            outside_line(alloc, directory.as_bytes(), root.as_bytes())
+            directory_outside_repository_line(alloc, directory.as_bytes(), root.as_bytes())
         }
-        GitRefusal::PathSpec { text } => with_path(
+        GitRefusal::PathSpec { text } => text_with_escaped_path(
             alloc,
             b"fatal: bad pathspec '",
             text.as_bytes(),
             b"'\n",
         ),
-        GitRefusal::OutsidePath { text } => with_path(
+        GitRefusal::OutsidePath { text } => text_with_escaped_path(
             alloc,
             b"fatal: '",
             text.as_bytes(),
             b"' is outside repository\n",
         ),
         GitRefusal::Prefix { text, prefix } => {
-            prefix_line(alloc, text.as_bytes(), prefix.as_bytes())
+            pathspec_prefix_error_line(alloc, text.as_bytes(), prefix.as_bytes())
         }
-        GitRefusal::SubmoduleCase { path } => submodule_case_line(alloc, path.as_bytes()),
-        GitRefusal::Fault => fixed(alloc, FAULT),
-        GitRefusal::OutOfMemory => fixed(alloc, MEMORY),
+        GitRefusal::SubmoduleCase { path } => submodule_ignoring_case_line(alloc, path.as_bytes()),
+        GitRefusal::Fault => copy_fixed_line(alloc, FAULT),
+        GitRefusal::OutOfMemory => copy_fixed_line(alloc, MEMORY),
     }
 }

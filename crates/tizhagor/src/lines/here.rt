@@ -2,13 +2,13 @@
 ghost use Rattle.std.specs.Prelude.{◌≡◌, IfOk};
 ghost use Rattle.tizhagor.specs.Refusals as words;
 
-use crate::lines::git::git_line;
-use crate::lines::program::{program_line, program_status};
-use crate::lines::{fault_line, fixed, with_path};
+use crate::lines::git::line_of_git_refusal;
+use crate::lines::program::{line_of_program_refusal, status_of_program_refusal};
+use crate::lines::{copy_fixed_line, fault_line_with_path, text_with_escaped_path};
 use crate::refusal::{HereRefusal, Unchecked, Uncompared};
 use crate::require_force::WrongClean;
 use check_ignore::told;
-use command_line::said;
+use command_line::message_of_misuse;
 use diff_files::Unanswered;
 use gitbase_core::{Bytes, OutOfMemory};
 use ls_files::WrongListing;
@@ -31,13 +31,13 @@ pub fn status_of(refusal: &HereRefusal) -> u8
         | HereRefusal::Uncompared(_)
         | HereRefusal::Unchecked(_)
         | HereRefusal::Cleaning(_) => 128,
-        HereRefusal::Program(refusal) => program_status(refusal),
+        HereRefusal::Program(refusal) => status_of_program_refusal(refusal),
     }
 }
 
 /// The line of a listing that there is not.
-fn listing_line(alloc: Global, wrong: WrongListing) -> Result<Bytes, OutOfMemory>
-    ensures { IfOk result (λ line. line ≡ words.line_of (HereRefusal.Listing wrong)) }
+fn wrong_listing_line(alloc: Global, wrong: WrongListing) -> Result<Bytes, OutOfMemory>
+    ensures { IfOk result (λ line. line ≡ words.line_of_refusal (HereRefusal.Listing wrong)) }
 {
     let mut line = Bytes::from_slice(alloc, b"fatal: ")?;
     line.extend(alloc, wrong.text())?;
@@ -46,8 +46,8 @@ fn listing_line(alloc: Global, wrong: WrongListing) -> Result<Bytes, OutOfMemory
 }
 
 /// The line of a cleaning that there is not.
-fn cleaning_line(alloc: Global, wrong: WrongClean) -> Result<Bytes, OutOfMemory>
-    ensures { IfOk result (λ line. line ≡ words.line_of (HereRefusal.Cleaning wrong)) }
+fn wrong_cleaning_line(alloc: Global, wrong: WrongClean) -> Result<Bytes, OutOfMemory>
+    ensures { IfOk result (λ line. line ≡ words.line_of_refusal (HereRefusal.Cleaning wrong)) }
 {
     let mut line = Bytes::from_slice(alloc, b"fatal: ")?;
     line.extend(alloc, wrong.text())?;
@@ -62,15 +62,15 @@ fn unsupported_form_line(alloc: Global, refused: &Unanswered) -> Result<Bytes, O
     let mut front = Bytes::from_slice(alloc, b"fatal: ")?;
     front.extend(alloc, refused.form.text())?;
     front.extend(alloc, b": '")?;
-    with_path(alloc, front.as_bytes(), refused.path.as_bytes(), b"'\n")
+    text_with_escaped_path(alloc, front.as_bytes(), refused.path.as_bytes(), b"'\n")
 }
 
 /// The line that says why a work tree is not compared with its index.
-fn uncompared_line(alloc: Global, reason: &Uncompared) -> Result<Bytes, OutOfMemory>
-    ensures { IfOk result (λ line. line ≡ words.uncompared_line reason.now) }
+fn line_of_comparison_refusal(alloc: Global, reason: &Uncompared) -> Result<Bytes, OutOfMemory>
+    ensures { IfOk result (λ line. line ≡ words.line_of_comparison_refusal reason.now) }
 {
     match reason {
-        Uncompared::Exclusive => fixed(
+        Uncompared::Exclusive => copy_fixed_line(
             alloc,
             b"fatal: options '--name-only', '--name-status', '--check', and '-s' cannot be used together\n",
         ),
@@ -79,8 +79,8 @@ fn uncompared_line(alloc: Global, reason: &Uncompared) -> Result<Bytes, OutOfMem
 }
 
 /// Why paths are not checked.
-fn unchecked_text(alloc: Global, reason: &Unchecked) -> Result<Bytes, OutOfMemory>
-    ensures { IfOk result (λ text. text ≡ words.unchecked_text reason.now) }
+fn text_of_check_ignore_refusal(alloc: Global, reason: &Unchecked) -> Result<Bytes, OutOfMemory>
+    ensures { IfOk result (λ text. text ≡ words.text_of_check_ignore_refusal reason.now) }
 {
     match reason {
         Unchecked::Wrong(wrong) => Bytes::from_slice(alloc, wrong.text()),
@@ -91,11 +91,11 @@ fn unchecked_text(alloc: Global, reason: &Unchecked) -> Result<Bytes, OutOfMemor
 /// The line that says so.
 ///
 /// See docs/DIFFERENCES.md#check-ignore-lines.
-fn unchecked_line(alloc: Global, reason: &Unchecked) -> Result<Bytes, OutOfMemory>
-    ensures { IfOk result (λ line. line ≡ words.unchecked_line reason.now) }
+fn line_of_check_ignore_refusal(alloc: Global, reason: &Unchecked) -> Result<Bytes, OutOfMemory>
+    ensures { IfOk result (λ line. line ≡ words.line_of_check_ignore_refusal reason.now) }
 {
-    let text = unchecked_text(alloc, reason)?;
-    with_path(alloc, b"fatal: ", text.as_bytes(), b"\n")
+    let text = text_of_check_ignore_refusal(alloc, reason)?;
+    text_with_escaped_path(alloc, b"fatal: ", text.as_bytes(), b"\n")
 }
 
 /// The line on standard error, its line feed included.
@@ -103,51 +103,51 @@ fn unchecked_line(alloc: Global, reason: &Unchecked) -> Result<Bytes, OutOfMemor
 /// # Errors
 ///
 /// Memory was refused.
-fn line_of(alloc: Global, refusal: &HereRefusal) -> Result<Bytes, OutOfMemory>
-    ensures { IfOk result (λ line. line ≡ words.line_of refusal.now) }
+fn line_of_refusal(alloc: Global, refusal: &HereRefusal) -> Result<Bytes, OutOfMemory>
+    ensures { IfOk result (λ line. line ≡ words.line_of_refusal refusal.now) }
 {
     match refusal {
-        HereRefusal::Words(misuse) => said(alloc, misuse),
-        HereRefusal::Absent { directory } => with_path(
+        HereRefusal::Words(misuse) => message_of_misuse(alloc, misuse),
+        HereRefusal::Absent { directory } => text_with_escaped_path(
             alloc,
             b"fatal: cannot change to '",
             directory.as_bytes(),
             b"': No such file or directory\n",
         ),
-        HereRefusal::NotADirectory { directory } => with_path(
+        HereRefusal::NotADirectory { directory } => text_with_escaped_path(
             alloc,
             b"fatal: cannot change to '",
             directory.as_bytes(),
             b"': Not a directory\n",
         ),
-        HereRefusal::NotAtTop { root } => with_path(
+        HereRefusal::NotAtTop { root } => text_with_escaped_path(
             alloc,
             b"fatal: what is to be deleted is told at the top of the work tree; call it there: '",
             root.as_bytes(),
             b"'\n",
         ),
-        HereRefusal::Elsewhere => fixed(
+        HereRefusal::Elsewhere => copy_fixed_line(
             alloc,
             b"fatal: clean is not supported with -C: it works in the current directory\n",
         ),
-        HereRefusal::Git(refusal) => git_line(alloc, refusal),
-        HereRefusal::Listing(wrong) => listing_line(alloc, *wrong),
-        HereRefusal::ExcludeFile { name } => with_path(
+        HereRefusal::Git(refusal) => line_of_git_refusal(alloc, refusal),
+        HereRefusal::Listing(wrong) => wrong_listing_line(alloc, *wrong),
+        HereRefusal::ExcludeFile { name } => text_with_escaped_path(
             alloc,
             b"fatal: cannot use ",
             name.as_bytes(),
             b" as an exclude file\n",
         ),
-        HereRefusal::Uncompared(reason) => uncompared_line(alloc, reason),
-        HereRefusal::Unchecked(reason) => unchecked_line(alloc, reason),
-        HereRefusal::Cleaning(wrong) => cleaning_line(alloc, *wrong),
-        HereRefusal::Program(refusal) => program_line(alloc, refusal),
+        HereRefusal::Uncompared(reason) => line_of_comparison_refusal(alloc, reason),
+        HereRefusal::Unchecked(reason) => line_of_check_ignore_refusal(alloc, reason),
+        HereRefusal::Cleaning(wrong) => wrong_cleaning_line(alloc, *wrong),
+        HereRefusal::Program(refusal) => line_of_program_refusal(alloc, refusal),
     }
 }
 
 /// Whether the worktree, the owners or the stats failed.
-fn is_fault(refusal: &HereRefusal) -> bool
-    ensures { result ≡ words.is_fault refusal.now }
+fn is_fault_refusal(refusal: &HereRefusal) -> bool
+    ensures { result ≡ words.is_fault_refusal refusal.now }
 {
     match refusal {
         HereRefusal::Words(_)
@@ -171,11 +171,16 @@ fn is_fault(refusal: &HereRefusal) -> bool
 /// # Errors
 ///
 /// Memory was refused.
-pub fn line_at(alloc: Global, first: &[u8], refusal: &HereRefusal) -> Result<Bytes, OutOfMemory>
-    ensures { IfOk result (λ line. line ≡ words.line_at first.now refusal.now) }
+pub fn line_of_refusal_with_fault_path(
+    alloc: Global,
+    first: &[u8],
+    refusal: &HereRefusal,
+) -> Result<Bytes, OutOfMemory>
+    ensures { IfOk result (λ line. line ≡ words.line_of_refusal_with_fault_path first.now
+        refusal.now) }
 {
-    if is_fault(refusal) {
-        return fault_line(alloc, first);
+    if is_fault_refusal(refusal) {
+        return fault_line_with_path(alloc, first);
     }
-    line_of(alloc, refusal)
+    line_of_refusal(alloc, refusal)
 }

@@ -2,7 +2,9 @@
 ghost use Rattle.std.specs.Prelude.{◌≡◌, ◌++◌, IfOk};
 ghost use Rattle.tizhagor.specs.IndexLines as words;
 
-use crate::lines::{MEMORY, fixed, with_number, with_path, with_place};
+use crate::lines::{
+    MEMORY, copy_fixed_line, text_with_escaped_path, text_with_number, text_with_number_from_one,
+};
 use git_index::IndexFileError;
 use gitbase_core::{Bytes, IndexError, OutOfMemory};
 use std::alloc::Global;
@@ -11,7 +13,7 @@ use std::alloc::Global;
 const MEND: &[u8] = b"; move it away, and make it anew from HEAD with 'git reset'\n";
 
 /// How an index file is broken, and what mends it.
-fn broken(alloc: Global, reason: &[u8]) -> Result<Bytes, OutOfMemory>
+fn reason_with_repair_advice(alloc: Global, reason: &[u8]) -> Result<Bytes, OutOfMemory>
     ensures { IfOk result (λ line. line ≡ reason.now ++ words.index_repair_advice) }
 {
     let mut line = Bytes::from_slice(alloc, reason)?;
@@ -20,73 +22,82 @@ fn broken(alloc: Global, reason: &[u8]) -> Result<Bytes, OutOfMemory>
 }
 
 /// How an index file is outside its grammar, behind its path.
-pub fn file_reason(alloc: Global, error: &IndexFileError) -> Result<Bytes, OutOfMemory>
-    ensures { IfOk result (λ line. line ≡ words.file_reason error.now) }
+pub fn index_file_error_reason(alloc: Global, error: &IndexFileError) -> Result<Bytes, OutOfMemory>
+    ensures { IfOk result (λ line. line ≡ words.index_file_error_reason error.now) }
 {
     match error {
-        IndexFileError::Short => broken(alloc, b": index file smaller than expected"),
-        IndexFileError::Signature => broken(alloc, b": index file corrupt: bad signature"),
-        IndexFileError::Version { version } => with_number(
+        IndexFileError::Short => reason_with_repair_advice(
+            alloc,
+            b": index file smaller than expected",
+        ),
+        IndexFileError::Signature => reason_with_repair_advice(
+            alloc,
+            b": index file corrupt: bad signature",
+        ),
+        IndexFileError::Version { version } => text_with_number(
             alloc,
             b": index file corrupt: bad index version ",
             *version as usize,
             b"\n",
         ),
-        IndexFileError::Sum => broken(
+        IndexFileError::Sum => reason_with_repair_advice(
             alloc,
             b": index file corrupt: bad index file sha1 signature",
         ),
-        IndexFileError::Entry { at } => with_place(
+        IndexFileError::Entry { at } => text_with_number_from_one(
             alloc,
             b": index file corrupt: entry ",
             *at,
             MEND,
         ),
-        IndexFileError::Extensions => broken(alloc, b": index file corrupt: bad extensions"),
-        IndexFileError::Split => fixed(
+        IndexFileError::Extensions => reason_with_repair_advice(
+            alloc,
+            b": index file corrupt: bad extensions",
+        ),
+        IndexFileError::Split => copy_fixed_line(
             alloc,
             b": the index is split; join it with 'git update-index --no-split-index'\n",
         ),
-        IndexFileError::Unknown { name } => with_path(
+        IndexFileError::Unknown { name } => text_with_escaped_path(
             alloc,
             b": index uses ",
             name,
             b" extension, which we do not understand\n",
         ),
-        IndexFileError::Directory { at } => with_place(
+        IndexFileError::Directory { at } => text_with_number_from_one(
             alloc,
             b": index file corrupt: directory at entry ",
             *at,
             MEND,
         ),
-        IndexFileError::OutOfMemory => fixed(alloc, MEMORY),
+        IndexFileError::OutOfMemory => copy_fixed_line(alloc, MEMORY),
     }
 }
 
 /// Which rule an entry breaks, behind the path of the index file.
-pub fn entry_reason(alloc: Global, error: &IndexError) -> Result<Bytes, OutOfMemory>
-    ensures { IfOk result (λ line. line ≡ words.entry_reason error.now) }
+pub fn index_entry_error_reason(alloc: Global, error: &IndexError) -> Result<Bytes, OutOfMemory>
+    ensures { IfOk result (λ line. line ≡ words.index_entry_error_reason error.now) }
 {
     match error {
-        IndexError::Path { at } => with_place(
+        IndexError::Path { at } => text_with_number_from_one(
             alloc,
             b": index file corrupt: bad path at entry ",
             *at,
             MEND,
         ),
-        IndexError::ModePath { at } => with_place(
+        IndexError::ModePath { at } => text_with_number_from_one(
             alloc,
             b": index file corrupt: bad mode at entry ",
             *at,
             MEND,
         ),
-        IndexError::NotAscending { at } => with_place(
+        IndexError::NotAscending { at } => text_with_number_from_one(
             alloc,
             b": unordered entries in index: entry ",
             *at,
             MEND,
         ),
-        IndexError::Stage { at } => with_place(
+        IndexError::Stage { at } => text_with_number_from_one(
             alloc,
             b": unordered stage entries in index: entry ",
             *at,

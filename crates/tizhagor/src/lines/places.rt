@@ -2,16 +2,20 @@
 ghost use Rattle.std.specs.Prelude.{◌≡◌, IfOk};
 ghost use Rattle.tizhagor.specs.PlacesLines as words;
 
-use crate::lines::{FAULT, MEMORY, config_line, fixed, in_file, value_line, with_file, with_path};
+use crate::lines::{
+    FAULT, MEMORY, bad_config_line, bad_config_value_line, copy_fixed_line,
+    optional_in_file_ending, text_with_escaped_path, text_with_optional_file,
+};
 use git_places::PlacesError;
 use gitbase_core::{Bytes, OutOfMemory, PathText};
 use std::alloc::Global;
 
 /// The line of a search that ended at the border of a file system.
-fn border_line(alloc: Global, path: &[u8]) -> Result<Bytes, OutOfMemory>
-    ensures { IfOk result (λ line. line ≡ words.places_line (PlacesError.Border path.now)) }
+fn filesystem_boundary_line(alloc: Global, path: &[u8]) -> Result<Bytes, OutOfMemory>
+    ensures { IfOk result (λ line. line ≡ words.line_of_places_error
+        (PlacesError.Border path.now)) }
 {
-    with_path(
+    text_with_escaped_path(
         alloc,
         b"fatal: not a git repository (or any parent up to mount point ",
         path,
@@ -20,24 +24,27 @@ fn border_line(alloc: Global, path: &[u8]) -> Result<Bytes, OutOfMemory>
 }
 
 /// The line of a file `.git` outside its format.
-fn gitfile_form_line(alloc: Global, path: &[u8]) -> Result<Bytes, OutOfMemory>
-    ensures { IfOk result (λ line. line ≡ words.places_line (PlacesError.GitFileForm path.now)) }
+fn invalid_gitfile_format_line(alloc: Global, path: &[u8]) -> Result<Bytes, OutOfMemory>
+    ensures { IfOk result (λ line. line ≡ words.line_of_places_error (PlacesError.GitFileForm
+        path.now)) }
 {
-    with_path(alloc, b"fatal: invalid gitfile format: ", path, b"\n")
+    text_with_escaped_path(alloc, b"fatal: invalid gitfile format: ", path, b"\n")
 }
 
 /// The line of a file `.git` that names no git directory.
-fn gitfile_target_line(alloc: Global, path: &[u8]) -> Result<Bytes, OutOfMemory>
-    ensures { IfOk result (λ line. line ≡ words.places_line (PlacesError.GitFileTarget path.now)) }
+fn gitfile_without_repository_line(alloc: Global, path: &[u8]) -> Result<Bytes, OutOfMemory>
+    ensures { IfOk result (λ line. line ≡ words.line_of_places_error (PlacesError.GitFileTarget
+        path.now)) }
 {
-    with_path(alloc, b"fatal: not a git repository: ", path, b"\n")
+    text_with_escaped_path(alloc, b"fatal: not a git repository: ", path, b"\n")
 }
 
 /// The line of a `HEAD` that git may read in another way.
-fn odd_head_line(alloc: Global, path: &[u8]) -> Result<Bytes, OutOfMemory>
-    ensures { IfOk result (λ line. line ≡ words.places_line (PlacesError.OddHead path.now)) }
+fn ambiguous_head_line(alloc: Global, path: &[u8]) -> Result<Bytes, OutOfMemory>
+    ensures { IfOk result (λ line. line ≡ words.line_of_places_error
+        (PlacesError.OddHead path.now)) }
 {
-    with_path(
+    text_with_escaped_path(
         alloc,
         b"fatal: '",
         path,
@@ -46,18 +53,23 @@ fn odd_head_line(alloc: Global, path: &[u8]) -> Result<Bytes, OutOfMemory>
 }
 
 /// The line of a `commondir` that names no directory.
-fn commondir_line(alloc: Global, path: &[u8]) -> Result<Bytes, OutOfMemory>
-    ensures { IfOk result (λ line. line ≡ words.places_line (PlacesError.CommonDir path.now)) }
+fn invalid_commondir_line(alloc: Global, path: &[u8]) -> Result<Bytes, OutOfMemory>
+    ensures { IfOk result (λ line. line ≡ words.line_of_places_error
+        (PlacesError.CommonDir path.now)) }
 {
-    with_path(alloc, b"fatal: '", path, b"' names no directory\n")
+    text_with_escaped_path(alloc, b"fatal: '", path, b"' names no directory\n")
 }
 
 /// The line of a repository format that is not read.
-fn version_line(alloc: Global, path: &Option<PathText>, value: &[u8]) -> Result<Bytes, OutOfMemory>
+fn repository_version_line(
+    alloc: Global,
+    path: &Option<PathText>,
+    value: &[u8],
+) -> Result<Bytes, OutOfMemory>
     ensures { IfOk result
-        (λ line. line ≡ words.places_line (PlacesError.Version path.now value.now)) }
+        (λ line. line ≡ words.line_of_places_error (PlacesError.Version path.now value.now)) }
 {
-    with_file(
+    text_with_optional_file(
         alloc,
         b"fatal: Expected git repo version <= 1, found ",
         value,
@@ -67,11 +79,15 @@ fn version_line(alloc: Global, path: &Option<PathText>, value: &[u8]) -> Result<
 }
 
 /// The line of an extension of the repository that is not known.
-fn extension_line(alloc: Global, path: &Option<PathText>, key: &[u8]) -> Result<Bytes, OutOfMemory>
+fn unknown_extension_line(
+    alloc: Global,
+    path: &Option<PathText>,
+    key: &[u8],
+) -> Result<Bytes, OutOfMemory>
     ensures { IfOk result
-        (λ line. line ≡ words.places_line (PlacesError.Extension path.now key.now)) }
+        (λ line. line ≡ words.line_of_places_error (PlacesError.Extension path.now key.now)) }
 {
-    with_file(
+    text_with_optional_file(
         alloc,
         b"fatal: unknown repository extension found: ",
         key,
@@ -81,54 +97,62 @@ fn extension_line(alloc: Global, path: &Option<PathText>, key: &[u8]) -> Result<
 }
 
 /// The line of a repository whose ids are of SHA-256.
-fn sha256_line(alloc: Global, path: &Option<PathText>) -> Result<Bytes, OutOfMemory>
-    ensures { IfOk result (λ line. line ≡ words.places_line (PlacesError.Sha256 path.now)) }
+fn unsupported_sha256_line(alloc: Global, path: &Option<PathText>) -> Result<Bytes, OutOfMemory>
+    ensures { IfOk result (λ line. line ≡ words.line_of_places_error
+        (PlacesError.Sha256 path.now)) }
 {
-    let mut line = fixed(
+    let mut line = copy_fixed_line(
         alloc,
         b"fatal: a repository with ids of SHA-256 is not read",
     )?;
-    let end = in_file(alloc, path)?;
+    let end = optional_in_file_ending(alloc, path)?;
     line.extend(alloc, end.as_bytes())?;
     Ok(line)
 }
 
 /// The line of a work tree that is not found, or of a repository that is not read.
-pub fn places_line(alloc: Global, error: &PlacesError) -> Result<Bytes, OutOfMemory>
-    ensures { IfOk result (λ line. line ≡ words.places_line error.now) }
+pub fn line_of_places_error(alloc: Global, error: &PlacesError) -> Result<Bytes, OutOfMemory>
+    ensures { IfOk result (λ line. line ≡ words.line_of_places_error error.now) }
 {
     match error {
-        PlacesError::NoRepository => fixed(
+        PlacesError::NoRepository => copy_fixed_line(
             alloc,
             b"fatal: not a git repository (or any of the parent directories): .git\n",
         ),
-        PlacesError::Border { path } => border_line(alloc, path.as_bytes()),
-        PlacesError::NoDirectory { path } => with_path(
+        PlacesError::Border { path } => filesystem_boundary_line(alloc, path.as_bytes()),
+        PlacesError::NoDirectory { path } => text_with_escaped_path(
             alloc,
             b"fatal: failed to stat '",
             path.as_bytes(),
             b"': No such file or directory\n",
         ),
-        PlacesError::Bare { path: _ } => fixed(
+        PlacesError::Bare { path: _ } => copy_fixed_line(
             alloc,
             b"fatal: this operation must be run in a work tree\n",
         ),
-        PlacesError::GitFileForm { path } => gitfile_form_line(alloc, path.as_bytes()),
-        PlacesError::GitFileTarget { path } => gitfile_target_line(alloc, path.as_bytes()),
-        PlacesError::OddHead { path } => odd_head_line(alloc, path.as_bytes()),
-        PlacesError::CommonDir { path } => commondir_line(alloc, path.as_bytes()),
-        PlacesError::Version { path, value } => version_line(alloc, path, value.as_bytes()),
-        PlacesError::Extension { path, key } => extension_line(alloc, path, key.as_bytes()),
-        PlacesError::Sha256 { path } => sha256_line(alloc, path),
-        PlacesError::Value { path, key } => value_line(alloc, path, key.as_bytes()),
-        PlacesError::Config { path, line } => config_line(alloc, path.as_bytes(), *line),
-        PlacesError::NoWorkTree { path } => with_path(
+        PlacesError::GitFileForm { path } => invalid_gitfile_format_line(alloc, path.as_bytes()),
+        PlacesError::GitFileTarget { path } => gitfile_without_repository_line(
+            alloc,
+            path.as_bytes(),
+        ),
+        PlacesError::OddHead { path } => ambiguous_head_line(alloc, path.as_bytes()),
+        PlacesError::CommonDir { path } => invalid_commondir_line(alloc, path.as_bytes()),
+        PlacesError::Version { path, value } => repository_version_line(
+            alloc,
+            path,
+            value.as_bytes(),
+        ),
+        PlacesError::Extension { path, key } => unknown_extension_line(alloc, path, key.as_bytes()),
+        PlacesError::Sha256 { path } => unsupported_sha256_line(alloc, path),
+        PlacesError::Value { path, key } => bad_config_value_line(alloc, path, key.as_bytes()),
+        PlacesError::Config { path, line } => bad_config_line(alloc, path.as_bytes(), *line),
+        PlacesError::NoWorkTree { path } => text_with_escaped_path(
             alloc,
             b"fatal: core.worktree names no directory: '",
             path.as_bytes(),
             b"'\n",
         ),
-        PlacesError::Fault => fixed(alloc, FAULT),
-        PlacesError::OutOfMemory => fixed(alloc, MEMORY),
+        PlacesError::Fault => copy_fixed_line(alloc, FAULT),
+        PlacesError::OutOfMemory => copy_fixed_line(alloc, MEMORY),
     }
 }

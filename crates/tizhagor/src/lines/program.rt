@@ -2,14 +2,17 @@
 ghost use Rattle.std.specs.Prelude.{◌≡◌, IfOk};
 ghost use Rattle.tizhagor.specs.ProgramLines as words;
 
-use crate::lines::{FAULT, MEMORY, OUTPUT, config_line, fixed, with_number, with_path};
+use crate::lines::{
+    FAULT, MEMORY, OUTPUT, bad_config_line, copy_fixed_line, text_with_escaped_path,
+    text_with_number,
+};
 use gitbase_core::{Bytes, OutOfMemory};
 use std::alloc::Global;
 use worktree_report::{Misread, Refusal, WalkWord};
 
 /// What a walk is refused for, before the path.
-fn walk_phrase(word: WalkWord) -> &'static [u8]
-    ensures { result.now ≡ words.walk_phrase word }
+fn phrase_of_walk_refusal(word: WalkWord) -> &'static [u8]
+    ensures { result.now ≡ words.phrase_of_walk_refusal word }
 {
     match word {
         WalkWord::RootIsFile => b"fatal: the top of the work tree is no directory: '",
@@ -29,20 +32,21 @@ fn walk_phrase(word: WalkWord) -> &'static [u8]
 }
 
 /// The line of a configuration by its place among those of the setup.
-fn numbered_config(alloc: Global, at: usize, line: usize) -> Result<Bytes, OutOfMemory>
-    ensures { IfOk result (λ text. text ≡ words.misread_line (Misread.Config at line)) }
+fn bad_numbered_config_line(alloc: Global, at: usize, line: usize) -> Result<Bytes, OutOfMemory>
+    ensures { IfOk result (λ text. text ≡ words.line_of_misread_submodules
+        (Misread.Config at line)) }
 {
-    let end = with_number(alloc, b" in configuration ", at, b"\n")?;
-    with_number(alloc, b"fatal: bad config line ", line, end.as_bytes())
+    let end = text_with_number(alloc, b" in configuration ", at, b"\n")?;
+    text_with_number(alloc, b"fatal: bad config line ", line, end.as_bytes())
 }
 
-fn misread_line(alloc: Global, misread: Misread) -> Result<Bytes, OutOfMemory>
-    ensures { IfOk result (λ text. text ≡ words.misread_line misread) }
+fn line_of_misread_submodules(alloc: Global, misread: Misread) -> Result<Bytes, OutOfMemory>
+    ensures { IfOk result (λ text. text ≡ words.line_of_misread_submodules misread) }
 {
     match misread {
-        Misread::Config { at, line } => numbered_config(alloc, at, line),
-        Misread::Modules { line } => config_line(alloc, b".gitmodules", line),
-        Misread::ActiveSpec { at } => with_number(
+        Misread::Config { at, line } => bad_numbered_config_line(alloc, at, line),
+        Misread::Modules { line } => bad_config_line(alloc, b".gitmodules", line),
+        Misread::ActiveSpec { at } => text_with_number(
             alloc,
             b"fatal: bad config value for 'submodule.active': value ",
             at,
@@ -52,29 +56,29 @@ fn misread_line(alloc: Global, misread: Misread) -> Result<Bytes, OutOfMemory>
 }
 
 /// The line of a command that gives no text by a setup.
-pub fn program_line(alloc: Global, refusal: &Refusal) -> Result<Bytes, OutOfMemory>
-    ensures { IfOk result (λ line. line ≡ words.program_line refusal.now) }
+pub fn line_of_program_refusal(alloc: Global, refusal: &Refusal) -> Result<Bytes, OutOfMemory>
+    ensures { IfOk result (λ line. line ≡ words.line_of_program_refusal refusal.now) }
 {
     match refusal {
-        Refusal::Interrupted => fixed(alloc, b"fatal: interrupted\n"),
-        Refusal::Usage => fixed(alloc, b"fatal: nothing is asked\n"),
-        Refusal::Setup { line } => with_number(alloc, b"fatal: bad setup line ", *line, b"\n"),
-        Refusal::Walk { word, path } => with_path(
+        Refusal::Interrupted => copy_fixed_line(alloc, b"fatal: interrupted\n"),
+        Refusal::Usage => copy_fixed_line(alloc, b"fatal: nothing is asked\n"),
+        Refusal::Setup { line } => text_with_number(alloc, b"fatal: bad setup line ", *line, b"\n"),
+        Refusal::Walk { word, path } => text_with_escaped_path(
             alloc,
-            walk_phrase(*word),
+            phrase_of_walk_refusal(*word),
             path.as_bytes(),
             b"'\n",
         ),
-        Refusal::Misread(misread) => misread_line(alloc, *misread),
-        Refusal::Fault => fixed(alloc, FAULT),
-        Refusal::Output => fixed(alloc, OUTPUT),
-        Refusal::OutOfMemory => fixed(alloc, MEMORY),
+        Refusal::Misread(misread) => line_of_misread_submodules(alloc, *misread),
+        Refusal::Fault => copy_fixed_line(alloc, FAULT),
+        Refusal::Output => copy_fixed_line(alloc, OUTPUT),
+        Refusal::OutOfMemory => copy_fixed_line(alloc, MEMORY),
     }
 }
 
 /// The status of a command that gives no text by a setup.
-pub fn program_status(refusal: &Refusal) -> u8
-    ensures { result ≡ words.program_status refusal.now }
+pub fn status_of_program_refusal(refusal: &Refusal) -> u8
+    ensures { result ≡ words.status_of_program_refusal refusal.now }
 {
     match refusal {
         Refusal::Interrupted => 130,

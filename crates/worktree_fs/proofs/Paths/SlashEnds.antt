@@ -9,10 +9,10 @@ use Rattle.std.proofs.lemmas.List.Sums.{suffix_len-le-length}
 use Rattle.std.proofs.lemmas.Str.Pattern.{ends_char}
 use Rattle.std.proofs.lemmas.Bool.Decides.{nat_tests}
 use Rattle.gitbase_core.specs.Path.{is_slash}
-use Rattle.worktree_fs.specs.Disk.{without_slashes, or_root}
+use Rattle.worktree_fs.specs.Disk.{without_trailing_slashes, root_if_empty}
 
 -- one more slash at the end is cut off too
-one_more : (path : List ℕ) → without_slashes (path ++ 47 ∷ []) ≡ without_slashes path
+one_more : (path : List ℕ) → without_trailing_slashes (path ++ 47 ∷ []) ≡ without_trailing_slashes path
 one_more path =
     let more : suffix_len is_slash (path ++ 47 ∷ []) ≡ 1 + suffix_len is_slash path = ap (prefix_len is_slash) (reverse-append path (47 ∷ [])) in
     let few : suffix_len is_slash path ≤ length path = suffix_len-le-length is_slash path in
@@ -32,7 +32,7 @@ no_slash_at_end path none = go (reverse path) (sym (reverse-reverse path))
       | inr not ↦ grind (arith, nat_tests)
     ]
 
-stays : (path : List ℕ) → ((front : List ℕ) → path ≡ front ++ 47 ∷ [] → ⊥) → without_slashes path ≡ path
+stays : (path : List ℕ) → ((front : List ℕ) → path ≡ front ++ 47 ∷ [] → ⊥) → without_trailing_slashes path ≡ path
 stays path none =
     let no : suffix_len is_slash path ≡ 0 = no_slash_at_end path none in
     take_all (length path - suffix_len is_slash path) path (omega (arith, no))
@@ -45,17 +45,17 @@ found_slash path n found =
     (ends_char 47 path true (n, found, fits, subst (λ k. IsCharBoundary path (length path - k)) (sym one) found.2) (omega arith)).0 refl
     ∙ ap (λ (k : ℕ). take (length path - k) path ++ 47 ∷ []) (sym one)
 
-cut_off : (path rest : List ℕ) (ns : List ℕ) → CutsSuffixes (FindsCharSuffix 47) path ns rest → without_slashes path ≡ without_slashes rest
-cut_off path rest [] cuts = ap without_slashes (sym cuts)
+cut_off : (path rest : List ℕ) (ns : List ℕ) → CutsSuffixes (FindsCharSuffix 47) path ns rest → without_trailing_slashes path ≡ without_trailing_slashes rest
+cut_off path rest [] cuts = ap without_trailing_slashes (sym cuts)
 cut_off path rest (n ∷ ns) cuts =
     let before = cuts.0 in
     cut_off path before ns cuts.1
-    ∙ ap without_slashes (found_slash before n cuts.2)
+    ∙ ap without_trailing_slashes (found_slash before n cuts.2)
     ∙ one_more (take (length before - n) before)
-    ∙ ap without_slashes (sym cuts.3)
+    ∙ ap without_trailing_slashes (sym cuts.3)
 
 -- What std cuts off the end of a text by the character of a slash.
-pub trimmed_slashes : (path rest : List ℕ) → IsTrimEndMatches (FindsCharSuffix 47) path rest → rest ≡ without_slashes path
+pub trimmed_slashes : (path rest : List ℕ) → IsTrimEndMatches (FindsCharSuffix 47) path rest → rest ≡ without_trailing_slashes path
 trimmed_slashes path rest trims =
     let full = trims.1 in
     let none : (front : List ℕ) → rest ≡ front ++ 47 ∷ [] → ⊥ = ends rest full.0 full.1 full.2 in
@@ -65,10 +65,10 @@ trimmed_slashes path rest trims =
     ends rest None found zero front e = cc ((ends_char 47 rest false found (omega arith)).1 front e)
     ends rest (Some n) found zero front e = omega (arith, found.0, zero)
 
-pub no_path : (path : List ℕ) → (length path == 0) ≡ true → or_root path ≡ 47 ∷ []
+pub no_path : (path : List ℕ) → (length path == 0) ≡ true → root_if_empty path ≡ 47 ∷ []
 no_path [] e = refl
 no_path (b ∷ path) e = grind (arith, nat_tests)
 
-pub a_path : (path : List ℕ) → (length path == 0) ≡ false → or_root path ≡ path
+pub a_path : (path : List ℕ) → (length path == 0) ≡ false → root_if_empty path ≡ path
 a_path [] e = grind (arith, nat_tests)
 a_path (b ∷ path) e = refl

@@ -2,18 +2,18 @@
 use Rattle.std.proofs.Common.{◌≡◌, ℕ, List, [], ◌∷◌, ◌++◌, reverse, refl, sym, ap, subst, ◌∙◌, arith}
 use Rattle.std.specs.Prelude.{unwrap_or}
 use Rattle.std.proofs.lemmas.List.{append-nil, get_or_default, reverse-append, reverse-reverse}
-use Rattle.gitbase_core.specs.Path.{is_slash, components, joined, parent, path_of}
+use Rattle.gitbase_core.specs.Path.{is_slash, components, path_joined_with_slash, parent, path_from_reversed_components}
 use Rattle.gitbase_core.proofs.Names.{IsName, AreNames, AreNames-components}
 use Rattle.gitbase_core.proofs.PathNames.{components-name}
 use Rattle.gitbase_core.proofs.ClosedPaths.{IsClosed-path_of, joined-closed, parent-path_of}
-use Rattle.worktree_fs.specs.Paths.{IsComponent, spelled, all_but_last}
+use Rattle.worktree_fs.specs.Paths.{IsSinglePathComponent, slash_joined_components, all_but_last}
 use Rattle.worktree_fs.proofs.Paths.Texts.{pieces-join}
 
 -- a component, by its bytes
-pub name_from : (name : List ℕ) → IsComponent name → IsName name
+pub name_from : (name : List ℕ) → IsSinglePathComponent name → IsName name
 name_from name is = (subst AreNames is (AreNames-components name)).0
 
-pub component_from : (name : List ℕ) → IsName name → IsComponent name
+pub component_from : (name : List ℕ) → IsName name → IsSinglePathComponent name
 component_from name is =
     ap components (sym (append-nil name))
     ∙ components-name name [] is.some (λ k d low. ap is_slash (get_or_default name k d 0 low) ∙ is.plain k low) (λ more. absurd (omega arith))
@@ -40,11 +40,11 @@ without_last-snoc [] x = refl
 without_last-snoc (a ∷ []) x = refl
 without_last-snoc (a ∷ b ∷ xs) x = ap (λ l. a ∷ l) (without_last-snoc (b ∷ xs) x)
 
-components-path_of : (below : List (List ℕ)) → AreNames below → components (path_of below) ≡ reverse below
+components-path_of : (below : List (List ℕ)) → AreNames below → components (path_from_reversed_components below) ≡ reverse below
 components-path_of [] are = refl
 components-path_of (name ∷ []) are = component_from name are.0
 components-path_of (name ∷ next ∷ below) are =
-    let front : List ℕ = path_of (next ∷ below) in
+    let front : List ℕ = path_from_reversed_components (next ∷ below) in
     ap components (joined-closed front name (IsClosed-path_of next below are.1.0 are.1.1))
     ∙ pieces-join front name
     ∙ ap (λ l. l ++ components name) (components-path_of (next ∷ below) are.1)
@@ -52,35 +52,35 @@ components-path_of (name ∷ next ∷ below) are =
     ∙ sym (reverse-cons name (next ∷ below))
 
 -- a path is read back into its components
-pub components-spelled : (names : List (List ℕ)) → AreNames names → components (spelled names) ≡ names
+pub components-spelled : (names : List (List ℕ)) → AreNames names → components (slash_joined_components names) ≡ names
 components-spelled names are = components-path_of (reverse names) (AreNames-reverse names are) ∙ reverse-reverse names
 
-pub spelled-snoc : (names : List (List ℕ)) (name : List ℕ) → spelled (names ++ name ∷ []) ≡ joined (spelled names) name
-spelled-snoc names name = ap path_of (reverse-append names (name ∷ []))
+pub spelled-snoc : (names : List (List ℕ)) (name : List ℕ) → slash_joined_components (names ++ name ∷ []) ≡ path_joined_with_slash (slash_joined_components names) name
+spelled-snoc names name = ap path_from_reversed_components (reverse-append names (name ∷ []))
 
 -- the path above, from the components with the last one first
-above : (below : List (List ℕ)) → AreNames below → unwrap_or (parent (path_of below)) [] ≡ spelled (all_but_last (reverse below))
+above : (below : List (List ℕ)) → AreNames below → unwrap_or (parent (path_from_reversed_components below)) [] ≡ slash_joined_components (all_but_last (reverse below))
 above [] are = refl
 above (name ∷ below) are =
     ap (λ o. unwrap_or o []) (parent-path_of name below are.0 are.1)
-    ∙ sym (ap path_of (ap (λ l. reverse (all_but_last l)) (reverse-cons name below) ∙ ap reverse (without_last-snoc (reverse below) name) ∙ reverse-reverse below))
+    ∙ sym (ap path_from_reversed_components (ap (λ l. reverse (all_but_last l)) (reverse-cons name below) ∙ ap reverse (without_last-snoc (reverse below) name) ∙ reverse-reverse below))
 
-pub parent-spelled : (names : List (List ℕ)) → AreNames names → unwrap_or (parent (spelled names)) [] ≡ spelled (all_but_last names)
+pub parent-spelled : (names : List (List ℕ)) → AreNames names → unwrap_or (parent (slash_joined_components names)) [] ≡ slash_joined_components (all_but_last names)
 parent-spelled names are =
-    above (reverse names) (AreNames-reverse names are) ∙ ap (λ l. spelled (all_but_last l)) (reverse-reverse names)
+    above (reverse names) (AreNames-reverse names are) ∙ ap (λ l. slash_joined_components (all_but_last l)) (reverse-reverse names)
 
 -- a path that is spelled by its components, with one more of them, and with one less
-module _ (path name : List ℕ) (is : path ≡ spelled (components path)) where
-  pub grown-is : IsComponent name → joined path name ≡ spelled (components path ++ name ∷ [])
-  grown-is component = ap (λ p. joined p name) is ∙ sym (spelled-snoc (components path) name)
+module _ (path name : List ℕ) (is : path ≡ slash_joined_components (components path)) where
+  pub grown-is : IsSinglePathComponent name → path_joined_with_slash path name ≡ slash_joined_components (components path ++ name ∷ [])
+  grown-is component = ap (λ p. path_joined_with_slash p name) is ∙ sym (spelled-snoc (components path) name)
 
-  pub grown-components : IsComponent name → components (joined path name) ≡ components path ++ name ∷ []
+  pub grown-components : IsSinglePathComponent name → components (path_joined_with_slash path name) ≡ components path ++ name ∷ []
   grown-components component =
       ap components (grown-is component)
       ∙ components-spelled (components path ++ name ∷ []) (AreNames-append (components path) (name ∷ []) (AreNames-components path) (name_from name component, tt))
 
-module _ (path : List ℕ) (is : path ≡ spelled (components path)) where
-  pub cut-is : unwrap_or (parent path) [] ≡ spelled (all_but_last (components path))
+module _ (path : List ℕ) (is : path ≡ slash_joined_components (components path)) where
+  pub cut-is : unwrap_or (parent path) [] ≡ slash_joined_components (all_but_last (components path))
   cut-is = ap (λ p. unwrap_or (parent p) []) is ∙ parent-spelled (components path) (AreNames-components path)
 
   pub cut-components : components (unwrap_or (parent path) []) ≡ all_but_last (components path)

@@ -8,10 +8,10 @@ use Rattle.std.proofs.lemmas.Bool.Decides.{nat_tests}
 use Rattle.std.proofs.lemmas.List.{append-nil, length-append, drop_at, get_or_at}
 use Rattle.std.proofs.Math.Seq.{take-append_seam}
 use Rattle.std.proofs.lemmas.Str.{IsUtf8-nil, IsUtf8-append, IsUtf8-take, IsUtf8-drop, IsCharBoundary-before_ascii, IsCharBoundary-after_ascii, IsUtf8-from_is_utf8, is_utf8-from_IsUtf8}
-use Rattle.gitbase_core.specs.Path.{is_slash, is_empty, pieces, components}
-use Rattle.worktree_fs.specs.Tree.{is_text, is_dot, is_dot_dot}
-use Rattle.worktree_fs.specs.Grow.{is_full_path}
-use Rattle.worktree_fs.specs.Naming.{IsName, is_name}
+use Rattle.gitbase_core.specs.Path.{is_slash, is_empty, pieces_between_slashes, components}
+use Rattle.worktree_fs.specs.Tree.{is_utf8_without_nul, is_dot, is_dot_dot}
+use Rattle.worktree_fs.specs.Grow.{is_absolute_path_of_valid_names}
+use Rattle.worktree_fs.specs.Naming.{IsValidEntryName, is_valid_entry_name}
 use Rattle.worktree_fs.proofs.Paths.NameParts.{name_parts}
 use Rattle.worktree_fs.proofs.Paths.Parts.{all_names}
 use Rattle.worktree_fs.proofs.Paths.Texts.{is_text-slash}
@@ -48,31 +48,31 @@ one_more : (front : List ℕ) (b : ℕ) (parts : List (List ℕ)) → AreFronted
 one_more front b [] are = (are, tt)
 one_more front b (first ∷ others) are = (subst IsUtf8 (append_assoc front (b ∷ []) first) are.0, are.1)
 
-fronted : (front bytes : List ℕ) → IsUtf8 (front ++ bytes) → AreFronted front (pieces bytes)
+fronted : (front bytes : List ℕ) → IsUtf8 (front ++ bytes) → AreFronted front (pieces_between_slashes bytes)
 fronted front [] text = (text, tt)
 fronted front (b ∷ bytes) text = go (is_slash b) refl (λ more. fronted more bytes)
   where
-    go : (t : Bool) → is_slash b ≡ t → ((more : List ℕ) → IsUtf8 (more ++ bytes) → AreFronted more (pieces bytes)) → AreFronted front (cond t ([] ∷ pieces bytes) (onto_first b (pieces bytes)))
+    go : (t : Bool) → is_slash b ≡ t → ((more : List ℕ) → IsUtf8 (more ++ bytes) → AreFronted more (pieces_between_slashes bytes)) → AreFronted front (cond t ([] ∷ pieces_between_slashes bytes) (onto_first b (pieces_between_slashes bytes)))
     go true is ih =
         let slash : b ≡ 47 = grind (is, arith, nat_tests) in
         let both = cut_beside front bytes (subst (λ (c : ℕ). IsUtf8 (front ++ c ∷ bytes)) slash text) in
-        (subst IsUtf8 (sym (append-nil front)) both.0, all_from (pieces bytes) (ih [] both.1))
-    go false is ih = one_more front b (pieces bytes) (ih (front ++ b ∷ []) (subst IsUtf8 (sym (append_assoc front (b ∷ []) bytes)) text))
+        (subst IsUtf8 (sym (append-nil front)) both.0, all_from (pieces_between_slashes bytes) (ih [] both.1))
+    go false is ih = one_more front b (pieces_between_slashes bytes) (ih (front ++ b ∷ []) (subst IsUtf8 (sym (append_assoc front (b ∷ []) bytes)) text))
 
 -- no piece has a NUL
 no_nul_more : (b : ℕ) (parts : List (List ℕ)) → is_nul b ≡ false → AllByRecursion HasNoNul parts → AllByRecursion HasNoNul (onto_first b parts)
 no_nul_more b [] e all = (ap (λ t. t || false) e, tt)
 no_nul_more b (first ∷ others) e all = (ap (λ t. t || list_any is_nul first) e ∙ all.0, all.1)
 
-no_nuls : (bytes : List ℕ) → HasNoNul bytes → AllByRecursion HasNoNul (pieces bytes)
+no_nuls : (bytes : List ℕ) → HasNoNul bytes → AllByRecursion HasNoNul (pieces_between_slashes bytes)
 no_nuls [] e = (refl, tt)
 no_nuls (b ∷ bytes) e =
     let parts = or_parts (is_nul b) (list_any is_nul bytes) e in
     go (is_slash b) parts.0 (no_nuls bytes parts.1)
   where
-    go : (t : Bool) → is_nul b ≡ false → AllByRecursion HasNoNul (pieces bytes) → AllByRecursion HasNoNul (cond t ([] ∷ pieces bytes) (onto_first b (pieces bytes)))
+    go : (t : Bool) → is_nul b ≡ false → AllByRecursion HasNoNul (pieces_between_slashes bytes) → AllByRecursion HasNoNul (cond t ([] ∷ pieces_between_slashes bytes) (onto_first b (pieces_between_slashes bytes)))
     go true first ih = (refl, ih)
-    go false first ih = no_nul_more b (pieces bytes) first ih
+    go false first ih = no_nul_more b (pieces_between_slashes bytes) first ih
 
 -- no piece has a slash
 abbrev HasNoSlash : List ℕ → Type 0
@@ -82,25 +82,25 @@ no_slash_more : (b : ℕ) (parts : List (List ℕ)) → is_slash b ≡ false →
 no_slash_more b [] e all = (ap (λ t. t || false) e, tt)
 no_slash_more b (first ∷ others) e all = (ap (λ t. t || list_any (λ b. b == 47) first) e ∙ all.0, all.1)
 
-no_slashes : (bytes : List ℕ) → AllByRecursion HasNoSlash (pieces bytes)
+no_slashes : (bytes : List ℕ) → AllByRecursion HasNoSlash (pieces_between_slashes bytes)
 no_slashes [] = (refl, tt)
 no_slashes (b ∷ bytes) = go (is_slash b) refl (no_slashes bytes)
   where
-    go : (t : Bool) → is_slash b ≡ t → AllByRecursion HasNoSlash (pieces bytes) → AllByRecursion HasNoSlash (cond t ([] ∷ pieces bytes) (onto_first b (pieces bytes)))
+    go : (t : Bool) → is_slash b ≡ t → AllByRecursion HasNoSlash (pieces_between_slashes bytes) → AllByRecursion HasNoSlash (cond t ([] ∷ pieces_between_slashes bytes) (onto_first b (pieces_between_slashes bytes)))
     go true is ih = (refl, ih)
-    go false is ih = no_slash_more b (pieces bytes) is ih
+    go false is ih = no_slash_more b (pieces_between_slashes bytes) is ih
 
 -- a component of a text
 pub record IsPart (name : List ℕ) : Type 0 where
-  pub text : is_text name ≡ true
+  pub text : is_utf8_without_nul name ≡ true
   pub full : is_empty name ≡ false
   pub no_slash : list_any (λ b. b == 47) name ≡ false
 
 abbrev pub AreParts : List (List ℕ) → Type 0
 AreParts names = AllByRecursion IsPart names
 
-text_from : (bytes : List ℕ) → IsUtf8 bytes → HasNoNul bytes → is_text bytes ≡ true
-unfolding is_text
+text_from : (bytes : List ℕ) → IsUtf8 bytes → HasNoNul bytes → is_utf8_without_nul bytes ≡ true
+unfolding is_utf8_without_nul
 text_from bytes text free = and_from (is_utf8 bytes) (not (list_any is_nul bytes)) (is_utf8-from_IsUtf8 bytes text) (ap not free)
 
 parts_from : (parts : List (List ℕ)) → AllByRecursion IsUtf8 parts → AllByRecursion HasNoNul parts → AllByRecursion HasNoSlash parts → AreParts (filter (λ piece. not (is_empty piece)) parts)
@@ -114,24 +114,24 @@ is_not false e = refl
 is_not true e = sym e
 
 -- the components of a text
-pub parts-components : (path : List ℕ) → is_text path ≡ true → AreParts (components path)
-unfolding is_text
+pub parts-components : (path : List ℕ) → is_utf8_without_nul path ≡ true → AreParts (components path)
+unfolding is_utf8_without_nul
 parts-components path text =
     let parts = and_parts (is_utf8 path) (not (list_any is_nul path)) text in
-    parts_from (pieces path) (all_from (pieces path) (fronted [] path (IsUtf8-from_is_utf8 path parts.0)))
+    parts_from (pieces_between_slashes path) (all_from (pieces_between_slashes path) (fronted [] path (IsUtf8-from_is_utf8 path parts.0)))
     (no_nuls path (is_not (list_any is_nul path) parts.1)) (no_slashes path)
 
 -- such a component is a name, unless it is `.` or `..`
-pub name-from_part : (name : List ℕ) → IsPart name → is_dot name ≡ false → is_dot_dot name ≡ false → IsName name
+pub name-from_part : (name : List ℕ) → IsPart name → is_dot name ≡ false → is_dot_dot name ≡ false → IsValidEntryName name
 name-from_part name part dot dot_dot =
-    let text_full = and_from (is_text name) (not (is_empty name)) part.text (ap not part.full) in
-    let plain = and_from (is_text name && not (is_empty name)) (not (list_any (λ b. b == 47) name)) text_full (ap not part.no_slash) in
-    let undotted = and_from (is_text name && not (is_empty name) && not (list_any (λ b. b == 47) name)) (not (is_dot name)) plain (ap not dot) in
-    and_from (is_text name && not (is_empty name) && not (list_any (λ b. b == 47) name) && not (is_dot name)) (not (is_dot_dot name)) undotted (ap not dot_dot)
+    let text_full = and_from (is_utf8_without_nul name) (not (is_empty name)) part.text (ap not part.full) in
+    let plain = and_from (is_utf8_without_nul name && not (is_empty name)) (not (list_any (λ b. b == 47) name)) text_full (ap not part.no_slash) in
+    let undotted = and_from (is_utf8_without_nul name && not (is_empty name) && not (list_any (λ b. b == 47) name)) (not (is_dot name)) plain (ap not dot) in
+    and_from (is_utf8_without_nul name && not (is_empty name) && not (list_any (λ b. b == 47) name) && not (is_dot name)) (not (is_dot_dot name)) undotted (ap not dot_dot)
 
 -- bytes whose pieces are texts are a text
 slash_text : IsUtf8 (47 ∷ [])
-unfolding is_text
+unfolding is_utf8_without_nul
 slash_text = IsUtf8-from_is_utf8 (47 ∷ []) (and_parts (is_utf8 (47 ∷ [])) (not (list_any is_nul (47 ∷ []))) is_text-slash).0
 
 behind_slash : (bytes : List ℕ) → IsUtf8 bytes → IsUtf8 (47 ∷ bytes)
@@ -145,29 +145,29 @@ without_first : (front : List ℕ) (b : ℕ) (parts : List (List ℕ)) → AreFr
 without_first front b [] are = are.0
 without_first front b (first ∷ others) are = (subst IsUtf8 (sym (append_assoc front (b ∷ []) first)) are.0, are.1)
 
-joined : (front bytes : List ℕ) → AreFronted front (pieces bytes) → IsUtf8 (front ++ bytes)
+joined : (front bytes : List ℕ) → AreFronted front (pieces_between_slashes bytes) → IsUtf8 (front ++ bytes)
 joined front [] are = are.0
 joined front (b ∷ bytes) are = go (is_slash b) refl are (λ more. joined more bytes)
   where
-    go : (t : Bool) → is_slash b ≡ t → AreFronted front (cond t ([] ∷ pieces bytes) (onto_first b (pieces bytes))) → ((more : List ℕ) → AreFronted more (pieces bytes) → IsUtf8 (more ++ bytes)) → IsUtf8 (front ++ b ∷ bytes)
+    go : (t : Bool) → is_slash b ≡ t → AreFronted front (cond t ([] ∷ pieces_between_slashes bytes) (onto_first b (pieces_between_slashes bytes))) → ((more : List ℕ) → AreFronted more (pieces_between_slashes bytes) → IsUtf8 (more ++ bytes)) → IsUtf8 (front ++ b ∷ bytes)
     go true is are ih =
         let slash : b ≡ 47 = grind (is, arith, nat_tests) in
         subst (λ (c : ℕ). IsUtf8 (front ++ c ∷ bytes)) (sym slash)
-        (IsUtf8-append front (47 ∷ bytes) (subst IsUtf8 (append-nil front) are.0) (behind_slash bytes (ih [] (fronted_from (pieces bytes) are.1))))
-    go false is are ih = subst IsUtf8 (append_assoc front (b ∷ []) bytes) (ih (front ++ b ∷ []) (without_first front b (pieces bytes) are))
+        (IsUtf8-append front (47 ∷ bytes) (subst IsUtf8 (append-nil front) are.0) (behind_slash bytes (ih [] (fronted_from (pieces_between_slashes bytes) are.1))))
+    go false is are ih = subst IsUtf8 (append_assoc front (b ∷ []) bytes) (ih (front ++ b ∷ []) (without_first front b (pieces_between_slashes bytes) are))
 
-pub utf8-from_name : (name : List ℕ) → IsName name → is_utf8 name ≡ true
-unfolding is_text
+pub utf8-from_name : (name : List ℕ) → IsValidEntryName name → is_utf8 name ≡ true
+unfolding is_utf8_without_nul
 utf8-from_name name is = (and_parts (is_utf8 name) (not (list_any is_nul name)) (name_parts name is).text).0
 
-all_utf8 : (names : List (List ℕ)) → AllByRecursion IsName names → AllByRecursion IsUtf8 names
+all_utf8 : (names : List (List ℕ)) → AllByRecursion IsValidEntryName names → AllByRecursion IsUtf8 names
 all_utf8 [] all = tt
 all_utf8 (name ∷ names) all = (IsUtf8-from_is_utf8 name (utf8-from_name name all.0), all_utf8 names all.1)
 
-pub utf8-from_full : (path : List ℕ) → is_full_path path ≡ true → is_utf8 path ≡ true
+pub utf8-from_full : (path : List ℕ) → is_absolute_path_of_valid_names path ≡ true → is_utf8 path ≡ true
 utf8-from_full [] full = absurd (cc full)
 utf8-from_full (b ∷ path) full =
-    let parts = and_parts (b == 47) (list_all is_name (pieces path)) full in
+    let parts = and_parts (b == 47) (list_all is_valid_entry_name (pieces_between_slashes path)) full in
     let slash : b ≡ 47 = let first = parts.0 in grind (first, arith, nat_tests) in
     is_utf8-from_IsUtf8 (b ∷ path)
-    (subst (λ (c : ℕ). IsUtf8 (c ∷ path)) (sym slash) (behind_slash path (joined [] path (fronted_from (pieces path) (all_utf8 (pieces path) (all_names (pieces path) parts.1))))))
+    (subst (λ (c : ℕ). IsUtf8 (c ∷ path)) (sym slash) (behind_slash path (joined [] path (fronted_from (pieces_between_slashes path) (all_utf8 (pieces_between_slashes path) (all_names (pieces_between_slashes path) parts.1))))))

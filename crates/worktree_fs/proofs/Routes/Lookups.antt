@@ -2,10 +2,10 @@
 use Rattle.std.proofs.Common.{◌≡◌, ℕ, ◌+◌, ◌-◌, ◌<◌, ◌≤◌, Bool, true, false, List, [], ◌∷◌, ◌++◌, length, take, drop, get_or, Result, Ok, Err, OnOk, OnErr, replicate, Option, Some, refl, sym, ap, subst, ◌∙◌, arith, append_assoc}
 use Rattle.std.proofs.lemmas.List.{append-nil, take_more, take_all}
 use Rattle.std.proofs.lemmas.Grind.{replicate_next}
-use Rattle.worktree_fs.specs.Paths.{spelled, is_nil, all_but_last}
-use Rattle.worktree_fs.specs.PathStack.{PathStackModel, CallWithRefusal, Call, pop_directory, push, called, one_up, deepest_names, back_at_deepest, looked_up, surplus, kept, root_calls, lookup_calls, calls_for, calls_below, Granted, IsOnWay}
-use Rattle.worktree_fs.specs.Stops.{Stopped, OfDelegate, UnlessDelegate}
-use Rattle.worktree_fs.specs.Causes.{Increased}
+use Rattle.worktree_fs.specs.Paths.{slash_joined_components, is_nil, all_but_last}
+use Rattle.worktree_fs.specs.PathStack.{PathStackModel, CallWithRefusal, DelegateCall, pop_directory, push, call_with_refusal, parent_of_deepest_directory, deepest_components_or_root, stack_with_deepest_current, stack_after_lookup, number_of_directories_to_pop, shared_proper_ancestor_components, delegate_calls_to_push_root, delegate_calls_of_lookup, delegate_calls_of_component, delegate_calls_of_components, AppendsGrantedDelegateCalls, IsNothingOrProperAncestor}
+use Rattle.worktree_fs.specs.Stops.{StopsByLookupError, HoldsOfDelegateError, HoldsUnlessDelegateError}
+use Rattle.worktree_fs.specs.Causes.{CountIncreasedOrSaturated}
 use Rattle.worktree_fs.specs.declared.path_stack.delegate.PathStackError.{PathStackError}
 use Rattle.worktree_fs.specs.declared.path_stack.delegate.PathStackError.TheVariants.{NotNormal, Delegate, OutOfMemory}
 use Rattle.worktree_fs.proofs.Calls.{Granted-append, Stopped-after, Stopped-more, granted_pop}
@@ -20,7 +20,7 @@ at_directory root names = record { root = root; deepest = Some names; current = 
 -- so many directories were popped
 pub record Popped (s0 s : PathStackModel) (old new : List CallWithRefusal) (count : ℕ) : Type 0 where
   pub stands : s ≡ at_directory s0.root (take (length s0.current - count) s0.current)
-  pub given : Granted old new s0.deepest s.deepest (replicate count pop_directory)
+  pub given : AppendsGrantedDelegateCalls old new s0.deepest s.deepest (replicate count pop_directory)
 
 pub popped-none : (s : PathStackModel) (old : List CallWithRefusal) → s.deepest ≡ Some s.current → Popped s s old old 0
 popped-none s old top = record {
@@ -31,8 +31,8 @@ popped-none s old top = record {
 }
 
 pub popped-more : (s0 s s' : PathStackModel) (old mid new : List CallWithRefusal) (count : ℕ) → count < length s0.current
-    → Popped s0 s old mid count → new ≡ mid ++ called pop_directory false ∷ []
-    → s' ≡ back_at_deepest (record { root = s.root; deepest = one_up s.deepest; current = s.current })
+    → Popped s0 s old mid count → new ≡ mid ++ call_with_refusal pop_directory false ∷ []
+    → s' ≡ stack_with_deepest_current (record { root = s.root; deepest = parent_of_deepest_directory s.deepest; current = s.current })
     → Popped s0 s' old new (count + 1)
 popped-more s0 s s' old mid new count low popped given after =
     let n : ℕ = length s0.current - (count + 1) in
@@ -42,14 +42,14 @@ popped-more s0 s s' old mid new count low popped given after =
     let split : take (length s0.current - count) s0.current ≡ names ++ last ∷ [] =
     ap (λ m. take m s0.current) next ∙ take_more s0.current n [] (omega arith) in
     let at_is : s.deepest ≡ Some (names ++ last ∷ []) = ap (λ (x : PathStackModel). x.deepest) popped.stands ∙ ap Some split in
-    let up : one_up s.deepest ≡ Some names = ap one_up at_is ∙ one_up-snoc names last in
+    let up : parent_of_deepest_directory s.deepest ≡ Some names = ap parent_of_deepest_directory at_is ∙ one_up-snoc names last in
     let root_is : s.root ≡ s0.root = ap (λ (x : PathStackModel). x.root) popped.stands in
     let stands : s' ≡ at_directory s0.root names =
     after
-    ∙ same_standing (back_at_deepest (record { root = s.root; deepest = one_up s.deepest; current = s.current })) (at_directory s0.root names)
-    root_is up (ap deepest_names up) in
+    ∙ same_standing (stack_with_deepest_current (record { root = s.root; deepest = parent_of_deepest_directory s.deepest; current = s.current })) (at_directory s0.root names)
+    root_is up (ap deepest_components_or_root up) in
     let to_is : s'.deepest ≡ Some names = ap (λ (x : PathStackModel). x.deepest) stands in
-    let one : Granted mid new s.deepest s'.deepest (pop_directory ∷ []) = rw (at_is, to_is) (granted_pop mid new names last given) in
+    let one : AppendsGrantedDelegateCalls mid new s.deepest s'.deepest (pop_directory ∷ []) = rw (at_is, to_is) (granted_pop mid new names last given) in
     record {
       stands = stands;
       given =
@@ -59,20 +59,20 @@ popped-more s0 s s' old mid new count low popped given after =
 
 -- until the proper ancestors are left
 pub popped-end : (s0 s : PathStackModel) (old new : List CallWithRefusal) (count : ℕ) (parts : List (List ℕ)) → Popped s0 s old new count
-    → s0.deepest ≡ Some s0.current → count ≡ surplus s0.deepest parts → s ≡ at_directory s0.root (kept s0.current parts)
+    → s0.deepest ≡ Some s0.current → count ≡ number_of_directories_to_pop s0.deepest parts → s ≡ at_directory s0.root (shared_proper_ancestor_components s0.current parts)
 popped-end s0 s old new count parts popped top all =
-    let names_is : deepest_names s0.deepest ≡ s0.current = ap deepest_names top in
-    let count_is : count ≡ length s0.current - length (kept s0.current parts) =
-    all ∙ ap (λ (l : List (List ℕ)). length l - length (kept l parts)) names_is in
-    let place : length s0.current - count ≡ length (kept s0.current parts) = omega (arith, kept-fits s0.current parts, count_is) in
+    let names_is : deepest_components_or_root s0.deepest ≡ s0.current = ap deepest_components_or_root top in
+    let count_is : count ≡ length s0.current - length (shared_proper_ancestor_components s0.current parts) =
+    all ∙ ap (λ (l : List (List ℕ)). length l - length (shared_proper_ancestor_components l parts)) names_is in
+    let place : length s0.current - count ≡ length (shared_proper_ancestor_components s0.current parts) = omega (arith, kept-fits s0.current parts, count_is) in
     popped.stands
     ∙ ap (at_directory s0.root) (ap (λ n. take n s0.current) place ∙ kept-names s0.current parts)
 
 -- so much of the path behind a directory was pushed, and some is left
 pub record Descended (s0 s : PathStackModel) (old new : List CallWithRefusal) (whole rest : List (List ℕ)) : Type 0 where
-  pub made : List Call
-  pub given : Granted old new s0.deepest s.deepest made
-  pub calls : calls_below s0.current whole ≡ made ++ calls_below s.current rest
+  pub made : List DelegateCall
+  pub given : AppendsGrantedDelegateCalls old new s0.deepest s.deepest made
+  pub calls : delegate_calls_of_components s0.current whole ≡ made ++ delegate_calls_of_components s.current rest
   pub names : s0.current ++ whole ≡ s.current ++ rest
   pub top : s.deepest ≡ Some s.current
   pub end : rest ≡ [] → s.current ≡ []
@@ -92,27 +92,27 @@ descended-none s old whole top end = record {
 
 module _ (s0 s : PathStackModel) (old mid new : List CallWithRefusal) (whole rest more : List (List ℕ)) (name : List ℕ)
     (so_far : Descended s0 s old mid whole rest) (rest_is : rest ≡ name ∷ more) where
-  names_is : deepest_names s.deepest ≡ s.current
-  names_is = ap deepest_names so_far.top
+  names_is : deepest_components_or_root s.deepest ≡ s.current
+  names_is = ap deepest_components_or_root so_far.top
 
   -- a directory more
   pub descended-more : (s' : PathStackModel) → is_nil more ≡ false
-      → s' ≡ at_directory s.root (deepest_names s.deepest ++ name ∷ [])
-      → Granted mid new s.deepest s'.deepest (calls_for (deepest_names s.deepest) name false)
+      → s' ≡ at_directory s.root (deepest_components_or_root s.deepest ++ name ∷ [])
+      → AppendsGrantedDelegateCalls mid new s.deepest s'.deepest (delegate_calls_of_component (deepest_components_or_root s.deepest) name false)
       → Descended s0 s' old new whole more
   descended-more s' some after given =
       let current_is : s'.current ≡ s.current ++ name ∷ [] =
       ap (λ (x : PathStackModel). x.current) after ∙ ap (λ l. l ++ name ∷ []) names_is in
       record {
-        made = so_far.made ++ calls_for (deepest_names s.deepest) name false;
-        given = Granted-append old mid new s0.deepest s.deepest s'.deepest so_far.made (calls_for (deepest_names s.deepest) name false) so_far.given given;
+        made = so_far.made ++ delegate_calls_of_component (deepest_components_or_root s.deepest) name false;
+        given = Granted-append old mid new s0.deepest s.deepest s'.deepest so_far.made (delegate_calls_of_component (deepest_components_or_root s.deepest) name false) so_far.given given;
         calls =
             so_far.calls
-            ∙ ap (λ l. so_far.made ++ calls_below s.current l) rest_is
-            ∙ ap (λ b. so_far.made ++ (calls_for s.current name b ++ calls_below (s.current ++ name ∷ []) more)) some
-            ∙ ap (λ l. so_far.made ++ (calls_for l name false ++ calls_below (s.current ++ name ∷ []) more)) (sym names_is)
-            ∙ ap (λ l. so_far.made ++ (calls_for (deepest_names s.deepest) name false ++ calls_below l more)) (sym current_is)
-            ∙ sym (append_assoc so_far.made (calls_for (deepest_names s.deepest) name false) (calls_below s'.current more));
+            ∙ ap (λ l. so_far.made ++ delegate_calls_of_components s.current l) rest_is
+            ∙ ap (λ b. so_far.made ++ (delegate_calls_of_component s.current name b ++ delegate_calls_of_components (s.current ++ name ∷ []) more)) some
+            ∙ ap (λ l. so_far.made ++ (delegate_calls_of_component l name false ++ delegate_calls_of_components (s.current ++ name ∷ []) more)) (sym names_is)
+            ∙ ap (λ l. so_far.made ++ (delegate_calls_of_component (deepest_components_or_root s.deepest) name false ++ delegate_calls_of_components l more)) (sym current_is)
+            ∙ sym (append_assoc so_far.made (delegate_calls_of_component (deepest_components_or_root s.deepest) name false) (delegate_calls_of_components s'.current more));
         names =
             so_far.names
             ∙ ap (λ l. s.current ++ l) rest_is
@@ -124,9 +124,9 @@ module _ (s0 s : PathStackModel) (old mid new : List CallWithRefusal) (whole res
       }
 
   -- the deepest directory lies on the way to the whole path
-  pub on_way : (s' : PathStackModel) → s'.deepest ≡ s.deepest → IsOnWay s'.deepest (s0.current ++ whole)
+  pub on_way : (s' : PathStackModel) → s'.deepest ≡ s.deepest → IsNothingOrProperAncestor s'.deepest (s0.current ++ whole)
   on_way s' same =
-      subst (λ d. IsOnWay d (s0.current ++ whole)) (sym (same ∙ so_far.top))
+      subst (λ d. IsNothingOrProperAncestor d (s0.current ++ whole)) (sym (same ∙ so_far.top))
       (record {
         rest = all_but_last (name ∷ more);
         joined = ap all_but_last (so_far.names ∙ ap (λ l. s.current ++ l) rest_is) ∙ without_last-append s.current name more;
@@ -134,21 +134,21 @@ module _ (s0 s : PathStackModel) (old mid new : List CallWithRefusal) (whole res
 
   -- a stop at a directory or at the last component
   pub stopped-at : {E : Type 0} (s' : PathStackModel) (b : Bool) (e : PathStackError E) → is_nil more ≡ b
-      → Stopped mid new s.deepest s'.deepest (calls_for (deepest_names s.deepest) name b) e
-      → Stopped old new s0.deepest s'.deepest (calls_below s0.current whole) e
+      → StopsByLookupError mid new s.deepest s'.deepest (delegate_calls_of_component (deepest_components_or_root s.deepest) name b) e
+      → StopsByLookupError old new s0.deepest s'.deepest (delegate_calls_of_components s0.current whole) e
   stopped-at s' b e last stopped =
-      let calls_is : calls_below s0.current whole ≡ so_far.made ++ (calls_for (deepest_names s.deepest) name b ++ calls_below (s.current ++ name ∷ []) more) =
+      let calls_is : delegate_calls_of_components s0.current whole ≡ so_far.made ++ (delegate_calls_of_component (deepest_components_or_root s.deepest) name b ++ delegate_calls_of_components (s.current ++ name ∷ []) more) =
       so_far.calls
-      ∙ ap (λ l. so_far.made ++ calls_below s.current l) rest_is
-      ∙ ap (λ t. so_far.made ++ (calls_for s.current name t ++ calls_below (s.current ++ name ∷ []) more)) last
-      ∙ ap (λ l. so_far.made ++ (calls_for l name b ++ calls_below (s.current ++ name ∷ []) more)) (sym names_is) in
+      ∙ ap (λ l. so_far.made ++ delegate_calls_of_components s.current l) rest_is
+      ∙ ap (λ t. so_far.made ++ (delegate_calls_of_component s.current name t ++ delegate_calls_of_components (s.current ++ name ∷ []) more)) last
+      ∙ ap (λ l. so_far.made ++ (delegate_calls_of_component l name b ++ delegate_calls_of_components (s.current ++ name ∷ []) more)) (sym names_is) in
       rw calls_is
-      (Stopped-after old mid new s0.deepest s.deepest s'.deepest so_far.made (calls_for (deepest_names s.deepest) name b ++ calls_below (s.current ++ name ∷ []) more) e so_far.given
-      (Stopped-more mid new s.deepest s'.deepest (calls_for (deepest_names s.deepest) name b) (calls_below (s.current ++ name ∷ []) more) e stopped))
+      (Stopped-after old mid new s0.deepest s.deepest s'.deepest so_far.made (delegate_calls_of_component (deepest_components_or_root s.deepest) name b ++ delegate_calls_of_components (s.current ++ name ∷ []) more) e so_far.given
+      (Stopped-more mid new s.deepest s'.deepest (delegate_calls_of_component (deepest_components_or_root s.deepest) name b) (delegate_calls_of_components (s.current ++ name ∷ []) more) e stopped))
 
   -- the last component
   module _ (s' : PathStackModel) (last : is_nil more ≡ true)
-      (after : s' ≡ record { root = s.root; deepest = s.deepest; current = deepest_names s.deepest ++ name ∷ [] }) where
+      (after : s' ≡ record { root = s.root; deepest = s.deepest; current = deepest_components_or_root s.deepest ++ name ∷ [] }) where
     none : more ≡ []
     none = nothing more last
       where
@@ -159,48 +159,48 @@ module _ (s0 s : PathStackModel) (old mid new : List CallWithRefusal) (whole res
     whole_is : s0.current ++ whole ≡ s.current ++ name ∷ []
     whole_is = so_far.names ∙ ap (λ l. s.current ++ l) rest_is ∙ ap (λ l. s.current ++ name ∷ l) none
 
-    pub ended-state : s' ≡ looked_up s0 (s0.current ++ whole)
+    pub ended-state : s' ≡ stack_after_lookup s0 (s0.current ++ whole)
     ended-state =
         after
-        ∙ same_standing (record { root = s.root; deepest = s.deepest; current = deepest_names s.deepest ++ name ∷ [] }) (looked_up s0 (s0.current ++ whole))
+        ∙ same_standing (record { root = s.root; deepest = s.deepest; current = deepest_components_or_root s.deepest ++ name ∷ [] }) (stack_after_lookup s0 (s0.current ++ whole))
         so_far.root
         (so_far.top ∙ ap Some (sym (ap all_but_last whole_is ∙ without_last-snoc s.current name)))
         (ap (λ l. l ++ name ∷ []) names_is ∙ sym whole_is)
 
-    pub ended-given : Granted mid new s.deepest s'.deepest (push (spelled (deepest_names s.deepest ++ name ∷ [])) true ∷ [])
-        → Granted old new s0.deepest s'.deepest (calls_below s0.current whole)
+    pub ended-given : AppendsGrantedDelegateCalls mid new s.deepest s'.deepest (push (slash_joined_components (deepest_components_or_root s.deepest ++ name ∷ [])) true ∷ [])
+        → AppendsGrantedDelegateCalls old new s0.deepest s'.deepest (delegate_calls_of_components s0.current whole)
     ended-given given =
-        let calls_is : calls_below s0.current whole ≡ so_far.made ++ push (spelled (deepest_names s.deepest ++ name ∷ [])) true ∷ [] =
+        let calls_is : delegate_calls_of_components s0.current whole ≡ so_far.made ++ push (slash_joined_components (deepest_components_or_root s.deepest ++ name ∷ [])) true ∷ [] =
         so_far.calls
-        ∙ ap (λ l. so_far.made ++ calls_below s.current l) rest_is
-        ∙ ap (λ l. so_far.made ++ calls_below s.current (name ∷ l)) none
-        ∙ ap (λ l. so_far.made ++ push (spelled (l ++ name ∷ [])) true ∷ []) (sym names_is) in
-        rw calls_is (Granted-append old mid new s0.deepest s.deepest s'.deepest so_far.made (push (spelled (deepest_names s.deepest ++ name ∷ [])) true ∷ []) so_far.given given)
+        ∙ ap (λ l. so_far.made ++ delegate_calls_of_components s.current l) rest_is
+        ∙ ap (λ l. so_far.made ++ delegate_calls_of_components s.current (name ∷ l)) none
+        ∙ ap (λ l. so_far.made ++ push (slash_joined_components (l ++ name ∷ [])) true ∷ []) (sym names_is) in
+        rw calls_is (Granted-append old mid new s0.deepest s.deepest s'.deepest so_far.made (push (slash_joined_components (deepest_components_or_root s.deepest ++ name ∷ [])) true ∷ []) so_far.given given)
 
 -- nothing was left from the first
 module _ (s0 s : PathStackModel) (old new : List CallWithRefusal) (whole rest : List (List ℕ)) (so_far : Descended s0 s old new whole rest) (none : rest ≡ []) where
-  pub root-state : s ≡ looked_up s0 (s0.current ++ whole)
+  pub root-state : s ≡ stack_after_lookup s0 (s0.current ++ whole)
   root-state =
       let empty : s.current ≡ [] = so_far.end none in
       let whole_is : s0.current ++ whole ≡ [] = so_far.names ∙ ap (λ l. s.current ++ l) none ∙ append-nil s.current ∙ empty in
-      same_standing s (looked_up s0 (s0.current ++ whole)) so_far.root
+      same_standing s (stack_after_lookup s0 (s0.current ++ whole)) so_far.root
       (so_far.top ∙ ap Some empty ∙ sym (ap (λ (l : List (List ℕ)). Some (all_but_last l)) whole_is))
       (empty ∙ sym whole_is)
 
-  pub root-given : Granted old new s0.deepest s.deepest (calls_below s0.current whole)
+  pub root-given : AppendsGrantedDelegateCalls old new s0.deepest s.deepest (delegate_calls_of_components s0.current whole)
   root-given =
-      let calls_is : calls_below s0.current whole ≡ so_far.made =
-      so_far.calls ∙ ap (λ l. so_far.made ++ calls_below s.current l) none ∙ append-nil so_far.made in
+      let calls_is : delegate_calls_of_components s0.current whole ≡ so_far.made =
+      so_far.calls ∙ ap (λ l. so_far.made ++ delegate_calls_of_components s.current l) none ∙ append-nil so_far.made in
       rw calls_is so_far.given
 
 -- a count that rose in a later step rose from the first on
-pub risen : {E : Type 0} (before mid now : ℕ) (e : PathStackError E) → before ≤ mid → OfDelegate (λ _. Increased mid now) e → OfDelegate (λ _. Increased before now) e
+pub risen : {E : Type 0} (before mid now : ℕ) (e : PathStackError E) → before ≤ mid → HoldsOfDelegateError (λ _. CountIncreasedOrSaturated mid now) e → HoldsOfDelegateError (λ _. CountIncreasedOrSaturated before now) e
 risen before mid now NotNormal low rose = tt
 risen before mid now (Delegate error) low rose = omega arith
 risen before mid now OutOfMemory low rose = tt
 
 -- a count that stayed in a later step too stayed from the first on
-pub stayed : {E : Type 0} (before mid now : ℕ) (e : PathStackError E) → mid ≡ before → UnlessDelegate (now ≡ mid) e → UnlessDelegate (now ≡ before) e
+pub stayed : {E : Type 0} (before mid now : ℕ) (e : PathStackError E) → mid ≡ before → HoldsUnlessDelegateError (now ≡ mid) e → HoldsUnlessDelegateError (now ≡ before) e
 stayed before mid now NotNormal first then = then ∙ first
 stayed before mid now (Delegate error) first then = tt
 stayed before mid now OutOfMemory first then = then ∙ first
@@ -217,58 +217,58 @@ on_ok (Err e) more holds = holds
 
 -- a whole lookup: from s0 the root is pushed, which gives p; then what is too deep is popped, which gives q
 module _ (s0 p q : PathStackModel) (parts rest : List (List ℕ))
-    (root_is : p ≡ at_directory s0.root (deepest_names s0.deepest))
-    (popped_is : q ≡ at_directory p.root (kept p.current parts))
-    (rest_is : rest ≡ drop (length (deepest_names q.deepest)) parts) where
+    (root_is : p ≡ at_directory s0.root (deepest_components_or_root s0.deepest))
+    (popped_is : q ≡ at_directory p.root (shared_proper_ancestor_components p.current parts))
+    (rest_is : rest ≡ drop (length (deepest_components_or_root q.deepest)) parts) where
   abbrev stay : List (List ℕ)
-  stay = kept (deepest_names s0.deepest) parts
+  stay = shared_proper_ancestor_components (deepest_components_or_root s0.deepest) parts
 
   stays : q ≡ at_directory s0.root stay
-  stays = popped_is ∙ ap (λ (x : PathStackModel). at_directory x.root (kept x.current parts)) root_is
+  stays = popped_is ∙ ap (λ (x : PathStackModel). at_directory x.root (shared_proper_ancestor_components x.current parts)) root_is
 
   left : rest ≡ drop (length stay) parts
-  left = rest_is ∙ ap (λ (x : PathStackModel). drop (length (deepest_names x.deepest)) parts) stays
+  left = rest_is ∙ ap (λ (x : PathStackModel). drop (length (deepest_components_or_root x.deepest)) parts) stays
 
   pub lookup-end : rest ≡ [] → q.current ≡ []
-  lookup-end none = ap (λ (x : PathStackModel). x.current) stays ∙ kept-end (deepest_names s0.deepest) parts (sym left ∙ none)
+  lookup-end none = ap (λ (x : PathStackModel). x.current) stays ∙ kept-end (deepest_components_or_root s0.deepest) parts (sym left ∙ none)
 
   whole : q.current ++ rest ≡ parts
-  whole = ap (λ (x : PathStackModel). x.current ++ rest) stays ∙ ap (λ l. stay ++ l) left ∙ kept-rest (deepest_names s0.deepest) parts
+  whole = ap (λ (x : PathStackModel). x.current ++ rest) stays ∙ ap (λ l. stay ++ l) left ∙ kept-rest (deepest_components_or_root s0.deepest) parts
 
-  pub lookup-way : (d : Option (List (List ℕ))) → IsOnWay d (q.current ++ rest) → IsOnWay d parts
-  lookup-way d way = subst (IsOnWay d) whole way
+  pub lookup-way : (d : Option (List (List ℕ))) → IsNothingOrProperAncestor d (q.current ++ rest) → IsNothingOrProperAncestor d parts
+  lookup-way d way = subst (IsNothingOrProperAncestor d) whole way
 
-  pub lookup-made : (s : PathStackModel) → s ≡ looked_up q (q.current ++ rest) → s ≡ looked_up s0 parts
+  pub lookup-made : (s : PathStackModel) → s ≡ stack_after_lookup q (q.current ++ rest) → s ≡ stack_after_lookup s0 parts
   lookup-made s is =
       is
-      ∙ same_standing (looked_up q (q.current ++ rest)) (looked_up s0 parts) (ap (λ (x : PathStackModel). x.root) stays)
+      ∙ same_standing (stack_after_lookup q (q.current ++ rest)) (stack_after_lookup s0 parts) (ap (λ (x : PathStackModel). x.root) stays)
       (ap (λ (l : List (List ℕ)). Some (all_but_last l)) whole) whole
 
   module _ (g0 g1 g2 g3 : List CallWithRefusal) (d : Option (List (List ℕ)))
-      (root_given : Granted g0 g1 s0.deepest p.deepest (root_calls s0.deepest))
-      (pops_given : Granted g1 g2 p.deepest q.deepest (replicate (surplus p.deepest parts) pop_directory)) where
-    abbrev pops : List Call
-    pops = replicate (surplus s0.deepest parts) pop_directory
+      (root_given : AppendsGrantedDelegateCalls g0 g1 s0.deepest p.deepest (delegate_calls_to_push_root s0.deepest))
+      (pops_given : AppendsGrantedDelegateCalls g1 g2 p.deepest q.deepest (replicate (number_of_directories_to_pop p.deepest parts) pop_directory)) where
+    abbrev pops : List DelegateCall
+    pops = replicate (number_of_directories_to_pop s0.deepest parts) pop_directory
 
-    pops_are : replicate (surplus p.deepest parts) pop_directory ≡ pops
-    pops_are = ap (λ (x : PathStackModel). replicate (surplus x.deepest parts) pop_directory) root_is
+    pops_are : replicate (number_of_directories_to_pop p.deepest parts) pop_directory ≡ pops
+    pops_are = ap (λ (x : PathStackModel). replicate (number_of_directories_to_pop x.deepest parts) pop_directory) root_is
 
-    below_are : calls_below q.current rest ≡ calls_below stay (drop (length stay) parts)
-    below_are = ap (λ (x : PathStackModel). calls_below x.current rest) stays ∙ ap (calls_below stay) left
+    below_are : delegate_calls_of_components q.current rest ≡ delegate_calls_of_components stay (drop (length stay) parts)
+    below_are = ap (λ (x : PathStackModel). delegate_calls_of_components x.current rest) stays ∙ ap (delegate_calls_of_components stay) left
 
-    before : Granted g0 g2 s0.deepest q.deepest (root_calls s0.deepest ++ pops)
+    before : AppendsGrantedDelegateCalls g0 g2 s0.deepest q.deepest (delegate_calls_to_push_root s0.deepest ++ pops)
     before =
-        Granted-append g0 g1 g2 s0.deepest p.deepest q.deepest (root_calls s0.deepest) pops root_given
-        (subst (Granted g1 g2 p.deepest q.deepest) pops_are pops_given)
+        Granted-append g0 g1 g2 s0.deepest p.deepest q.deepest (delegate_calls_to_push_root s0.deepest) pops root_given
+        (subst (AppendsGrantedDelegateCalls g1 g2 p.deepest q.deepest) pops_are pops_given)
 
-    pub lookup-given : Granted g2 g3 q.deepest d (calls_below q.current rest) → Granted g0 g3 s0.deepest d (lookup_calls s0.deepest parts)
+    pub lookup-given : AppendsGrantedDelegateCalls g2 g3 q.deepest d (delegate_calls_of_components q.current rest) → AppendsGrantedDelegateCalls g0 g3 s0.deepest d (delegate_calls_of_lookup s0.deepest parts)
     lookup-given given =
-        Granted-append g0 g2 g3 s0.deepest q.deepest d (root_calls s0.deepest ++ pops) (calls_below stay (drop (length stay) parts)) before
-        (subst (Granted g2 g3 q.deepest d) below_are given)
+        Granted-append g0 g2 g3 s0.deepest q.deepest d (delegate_calls_to_push_root s0.deepest ++ pops) (delegate_calls_of_components stay (drop (length stay) parts)) before
+        (subst (AppendsGrantedDelegateCalls g2 g3 q.deepest d) below_are given)
 
-    pub lookup-stopped : {E : Type 0} (e : PathStackError E) → Stopped g2 g3 q.deepest d (calls_below q.current rest) e
-        → Stopped g0 g3 s0.deepest d (lookup_calls s0.deepest parts) e
+    pub lookup-stopped : {E : Type 0} (e : PathStackError E) → StopsByLookupError g2 g3 q.deepest d (delegate_calls_of_components q.current rest) e
+        → StopsByLookupError g0 g3 s0.deepest d (delegate_calls_of_lookup s0.deepest parts) e
     lookup-stopped e stopped =
-        let stopped_here : Stopped g2 g3 q.deepest d (calls_below stay (drop (length stay) parts)) e =
-        subst (λ calls. Stopped g2 g3 q.deepest d calls e) below_are stopped in
-        Stopped-after g0 g2 g3 s0.deepest q.deepest d (root_calls s0.deepest ++ pops) (calls_below stay (drop (length stay) parts)) e before stopped_here
+        let stopped_here : StopsByLookupError g2 g3 q.deepest d (delegate_calls_of_components stay (drop (length stay) parts)) e =
+        subst (λ calls. StopsByLookupError g2 g3 q.deepest d calls e) below_are stopped in
+        Stopped-after g0 g2 g3 s0.deepest q.deepest d (delegate_calls_to_push_root s0.deepest ++ pops) (delegate_calls_of_components stay (drop (length stay) parts)) e before stopped_here

@@ -4,14 +4,14 @@ ghost use Rattle.std.specs.Io.KnownBytes.{IsAtEnd};
 ghost use Rattle.std.specs.List.{IsDistinct};
 ghost use Rattle.std.specs.declared.cmp.Ordering.TheVariants.{Less};
 ghost use Rattle.std.specs.List.Sorted.{IsStrictlySortedBy};
-ghost use Rattle.worktree_fs.specs.Composed.{as_kept};
-ghost use Rattle.worktree_fs.specs.Disk.{has_nul, is_unaskable, IsGiven, AreListed, kept_names, given_names, opened_path, GivesNames, IsAbsence};
-ghost use Rattle.worktree_fs.specs.Naming.{AreNames, is_name};
-ghost use Rattle.worktree_fs.specs.Order.{path_cmp};
+ghost use Rattle.worktree_fs.specs.Composed.{nfc_if_composing};
+ghost use Rattle.worktree_fs.specs.Disk.{has_nul, is_non_utf8_without_nul, IsComposedIfComposing, AreValidListedNames, composed_names_without_dots, composed_names_of_chunk, path_with_slash_if_following, ListsNamesOfAllChunks, IsPathAbsenceError};
+ghost use Rattle.worktree_fs.specs.Naming.{AreDistinctValidEntryNames, is_valid_entry_name};
+ghost use Rattle.worktree_fs.specs.Order.{compare_path_bytes};
 
-use super::node::{is_absent, kind_at_path, path_for_system};
-use crate::composed::as_kept;
-use crate::names::{cut_once, is_dot, is_dot_dot, is_name};
+use super::node::{is_path_absence_error, kind_at_path, system_path_from_current_dir};
+use crate::composed::nfc_if_composing;
+use crate::names::{is_dot, is_dot_dot, is_valid_entry_name, split_once_at_byte};
 use crate::{ListError, NameList, NodeKind};
 use gitbase_core::{Bytes, OutOfMemory};
 use std::alloc::Global;
@@ -36,14 +36,15 @@ pub fn list_directory(
     path: &[u8],
     follow: bool,
 ) -> Result<NameList, ListError>
-    ensures names { IfOk result AreNames }
-    ensures kept { IfOk result (All (IsGiven composes)) }
+    ensures names { IfOk result AreDistinctValidEntryNames }
+    ensures kept { IfOk result (All (IsComposedIfComposing composes)) }
     ensures few { IfOk result (λ names. length names ≤ 1000000) }
-    ensures sorted { IfOk result (IsStrictlySortedBy path_cmp) }
-    ensures unaskable { IsTrue (is_unaskable path.now) → IsErrOf result ListError.OpenFault }
+    ensures sorted { IfOk result (IsStrictlySortedBy compare_path_bytes) }
+    ensures unaskable { IsTrue (is_non_utf8_without_nul path.now)
+        → IsErrOf result ListError.OpenFault }
     ensures nowhere { IsTrue (has_nul path.now) → IsErrOf result ListError.Absent }
 {
-    let Ok(text) = path_for_system(path, current) else {
+    let Ok(text) = system_path_from_current_dir(path, current) else {
         return Err(ListError::OpenFault);
     };
     let Some(text) = text else {
@@ -52,20 +53,25 @@ pub fn list_directory(
     if buffer.len() < BUFFER_LEN {
         buffer.resize(BUFFER_LEN, 0)?;
     }
-    let text = with_slash(alloc, text, follow)?;
+    let text = path_with_slash_if_following(alloc, text, follow)?;
     match rt.open_dir(text.as_str()) {
         Ok(dir) => {
             let mut dir = dir;
-            names_from(alloc, composes, &mut dir, buffer)
+            read_sorted_names(alloc, composes, &mut dir, buffer)
         }
-        Err(error) => Err(open_error(rt, current, path, follow, &error)),
+        Err(error) => Err(list_error_of_failed_open(rt, current, path, follow, &error)),
     }
 }
 
 /// The path of a directory, with the slash that makes the system follow a last link where that is
 /// asked for.
-fn with_slash(alloc: Global, path: &str, follow: bool) -> Result<String, OutOfMemory>
-    ensures { IfOk result (λ text. string_bytes text ≡ opened_path path.now follow) }
+fn path_with_slash_if_following(
+    alloc: Global,
+    path: &str,
+    follow: bool,
+) -> Result<String, OutOfMemory>
+    ensures { IfOk result (λ text. string_bytes text ≡ path_with_slash_if_following path.now
+        follow) }
 {
     let mut text = String::from_str(alloc, path)?;
     if follow {
@@ -75,16 +81,16 @@ fn with_slash(alloc: Global, path: &str, follow: bool) -> Result<String, OutOfMe
 }
 
 /// Why a directory was not opened.
-fn open_error(
+fn list_error_of_failed_open(
     rt: &HostRuntime,
     current: &str,
     path: &[u8],
     follow: bool,
     error: &io::Error,
 ) -> ListError
-    ensures { (IsAbsence error.now → ⊥) → result ≡ ListError.OpenFault }
+    ensures { (IsPathAbsenceError error.now → ⊥) → result ≡ ListError.OpenFault }
 {
-    if !is_absent(error) {
+    if !is_path_absence_error(error) {
         return ListError::OpenFault;
     }
     match kind_at_path(rt, current, path, follow) {
@@ -97,7 +103,7 @@ fn open_error(
 }
 
 /// The names that an open directory gives, to its end.
-fn names_from<D: Read>(
+fn read_sorted_names<D: Read>(
     alloc: Global,
     composes: bool,
     dir: &mut D,
@@ -106,11 +112,11 @@ fn names_from<D: Read>(
     requires { 0 < length buffer.old }
     ensures end { IfOk result (λ _. IsAtEnd (D.remaining dir.new)) }
     ensures whole { IfOk result (λ names. IfSome (D.remaining dir.old)
-        (λ given. GivesNames composes given names)) }
-    ensures names { IfOk result AreNames }
-    ensures kept { IfOk result (All (IsGiven composes)) }
+        (λ given. ListsNamesOfAllChunks composes given names)) }
+    ensures names { IfOk result AreDistinctValidEntryNames }
+    ensures kept { IfOk result (All (IsComposedIfComposing composes)) }
     ensures few { IfOk result (λ names. length names ≤ 1000000) }
-    ensures sorted { IfOk result (IsStrictlySortedBy path_cmp) }
+    ensures sorted { IfOk result (IsStrictlySortedBy compare_path_bytes) }
     ensures refused { IfErr result (λ error. (error ≡ ListError.EntryFault)
         ⊎ (error ≡ ListError.OutOfMemory)) }
 {
@@ -120,74 +126,75 @@ fn names_from<D: Read>(
             return Err(ListError::EntryFault);
         };
         if len == 0 {
-            return in_order(composes, names).ok_or(ListError::EntryFault);
+            return sorted_names_if_distinct(composes, names).ok_or(ListError::EntryFault);
         }
-        take_names(alloc, composes, &buffer[..len], &mut names)?;
+        append_nul_separated_names(alloc, composes, &buffer[..len], &mut names)?;
     }
     Err(ListError::EntryFault)
 }
 
 /// Adds the names of a piece that the system gave, each ended by a NUL, as they are kept.
-fn take_names(
+fn append_nul_separated_names(
     alloc: Global,
     composes: bool,
     piece: &[u8],
     names: &mut Vec<Bytes>,
 ) -> Result<(), ListError>
-    requires { AreListed composes names.old.items }
-    ensures listed { AreListed composes names.new.items }
+    requires { AreValidListedNames composes names.old.items }
+    ensures listed { AreValidListedNames composes names.new.items }
     ensures all { OnOk result (names.new.items
-        ≡ names.old.items ++ given_names composes piece.now) }
+        ≡ names.old.items ++ composed_names_of_chunk composes piece.now) }
     ensures refused { IfErr result (λ error. (error ≡ ListError.EntryFault)
         ⊎ (error ≡ ListError.OutOfMemory)) }
 {
     let mut rest = piece;
-    while let Some((name, behind)) = cut_once(rest, 0) {
-        take_name(alloc, composes, name, names)?;
+    while let Some((name, behind)) = split_once_at_byte(rest, 0) {
+        append_name_unless_dots(alloc, composes, name, names)?;
         rest = behind;
     }
-    take_name(alloc, composes, rest, names)
+    append_name_unless_dots(alloc, composes, rest, names)
 }
 
 /// Adds a name that the system gave, as it is kept, where it is that of a node in the directory.
 /// See docs/DIFFERENCES.md#gix-utf8-names.
 /// See docs/DIFFERENCES.md#utf8-names.
-fn take_name(
+fn append_name_unless_dots(
     alloc: Global,
     composes: bool,
     name: &[u8],
     names: &mut Vec<Bytes>,
 ) -> Result<(), ListError>
-    requires { AreListed composes names.old.items }
-    ensures listed { AreListed composes names.new.items }
+    requires { AreValidListedNames composes names.old.items }
+    ensures listed { AreValidListedNames composes names.new.items }
     ensures all { OnOk result (names.new.items
-        ≡ names.old.items ++ kept_names composes (name.now ∷ [])) }
+        ≡ names.old.items ++ composed_names_without_dots composes (name.now ∷ [])) }
     ensures refused { IfErr result (λ error. (error ≡ ListError.EntryFault)
         ⊎ (error ≡ ListError.OutOfMemory)) }
 {
     if name.is_empty() || is_dot(name) || is_dot_dot(name) {
         return Ok(());
     }
-    add_name(alloc, composes, name, names)
+    append_composed_valid_name(alloc, composes, name, names)
 }
 
 /// Adds a name as it is kept.
-fn add_name(
+fn append_composed_valid_name(
     alloc: Global,
     composes: bool,
     name: &[u8],
     names: &mut Vec<Bytes>,
 ) -> Result<(), ListError>
-    requires { AreListed composes names.old.items }
-    ensures listed { AreListed composes names.new.items }
+    requires { AreValidListedNames composes names.old.items }
+    ensures listed { AreValidListedNames composes names.new.items }
     ensures added { OnOk result (names.new.items
-        ≡ names.old.items ++ as_kept composes name.now ∷ []) }
+        ≡ names.old.items ++ nfc_if_composing composes name.now ∷ []) }
     ensures cause { IsErrOf result ListError.EntryFault
-        → (is_name (as_kept composes name.now) ≡ false) ⊎ (1000000 ≤ length names.old.items) }
+        → (is_valid_entry_name (nfc_if_composing composes name.now) ≡ false) ⊎
+        (1000000 ≤ length names.old.items) }
     ensures refused { IfErr result (λ error. (error ≡ ListError.EntryFault)
         ⊎ (error ≡ ListError.OutOfMemory)) }
 {
-    let Some(name) = listed_name(alloc, composes, name)? else {
+    let Some(name) = composed_name_if_valid(alloc, composes, name)? else {
         return Err(ListError::EntryFault);
     };
     if names.len() >= NAME_LIMIT {
@@ -198,30 +205,34 @@ fn add_name(
 }
 
 /// A name of the system as it is kept; none where it may not stand in a directory.
-fn listed_name(alloc: Global, composes: bool, name: &[u8]) -> Result<Option<Bytes>, OutOfMemory>
-    ensures { IfOk result (λ kept. kept ≡ (if is_name (as_kept composes name.now)
-        then Some (as_kept composes name.now) else None)) }
+fn composed_name_if_valid(
+    alloc: Global,
+    composes: bool,
+    name: &[u8],
+) -> Result<Option<Bytes>, OutOfMemory>
+    ensures { IfOk result (λ kept. kept ≡ (if is_valid_entry_name (nfc_if_composing composes
+        name.now) then Some (nfc_if_composing composes name.now) else None)) }
 {
-    let kept = as_kept(alloc, composes, name)?;
-    if is_name(kept.as_bytes()) {
+    let kept = nfc_if_composing(alloc, composes, name)?;
+    if is_valid_entry_name(kept.as_bytes()) {
         return Ok(Some(kept));
     }
     Ok(None)
 }
 
 /// The names in ascending order; none exactly where two of them are equal.
-fn in_order(_composes: bool, names: Vec<Bytes>) -> Option<NameList>
-    requires { AreListed _composes names.items }
+fn sorted_names_if_distinct(_composes: bool, names: Vec<Bytes>) -> Option<NameList>
+    requires { AreValidListedNames _composes names.items }
     ensures distinct { MatchOption result (IsDistinct bytes_eq names.items → ⊥)
         (λ _. IsDistinct bytes_eq names.items) }
     ensures all { IfSome result (IsPermutation names.items) }
-    ensures names { IfSome result AreNames }
-    ensures kept { IfSome result (All (IsGiven _composes)) }
+    ensures names { IfSome result AreDistinctValidEntryNames }
+    ensures kept { IfSome result (All (IsComposedIfComposing _composes)) }
     ensures few { IfSome result (λ names. length names ≤ 1000000) }
-    ensures sorted { IfSome result (IsStrictlySortedBy path_cmp) }
+    ensures sorted { IfSome result (IsStrictlySortedBy compare_path_bytes) }
 {
     let mut names = names;
-    names.sort_unstable_by(|a, b| compare(a, b));
+    names.sort_unstable_by(|a, b| compare_names_by_bytes(a, b));
     if is_strictly_ascending(&names) {
         Some(NameList::from_vec(names))
     } else {
@@ -229,26 +240,26 @@ fn in_order(_composes: bool, names: Vec<Bytes>) -> Option<NameList>
     }
 }
 
-fn compare(a: &Bytes, b: &Bytes) -> Ordering
-    ensures { result ≡ path_cmp a.now b.now }
+fn compare_names_by_bytes(a: &Bytes, b: &Bytes) -> Ordering
+    ensures { result ≡ compare_path_bytes a.now b.now }
 {
     a.as_bytes().cmp(&b.as_bytes())
 }
 
 /// Whether each name is below the next.
 fn is_strictly_ascending(names: &[Bytes]) -> bool
-    ensures { IsTrue result ↔ IsStrictlySortedBy path_cmp names.now }
+    ensures { IsTrue result ↔ IsStrictlySortedBy compare_path_bytes names.now }
 {
     for i in 1..names.len() {
-        if !is_below(&names[i - 1], &names[i]) {
+        if !is_name_less(&names[i - 1], &names[i]) {
             return false;
         }
     }
     true
 }
 
-fn is_below(a: &Bytes, b: &Bytes) -> bool
-    ensures { IsTrue result ↔ path_cmp a.now b.now ≡ Less }
+fn is_name_less(a: &Bytes, b: &Bytes) -> bool
+    ensures { IsTrue result ↔ compare_path_bytes a.now b.now ≡ Less }
 {
-    compare(a, b).is_lt()
+    compare_names_by_bytes(a, b).is_lt()
 }

@@ -1,13 +1,13 @@
 //! What a path leads to in a stored tree.
 ghost use Rattle.std.specs.Prelude.{◌≡◌, Ok, IfOk, IsErrOf};
-ghost use Rattle.worktree_fs.specs.Tree.{Spot, look_at, found, file};
-ghost use Rattle.worktree_fs.specs.Answers.{kind_of, read_of, UnlessRead};
-ghost use Rattle.worktree_fs.specs.Stored.{names_in, AreSorted};
-ghost use Rattle.worktree_fs.specs.Way.{node_nth, place_by, LeadsTo};
-ghost use Rattle.worktree_fs.specs.Found.{look_of, ListsSorted};
+ghost use Rattle.worktree_fs.specs.Tree.{PathResolution, lookup_result_of_resolution, found, file};
+ghost use Rattle.worktree_fs.specs.Answers.{kind_of_lookup, read_answer_of_lookup, HoldsUnlessFileRead};
+ghost use Rattle.worktree_fs.specs.Stored.{named_nodes_of_entries, AreSortedValidEntries};
+ghost use Rattle.worktree_fs.specs.Way.{node_at_position, directory_reached_by_way, ResolvesToEnd};
+ghost use Rattle.worktree_fs.specs.Found.{lookup_of_found, HasSortedEntriesIfDirectory};
 
 use super::stored::{Entry, Inner, Stored};
-use super::trace::{End, descend};
+use super::trace::{End, entries_at_end_of_way};
 use crate::{NodeKind, ReadAnswer, ReadError};
 use gitbase_core::Bytes;
 use std::alloc::Global;
@@ -30,15 +30,16 @@ pub enum Found<'a> {
 }
 
 /// What stands where a path ended, beside the way down to the directory of it.
-pub fn found_at<'a>(root: &'a [Entry], way: &[usize], end: &End<'_>) -> Found<'a>
-    requires { AreSorted root.now }
-    ensures leads { (at : Spot) → LeadsTo at (place_by (names_in root.now) way.now) end.now
-        → look_of result ≡ look_at at }
-    ensures sorted { ListsSorted result }
+pub fn found_at_end_of_trace<'a>(root: &'a [Entry], way: &[usize], end: &End<'_>) -> Found<'a>
+    requires { AreSortedValidEntries root.now }
+    ensures leads { (at : PathResolution) → ResolvesToEnd at (directory_reached_by_way
+        (named_nodes_of_entries root.now) way.now) end.now → lookup_of_found result
+        ≡ lookup_result_of_resolution at }
+    ensures sorted { HasSortedEntriesIfDirectory result }
 {
     match end {
-        End::Directory => Found::Directory(descend(root, way)),
-        End::Node(at) => node_at(descend(root, way), *at),
+        End::Directory => Found::Directory(entries_at_end_of_way(root, way)),
+        End::Node(at) => found_at_entry_position(entries_at_end_of_way(root, way), *at),
         End::Missing(_, _) => Found::Absent,
         End::Nowhere => Found::Absent,
         End::Endless => Found::TooManyLinks,
@@ -46,21 +47,22 @@ pub fn found_at<'a>(root: &'a [Entry], way: &[usize], end: &End<'_>) -> Found<'a
 }
 
 /// The node at a position of a directory.
-fn node_at(dir: &[Entry], at: usize) -> Found<'_>
-    requires { AreSorted dir.now }
-    ensures leads { look_of result ≡ found (node_nth (names_in dir.now) at) }
-    ensures sorted { ListsSorted result }
+fn found_at_entry_position(dir: &[Entry], at: usize) -> Found<'_>
+    requires { AreSortedValidEntries dir.now }
+    ensures leads { lookup_of_found result ≡ found
+        (node_at_position (named_nodes_of_entries dir.now) at) }
+    ensures sorted { HasSortedEntriesIfDirectory result }
 {
     if dir.len() <= at {
         return Found::Other;
     }
-    found_node(&dir[at].node)
+    found_of_stored_node(&dir[at].node)
 }
 
 /// What leads to a node.
-fn found_node(node: &Stored) -> Found<'_>
-    ensures leads { look_of result ≡ found node.now }
-    ensures sorted { ListsSorted result }
+fn found_of_stored_node(node: &Stored) -> Found<'_>
+    ensures leads { lookup_of_found result ≡ found node.now }
+    ensures sorted { HasSortedEntriesIfDirectory result }
 {
     match node.inner() {
         Inner::File(bytes) => Found::File(bytes),
@@ -71,8 +73,8 @@ fn found_node(node: &Stored) -> Found<'_>
 }
 
 /// The kind of what a path leads to.
-pub fn kind_of(end: &Found) -> Option<NodeKind>
-    ensures { result ≡ kind_of (look_of end.now) }
+pub fn kind_of_found(end: &Found) -> Option<NodeKind>
+    ensures { result ≡ kind_of_lookup (lookup_of_found end.now) }
 {
     match end {
         Found::File(_) => Some(NodeKind::File),
@@ -84,10 +86,15 @@ pub fn kind_of(end: &Found) -> Option<NodeKind>
 }
 
 /// Puts the bytes of a file into `into`, or answers what the path leads to in its place.
-pub fn read_of(alloc: Global, end: &Found, into: &mut Bytes) -> Result<ReadAnswer, ReadError>
-    ensures answer { IfOk result (λ answer. answer ≡ read_of (look_of end.now)) }
-    ensures bytes { result ≡ Ok ReadAnswer.Read → look_of end.now ≡ found (file into.new) }
-    ensures into { UnlessRead result (into.new ≡ into.old) }
+pub fn read_found_into(
+    alloc: Global,
+    end: &Found,
+    into: &mut Bytes,
+) -> Result<ReadAnswer, ReadError>
+    ensures answer { IfOk result (λ answer. answer ≡ read_answer_of_lookup
+        (lookup_of_found end.now)) }
+    ensures bytes { result ≡ Ok ReadAnswer.Read → lookup_of_found end.now ≡ found (file into.new) }
+    ensures into { HoldsUnlessFileRead result (into.new ≡ into.old) }
     ensures no_fault { IsErrOf result ReadError.Fault → ⊥ }
 {
     match end {

@@ -1,19 +1,19 @@
 //! Nodes that are added to a stored tree.
 ghost use Rattle.std.specs.Prelude.{◌≡◌, map, IfOk, IfErr, OnOk, OnErr, IfNone, IfSome, Some, None, [], ◌∷◌, ◌<◌, ◌≤◌, length};
 ghost use Rattle.std.specs.List.{AllByRecursion};
-ghost use Rattle.gitbase_core.specs.Path.{pieces};
-ghost use Rattle.worktree_fs.specs.Tree.{directory, named, names_of, none, child};
-ghost use Rattle.worktree_fs.specs.Naming.{IsName, IsTree};
-ghost use Rattle.worktree_fs.specs.Order.{IsGap};
-ghost use Rattle.worktree_fs.specs.Stored.{names_in, AreSorted};
-ghost use Rattle.worktree_fs.specs.Grow.{grown, put, obstacle, IsRefusedBy, node_of_new};
-ghost use Rattle.worktree_fs.specs.Changes.{cut};
-ghost use Rattle.worktree_fs.specs.Way.{IsWay, here_by, names_along, depth_of};
+ghost use Rattle.gitbase_core.specs.Path.{pieces_between_slashes};
+ghost use Rattle.worktree_fs.specs.Tree.{directory, named, entry_names_in_order, none, child_by_name};
+ghost use Rattle.worktree_fs.specs.Naming.{IsValidEntryName, IsValidTree};
+ghost use Rattle.worktree_fs.specs.Order.{IsInsertionIndexOfName};
+ghost use Rattle.worktree_fs.specs.Stored.{named_nodes_of_entries, AreSortedValidEntries};
+ghost use Rattle.worktree_fs.specs.Grow.{node_with_descendant_added, entries_with_node_at_name, add_error_at_names, IsAddErrorUnlessOutOfMemory, tree_node_of_new_node};
+ghost use Rattle.worktree_fs.specs.Changes.{node_without_descendant};
+ghost use Rattle.worktree_fs.specs.Way.{IsWayOfDirectories, entries_reached_by_way, names_along_way_and_position, directory_depth_of_node};
 ghost use Rattle.worktree_fs.specs.declared.memory.grow.AddError.TheVariants.{OutOfMemory as no_memory};
 
-use super::search::search;
+use super::search::find_entry_by_name;
 use super::stored::{Entry, Inner, Stored};
-use crate::names::cut_once;
+use crate::names::split_once_at_byte;
 use gitbase_core::{Bytes, OutOfMemory};
 use std::alloc::{AllocError, AllocFailed, Global};
 use thiserror::Error;
@@ -75,10 +75,10 @@ impl<T: Drop> From<AllocFailed<T>> for AddError {
 }
 
 /// The node that is asked for.
-pub fn stored_of(alloc: Global, node: NewNode) -> Result<Stored, OutOfMemory>
-    ensures node { IfOk result (λ stored. stored ≡ node_of_new node.entry) }
-    ensures tree { IfOk result IsTree }
-    ensures depth { IfOk result (λ stored. depth_of stored ≤ 1) }
+pub fn store_new_node(alloc: Global, node: NewNode) -> Result<Stored, OutOfMemory>
+    ensures node { IfOk result (λ stored. stored ≡ tree_node_of_new_node node.entry) }
+    ensures tree { IfOk result IsValidTree }
+    ensures depth { IfOk result (λ stored. directory_depth_of_node stored ≤ 1) }
 {
     let node = match node {
         NewNode::File(bytes) => Inner::File(Bytes::from_slice(alloc, bytes)?),
@@ -91,10 +91,10 @@ pub fn stored_of(alloc: Global, node: NewNode) -> Result<Stored, OutOfMemory>
 
 /// A directory with one node.
 fn single(alloc: Global, name: &[u8], node: Stored) -> Result<Stored, OutOfMemory>
-    requires name { IsName name.now }
-    requires tree { IsTree node }
+    requires name { IsValidEntryName name.now }
+    requires tree { IsValidTree node }
     ensures single { IfOk result (λ made. made ≡ directory (named name.now node none)) }
-    ensures tree { IfOk result IsTree }
+    ensures tree { IfOk result IsValidTree }
 {
     let name = Bytes::from_slice(alloc, name)?;
     let mut entries = Vec::new(alloc);
@@ -103,73 +103,84 @@ fn single(alloc: Global, name: &[u8], node: Stored) -> Result<Stored, OutOfMemor
 }
 
 /// Directories along a path, and a node at its end.
-fn build_directories_to(alloc: Global, path: &[u8], node: Stored) -> Result<Stored, OutOfMemory>
-    requires names { AllByRecursion IsName (pieces path.now) }
-    requires tree { IsTree node }
-    ensures chain { IfOk result (λ made. made ≡ grown (pieces path.now) node None) }
-    ensures tree { IfOk result IsTree }
+fn nest_node_in_new_directories(
+    alloc: Global,
+    path: &[u8],
+    node: Stored,
+) -> Result<Stored, OutOfMemory>
+    requires names { AllByRecursion IsValidEntryName (pieces_between_slashes path.now) }
+    requires tree { IsValidTree node }
+    ensures chain { IfOk result (λ made. made ≡ node_with_descendant_added (pieces_between_slashes
+        path.now) node None) }
+    ensures tree { IfOk result IsValidTree }
 {
-    match cut_once(path, b'/') {
+    match split_once_at_byte(path, b'/') {
         None => single(alloc, path, node),
-        Some((name, rest)) => single(alloc, name, build_directories_to(alloc, rest, node)?),
+        Some((name, rest)) => single(
+            alloc,
+            name,
+            nest_node_in_new_directories(alloc, rest, node)?,
+        ),
     }
 }
 
 /// Puts a node at the end of a path below a directory, with the directories on the way.
 #[cycle(add)]
-pub fn add_in(
+pub fn add_node_below_entries(
     entries: &mut Vec<Entry>,
     alloc: Global,
     path: &[u8],
     node: Stored,
 ) -> Result<(), AddError>
-    requires sorted { AreSorted entries.old.items }
-    requires names { AllByRecursion IsName (pieces path.now) }
-    requires tree { IsTree node }
-    ensures grown { OnOk result (directory (names_in entries.new.items)
-        ≡ grown (pieces path.now) node (Some (directory (names_in entries.old.items)))) }
-    ensures free { OnOk result (obstacle (pieces path.now) (Some (directory
-        (names_in entries.old.items))) ≡ None) }
-    ensures refused { IfErr result (IsRefusedBy (obstacle (pieces path.now) (Some (directory
-        (names_in entries.old.items))))) }
+    requires sorted { AreSortedValidEntries entries.old.items }
+    requires names { AllByRecursion IsValidEntryName (pieces_between_slashes path.now) }
+    requires tree { IsValidTree node }
+    ensures grown { OnOk result (directory (named_nodes_of_entries entries.new.items)
+        ≡ node_with_descendant_added (pieces_between_slashes path.now) node
+        (Some (directory (named_nodes_of_entries entries.old.items)))) }
+    ensures free { OnOk result (add_error_at_names (pieces_between_slashes path.now)
+        (Some (directory (named_nodes_of_entries entries.old.items))) ≡ None) }
+    ensures refused { IfErr result (IsAddErrorUnlessOutOfMemory
+        (add_error_at_names (pieces_between_slashes path.now)
+        (Some (directory (named_nodes_of_entries entries.old.items))))) }
     ensures unchanged { OnErr result (entries.new.items ≡ entries.old.items) }
-    ensures sorted { AreSorted entries.new.items }
+    ensures sorted { AreSortedValidEntries entries.new.items }
 {
-    match cut_once(path, b'/') {
-        None => match search(entries, path) {
+    match split_once_at_byte(path, b'/') {
+        None => match find_entry_by_name(entries, path) {
             Ok(_) => Err(AddError::Exists),
-            Err(at) => Ok(put_at(entries, alloc, at, path, node)?),
+            Err(at) => Ok(insert_entry_at_position(entries, alloc, at, path, node)?),
         },
-        Some((name, rest)) => match search(entries, name) {
+        Some((name, rest)) => match find_entry_by_name(entries, name) {
             Ok(at) => {
                 let entry = &mut entries[at];
                 entry.node.add(alloc, rest, node)
             }
             Err(at) => {
-                let made = build_directories_to(alloc, rest, node)?;
-                Ok(put_at(entries, alloc, at, name, made)?)
+                let made = nest_node_in_new_directories(alloc, rest, node)?;
+                Ok(insert_entry_at_position(entries, alloc, at, name, made)?)
             }
         },
     }
 }
 
 /// Puts a node into the gap for its name.
-fn put_at(
+fn insert_entry_at_position(
     entries: &mut Vec<Entry>,
     alloc: Global,
     at: usize,
     name: &[u8],
     node: Stored,
 ) -> Result<(), OutOfMemory>
-    requires sorted { AreSorted entries.old.items }
-    requires gap { IsGap (map (λ e. e.name) entries.old.items) name.now at }
-    requires name { IsName name.now }
-    requires tree { IsTree node }
-    ensures put { OnOk result (names_in entries.new.items
-        ≡ put name.now node (names_in entries.old.items)) }
-    ensures absent { child (names_in entries.old.items) name.now ≡ None }
+    requires sorted { AreSortedValidEntries entries.old.items }
+    requires gap { IsInsertionIndexOfName (map (λ e. e.name) entries.old.items) name.now at }
+    requires name { IsValidEntryName name.now }
+    requires tree { IsValidTree node }
+    ensures put { OnOk result (named_nodes_of_entries entries.new.items
+        ≡ entries_with_node_at_name name.now node (named_nodes_of_entries entries.old.items)) }
+    ensures absent { child_by_name (named_nodes_of_entries entries.old.items) name.now ≡ None }
     ensures unchanged { OnErr result (entries.new.items ≡ entries.old.items) }
-    ensures sorted { AreSorted entries.new.items }
+    ensures sorted { AreSortedValidEntries entries.new.items }
 {
     let name = Bytes::from_slice(alloc, name)?;
     entries.insert(at, Entry { name, node })?;
@@ -178,28 +189,29 @@ fn put_at(
 
 /// Removes the node at a position of the directory at the end of a way.
 #[cycle(cut)]
-pub fn cut_at(entries: &mut Vec<Entry>, way: &[usize], at: usize)
-    requires sorted { AreSorted entries.old.items }
-    requires is_way { IsWay way.now (names_in entries.old.items) }
-    requires there { at < length (names_of (here_by way.now (names_in entries.old.items))) }
-    ensures cut { directory (names_in entries.new.items)
-        ≡ cut (names_along way.now at (names_in entries.old.items)) (directory
-        (names_in entries.old.items)) }
-    ensures sorted { AreSorted entries.new.items }
+pub fn remove_entry_by_positions(entries: &mut Vec<Entry>, way: &[usize], at: usize)
+    requires sorted { AreSortedValidEntries entries.old.items }
+    requires is_way { IsWayOfDirectories way.now (named_nodes_of_entries entries.old.items) }
+    requires there { at < length (entry_names_in_order (entries_reached_by_way way.now
+        (named_nodes_of_entries entries.old.items))) }
+    ensures cut { directory (named_nodes_of_entries entries.new.items) ≡ node_without_descendant
+        (names_along_way_and_position way.now at (named_nodes_of_entries entries.old.items))
+        (directory (named_nodes_of_entries entries.old.items)) }
+    ensures sorted { AreSortedValidEntries entries.new.items }
 {
-    match first_step(way) {
+    match split_first_position(way) {
         None => {
             let _removed = entries.remove(at);
         }
         Some((first, rest)) => {
             let entry = &mut entries[first];
-            entry.node.cut_at(rest, at);
+            entry.node.remove_descendant_by_positions(rest, at);
         }
     }
 }
 
 /// The first position of a way, and those behind it.
-fn first_step(way: &[usize]) -> Option<(usize, &[usize])>
+fn split_first_position(way: &[usize]) -> Option<(usize, &[usize])>
     ensures none { IfNone result (way.now ≡ []) }
     ensures some { IfSome result (λ step. way.now ≡ step.0 ∷ step.1.now) }
 {
@@ -210,12 +222,12 @@ fn first_step(way: &[usize]) -> Option<(usize, &[usize])>
 }
 
 /// How many names a path has.
-pub fn count_parts(path: &[u8]) -> usize
-    ensures { result ≡ length (pieces path.now) }
+pub fn count_slash_separated_pieces(path: &[u8]) -> usize
+    ensures { result ≡ length (pieces_between_slashes path.now) }
 {
     let mut count = 1;
     let mut rest = path;
-    while let Some((_, behind)) = cut_once(rest, b'/') {
+    while let Some((_, behind)) = split_once_at_byte(rest, b'/') {
         count += 1;
         rest = behind;
     }

@@ -4,7 +4,7 @@ ghost use Rattle.std.specs.Prelude.{◌≡◌, None};
 use super::Owners;
 use super::ownership::Ownership;
 use crate::ReadError;
-use crate::disk::node::is_absent;
+use crate::disk::node::is_path_absence_error;
 use crate::faults::is_fault;
 use std::fs::Metadata;
 use std::marker::Model;
@@ -26,7 +26,7 @@ pub struct DiskOwners<'a> {
 impl<'a> Model for DiskOwners<'a> {
     ghost use Rattle.worktree_fs.specs.Owners as words;
 
-    ghost Value = { words.Asked };
+    ghost Value = { words.DiskOwnersModel };
 
     ghost view = { λ owners. record { faults = owners.faults } };
 }
@@ -48,7 +48,7 @@ impl<'a> DiskOwners<'a> {
 }
 
 /// What the system's word on a node tells.
-fn ownership_of(metadata: &Metadata) -> Ownership {
+fn ownership_of_metadata(metadata: &Metadata) -> Ownership {
     Ownership {
         owner: metadata.uid(),
         device: metadata.dev(),
@@ -70,8 +70,8 @@ fn query_ownership(
         rt.symlink_metadata(text)
     };
     match metadata {
-        Ok(metadata) => Ok(Some(ownership_of(&metadata))),
-        Err(error) if is_absent(&error) => Ok(None),
+        Ok(metadata) => Ok(Some(ownership_of_metadata(&metadata))),
+        Err(error) if is_path_absence_error(&error) => Ok(None),
         Err(_) => Err(ReadError::Fault),
     }
 }
@@ -82,7 +82,11 @@ impl<'a> Owners for DiskOwners<'a> {
     ghost faults = { λ owners. owners.faults };
 
     /// One call of the system.
-    fn ownership(&mut self, path: &[u8], follow: bool) -> Result<Option<Ownership>, ReadError> {
+    fn ownership_at_path(
+        &mut self,
+        path: &[u8],
+        follow: bool,
+    ) -> Result<Option<Ownership>, ReadError> {
         let found = query_ownership(self.rt, path, follow);
         if is_fault(&found) {
             self.faults = self.faults.saturating_add(1);

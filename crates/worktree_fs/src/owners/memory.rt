@@ -29,7 +29,8 @@ impl Model for OwnedNode {
 impl OwnedNode {
     /// What is told of the node: of a link itself, unless it is followed.
     pub fn told(&self, follow: bool) -> Ownership
-        ensures { result ≡ words.told_of self.now.ownership self.now.link follow }
+        ensures { result ≡ words.ownership_followed_or_of_link self.now.ownership self.now.link
+            follow }
     {
         match self.link {
             Some(link) if !follow => link,
@@ -64,7 +65,7 @@ impl MemoryOwners {
     }
 
     /// The first node at a path.
-    fn node_at(&self, path: &[u8]) -> Option<&OwnedNode>
+    fn first_node_at_path(&self, path: &[u8]) -> Option<&OwnedNode>
         ensures { option_copied result ≡ find (λ node. bytes_eq node.path path.now) self.now }
     {
         self.nodes.iter().find(|node| node.path.as_bytes() == path)
@@ -72,12 +73,16 @@ impl MemoryOwners {
 }
 
 impl Owners for MemoryOwners {
-    ghost told = { λ owners. Some (words.owned_in owners) };
+    ghost told = { λ owners. Some (words.ownership_by_path_of_nodes owners) };
 
     ghost faults = { λ _. 0 };
 
-    fn ownership(&mut self, path: &[u8], follow: bool) -> Result<Option<Ownership>, ReadError> {
-        match self.node_at(path) {
+    fn ownership_at_path(
+        &mut self,
+        path: &[u8],
+        follow: bool,
+    ) -> Result<Option<Ownership>, ReadError> {
+        match self.first_node_at_path(path) {
             Some(node) => Ok(Some(node.told(follow))),
             None => Ok(None),
         }

@@ -1,10 +1,10 @@
 //! A depth limit, as a word has it.
 ghost use Rattle.std.specs.Prelude.{◌≡◌, ◌≤◌, IfSome};
-ghost use Rattle.worktree_report.specs.SetupDepth.{digit_of, leading_digit_of, two_digits, three_digits, depth_of};
+ghost use Rattle.worktree_report.specs.SetupDepth.{parse_decimal_digit, parse_nonzero_digit, parse_two_digits, parse_three_digits, parse_depth_limit};
 
 /// The number that a digit gives.
-pub fn digit_of(byte: u8) -> Option<usize>
-    ensures value { result ≡ digit_of byte }
+pub fn parse_decimal_digit(byte: u8) -> Option<usize>
+    ensures value { result ≡ parse_decimal_digit byte }
     ensures within { IfSome result (λ digit. digit ≤ 9) }
 {
     match byte {
@@ -13,36 +13,36 @@ pub fn digit_of(byte: u8) -> Option<usize>
     }
 }
 
-fn leading_digit_of(byte: u8) -> Option<usize>
-    ensures value { result ≡ leading_digit_of byte }
+fn parse_nonzero_digit(byte: u8) -> Option<usize>
+    ensures value { result ≡ parse_nonzero_digit byte }
     ensures within { IfSome result (λ digit. digit ≤ 9) }
 {
     if byte == b'0' {
         return None;
     }
-    digit_of(byte)
+    parse_decimal_digit(byte)
 }
 
-fn two_digits(tens: u8, ones: u8) -> Option<usize>
-    ensures value { result ≡ two_digits tens ones }
+fn parse_two_digits(tens: u8, ones: u8) -> Option<usize>
+    ensures value { result ≡ parse_two_digits tens ones }
     ensures within { IfSome result (λ number. number ≤ 99) }
 {
-    let Some(tens) = leading_digit_of(tens) else {
+    let Some(tens) = parse_nonzero_digit(tens) else {
         return None;
     };
-    let Some(ones) = digit_of(ones) else {
+    let Some(ones) = parse_decimal_digit(ones) else {
         return None;
     };
     Some(10 * tens + ones)
 }
 
-fn three_digits(hundreds: u8, tens: u8, ones: u8) -> Option<usize>
-    ensures { result ≡ three_digits hundreds tens ones }
+fn parse_three_digits(hundreds: u8, tens: u8, ones: u8) -> Option<usize>
+    ensures { result ≡ parse_three_digits hundreds tens ones }
 {
-    let Some(front) = two_digits(hundreds, tens) else {
+    let Some(front) = parse_two_digits(hundreds, tens) else {
         return None;
     };
-    let Some(ones) = digit_of(ones) else {
+    let Some(ones) = parse_decimal_digit(ones) else {
         return None;
     };
     Some(10 * front + ones)
@@ -50,13 +50,13 @@ fn three_digits(hundreds: u8, tens: u8, ones: u8) -> Option<usize>
 
 /// The number that a word gives as a depth, from 0 to 1000 in decimal, without zeros in front. None
 /// where it gives none.
-pub fn depth_of(value: &[u8]) -> Option<usize>
-    ensures { result ≡ depth_of value.now }
+pub fn parse_depth_limit(value: &[u8]) -> Option<usize>
+    ensures { result ≡ parse_depth_limit value.now }
 {
     match value {
-        [ones] => digit_of(*ones),
-        [tens, ones] => two_digits(*tens, *ones),
-        [hundreds, tens, ones] => three_digits(*hundreds, *tens, *ones),
+        [ones] => parse_decimal_digit(*ones),
+        [tens, ones] => parse_two_digits(*tens, *ones),
+        [hundreds, tens, ones] => parse_three_digits(*hundreds, *tens, *ones),
         [_, _, _, _] => {
             if value == b"1000".as_slice() {
                 Some(1000)

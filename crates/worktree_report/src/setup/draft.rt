@@ -2,13 +2,13 @@
 ghost use Rattle.std.specs.Prelude.{◌≡◌, ◌++◌, ◌∷◌, [], map, Some, IfOk, OnOk};
 ghost use Rattle.worktree_report.specs.declared.setup.line.SetupLine.TheVariants.{Sets};
 ghost use Rattle.worktree_report.specs.SetupText.{add_setup_line};
-ghost use Rattle.worktree_report.specs.SetupKeywords.{line_of};
-ghost use Rattle.worktree_report.specs.SetupParsed.{ReadGives};
+ghost use Rattle.worktree_report.specs.SetupKeywords.{parse_setup_line};
+ghost use Rattle.worktree_report.specs.SetupParsed.{IsDraftOfLines};
 
 use crate::setup::SetupError;
 use crate::setup::files::SetupBlob;
-use crate::setup::line::{SetupLine, line_of};
-use crate::setup::option::{SetupOption, is_set};
+use crate::setup::line::{SetupLine, parse_setup_line};
+use crate::setup::option::{SetupOption, is_option_set};
 use git_config_lite::Source;
 use gitbase_core::{Bytes, OutOfMemory, PathText, State};
 use std::alloc::Global;
@@ -34,9 +34,9 @@ pub struct Draft {
 }
 
 impl Model for Draft {
-    ghost use Rattle.worktree_report.specs.SetupSaid.{Said};
+    ghost use Rattle.worktree_report.specs.SetupSaid.{SetupDraft};
 
-    ghost Value = { Said };
+    ghost Value = { SetupDraft };
 
     ghost view = { λ draft. record {
       options = draft.options.items;
@@ -52,7 +52,7 @@ impl Model for Draft {
 
 /// Adds an ignore rule and a line feed.
 /// See docs/DECISIONS.md#any-bytes-are-a-rule.
-fn add_rule(text: &mut Vec<u8>, rule: &[u8]) -> Result<(), OutOfMemory>
+fn append_rule_line(text: &mut Vec<u8>, rule: &[u8]) -> Result<(), OutOfMemory>
     ensures { OnOk result (text.new.items ≡ text.old.items ++ rule.now ++ 10 ∷ []) }
 {
     text.extend_from_slice(rule)?;
@@ -61,10 +61,13 @@ fn add_rule(text: &mut Vec<u8>, rule: &[u8]) -> Result<(), OutOfMemory>
 }
 
 /// What is said with one more option. None where it is set already.
-fn add_option(mut draft: Draft, option: SetupOption) -> Result<Option<Draft>, OutOfMemory>
+fn add_option_unless_set(
+    mut draft: Draft,
+    option: SetupOption,
+) -> Result<Option<Draft>, OutOfMemory>
     ensures { IfOk result (λ next. next ≡ add_setup_line draft (Some (Sets option))) }
 {
-    if is_set(option.name.as_bytes(), &draft.options) {
+    if is_option_set(option.name.as_bytes(), &draft.options) {
         return Ok(None);
     }
     draft.options.push(option)?;
@@ -77,14 +80,14 @@ fn add_setup_line(
     mut draft: Draft,
     line: &[u8],
 ) -> Result<Option<Draft>, OutOfMemory>
-    ensures { IfOk result (λ next. next ≡ add_setup_line draft (line_of line.now)) }
+    ensures { IfOk result (λ next. next ≡ add_setup_line draft (parse_setup_line line.now)) }
 {
-    match line_of(alloc, line)? {
+    match parse_setup_line(alloc, line)? {
         None => Ok(None),
         Some(SetupLine::Skipped) => Ok(Some(draft)),
-        Some(SetupLine::Sets(option)) => Ok(add_option(draft, option)?),
+        Some(SetupLine::Sets(option)) => Ok(add_option_unless_set(draft, option)?),
         Some(SetupLine::Indexes(entry)) => {
-            if draft.index.error_of(&entry).is_some() {
+            if draft.index.error_if_entry_were_pushed(&entry).is_some() {
                 return Ok(None);
             }
             draft.index.push(alloc, entry)?;
@@ -95,11 +98,11 @@ fn add_setup_line(
             Ok(Some(draft))
         }
         Some(SetupLine::OverrideRule(rule)) => {
-            add_rule(&mut draft.overrides, rule.as_bytes())?;
+            append_rule_line(&mut draft.overrides, rule.as_bytes())?;
             Ok(Some(draft))
         }
         Some(SetupLine::GlobalRule(rule)) => {
-            add_rule(&mut draft.globals, rule.as_bytes())?;
+            append_rule_line(&mut draft.globals, rule.as_bytes())?;
             Ok(Some(draft))
         }
         Some(SetupLine::Specifies(text)) => {
@@ -120,9 +123,9 @@ fn add_setup_line(
 /// What the lines say together.
 ///
 /// `Line` names the first line outside the grammar, counted from 1.
-#[tactic(auto, unfolding(crate::specs::SetupText::said))]
-pub fn read_lines(alloc: Global, lines: &[&[u8]]) -> Result<Draft, SetupError>
-    ensures { ReadGives result (map (λ line. line.now) lines.now) }
+#[tactic(auto, unfolding(crate::specs::SetupText::draft_of_lines))]
+pub fn read_draft_from_lines(alloc: Global, lines: &[&[u8]]) -> Result<Draft, SetupError>
+    ensures { IsDraftOfLines result (map (λ line. line.now) lines.now) }
 {
     let mut draft = Draft {
         options: Vec::new(alloc),

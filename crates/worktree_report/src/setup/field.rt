@@ -11,7 +11,7 @@ pub struct Field<'a> {
 }
 
 /// The place of the first space.
-fn first_space(bytes: &[u8]) -> Option<usize>
+fn index_of_first_space(bytes: &[u8]) -> Option<usize>
     ensures place { result ≡ position (λ b. b == 32) bytes.now }
     ensures within { IfSome result (λ place. place < length bytes.now) }
 {
@@ -22,7 +22,7 @@ fn first_space(bytes: &[u8]) -> Option<usize>
 pub fn split_at_first_space(bytes: &[u8]) -> Option<Field<'_>>
     ensures { option_map seen result ≡ split_at_first_space bytes.now }
 {
-    let Some(place) = first_space(bytes) else {
+    let Some(place) = index_of_first_space(bytes) else {
         return None;
     };
     let (word, _) = bytes.split_at(place);

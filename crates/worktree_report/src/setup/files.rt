@@ -1,11 +1,11 @@
 //! The lines of a setup that give blobs and name configurations.
 ghost use Rattle.std.specs.Prelude.{◌≡◌, IfOk};
 ghost use Rattle.std.specs.FinMap.{empty};
-ghost use Rattle.worktree_report.specs.SetupFiles.{blob_of, stored_after, source_of, config_of};
+ghost use Rattle.worktree_report.specs.SetupFiles.{parse_blob_line, objects_with_blobs_added, parse_config_source, parse_config_line};
 
-use crate::escape::unescaped;
+use crate::escape::unescape_path;
 use crate::setup::field::split_at_first_space;
-use crate::setup::index_line::id_of;
+use crate::setup::index_line::parse_id_word;
 use git_config_lite::Source;
 use gitbase_core::{Bytes, MemoryStore, ObjectId, OutOfMemory, PathText, is_absolute};
 use std::alloc::Global;
@@ -21,16 +21,16 @@ pub struct SetupBlob {
 /// or says nothing.
 ///
 /// See docs/DECISIONS.md#same-blob-twice.
-pub fn blob_of(alloc: Global, rest: &[u8]) -> Result<Option<SetupBlob>, OutOfMemory>
-    ensures { IfOk result (λ given. given ≡ blob_of rest.now) }
+pub fn parse_blob_line(alloc: Global, rest: &[u8]) -> Result<Option<SetupBlob>, OutOfMemory>
+    ensures { IfOk result (λ given. given ≡ parse_blob_line rest.now) }
 {
     let Some(fields) = split_at_first_space(rest) else {
         return Ok(None);
     };
-    let Some(id) = id_of(fields.word) else {
+    let Some(id) = parse_id_word(fields.word) else {
         return Ok(None);
     };
-    let Some(bytes) = unescaped(alloc, fields.rest)? else {
+    let Some(bytes) = unescape_path(alloc, fields.rest)? else {
         return Ok(None);
     };
     Ok(Some(SetupBlob {
@@ -41,7 +41,7 @@ pub fn blob_of(alloc: Global, rest: &[u8]) -> Result<Option<SetupBlob>, OutOfMem
 
 /// A store of these blobs. Of two with one id the later stays.
 pub fn store_from_blobs(alloc: Global, blobs: &[SetupBlob]) -> Result<MemoryStore, OutOfMemory>
-    ensures { IfOk result (λ store. store ≡ stored_after empty blobs.now) }
+    ensures { IfOk result (λ store. store ≡ objects_with_blobs_added empty blobs.now) }
 {
     let mut store = MemoryStore::new(alloc);
     for blob in blobs.iter() {
@@ -51,8 +51,8 @@ pub fn store_from_blobs(alloc: Global, blobs: &[SetupBlob]) -> Result<MemoryStor
 }
 
 /// What a configuration belongs to, by its word. None where no word is that.
-fn source_of(word: &[u8]) -> Option<Source>
-    ensures { result ≡ source_of word.now }
+fn parse_config_source(word: &[u8]) -> Option<Source>
+    ensures { result ≡ parse_config_source word.now }
 {
     if word == b"installation".as_slice() {
         Some(Source::GitInstallation)
@@ -75,13 +75,16 @@ fn source_of(word: &[u8]) -> Option<Source>
 
 /// The configuration that a line names behind its keyword, which is `SOURCE PATH` with an absolute
 /// path. None where a word is missing or says nothing.
-pub fn config_of(alloc: Global, rest: &[u8]) -> Result<Option<(Source, PathText)>, OutOfMemory>
-    ensures { IfOk result (λ named. named ≡ config_of rest.now) }
+pub fn parse_config_line(
+    alloc: Global,
+    rest: &[u8],
+) -> Result<Option<(Source, PathText)>, OutOfMemory>
+    ensures { IfOk result (λ named. named ≡ parse_config_line rest.now) }
 {
     let Some(fields) = split_at_first_space(rest) else {
         return Ok(None);
     };
-    let Some(source) = source_of(fields.word) else {
+    let Some(source) = parse_config_source(fields.word) else {
         return Ok(None);
     };
     if !is_absolute(fields.rest) {

@@ -1,9 +1,9 @@
 //! The lines of a setup that give the index.
 ghost use Rattle.std.specs.Prelude.{◌≡◌, option_map, IfOk};
-ghost use Rattle.worktree_report.specs.SetupIndex.{mode_of, stage_of, flags_of, several_flags_of, id_of, index_words, entry_in, index_entry};
-ghost use Rattle.worktree_report.specs.SetupSeen.{words_seen};
+ghost use Rattle.worktree_report.specs.SetupIndex.{parse_mode_word, parse_stage_word, parse_flags_word, parse_flags_of_several_letters, parse_id_word, split_index_words, index_entry_from_words, parse_index_entry};
+ghost use Rattle.worktree_report.specs.SetupSeen.{index_words_of_borrowed};
 
-use crate::escape::unescaped;
+use crate::escape::unescape_path;
 use crate::setup::field::split_at_first_space;
 use gitbase_core::{Flags, IndexEntry, Mode, ObjectId, OutOfMemory};
 use std::alloc::Global;
@@ -18,8 +18,8 @@ struct IndexWords<'a> {
     path: &'a [u8],
 }
 
-fn mode_of(word: &[u8]) -> Option<Mode>
-    ensures { result ≡ mode_of word.now }
+fn parse_mode_word(word: &[u8]) -> Option<Mode>
+    ensures { result ≡ parse_mode_word word.now }
 {
     if word == b"100644".as_slice() {
         Some(Mode::FILE)
@@ -36,8 +36,8 @@ fn mode_of(word: &[u8]) -> Option<Mode>
     }
 }
 
-fn stage_of(word: &[u8]) -> Option<u8>
-    ensures { result ≡ stage_of word.now }
+fn parse_stage_word(word: &[u8]) -> Option<u8>
+    ensures { result ≡ parse_stage_word word.now }
 {
     match word {
         [digit @ b'0'..=b'3'] => Some(*digit - b'0'),
@@ -45,8 +45,8 @@ fn stage_of(word: &[u8]) -> Option<u8>
     }
 }
 
-fn flags_of(word: &[u8]) -> Option<Flags>
-    ensures { result ≡ flags_of word.now }
+fn parse_flags_word(word: &[u8]) -> Option<Flags>
+    ensures { result ≡ parse_flags_word word.now }
 {
     if word == b"-".as_slice() {
         Some(Flags::empty())
@@ -57,13 +57,13 @@ fn flags_of(word: &[u8]) -> Option<Flags>
     } else if word == b"s".as_slice() {
         Some(Flags::SKIP_WORKTREE)
     } else {
-        several_flags_of(word)
+        parse_flags_of_several_letters(word)
     }
 }
 
 /// The flags of a word of several letters.
-fn several_flags_of(word: &[u8]) -> Option<Flags>
-    ensures { result ≡ several_flags_of word.now }
+fn parse_flags_of_several_letters(word: &[u8]) -> Option<Flags>
+    ensures { result ≡ parse_flags_of_several_letters word.now }
 {
     if word == b"ua".as_slice() {
         Some(Flags::UPTODATE.union(Flags::ASSUME_VALID))
@@ -80,8 +80,8 @@ fn several_flags_of(word: &[u8]) -> Option<Flags>
 
 /// The id of a word: a dash for that of no object, or 40 hexadecimal digits. None for any other
 /// word.
-pub fn id_of(word: &[u8]) -> Option<ObjectId>
-    ensures { result ≡ id_of word.now }
+pub fn parse_id_word(word: &[u8]) -> Option<ObjectId>
+    ensures { result ≡ parse_id_word word.now }
 {
     if word == b"-".as_slice() {
         return Some(ObjectId::null());
@@ -89,8 +89,8 @@ pub fn id_of(word: &[u8]) -> Option<ObjectId>
     ObjectId::from_hex(word).ok()
 }
 
-fn index_words(rest: &[u8]) -> Option<IndexWords<'_>>
-    ensures { option_map words_seen result ≡ index_words rest.now }
+fn split_index_words(rest: &[u8]) -> Option<IndexWords<'_>>
+    ensures { option_map index_words_of_borrowed result ≡ split_index_words rest.now }
 {
     let Some(mode) = split_at_first_space(rest) else {
         return None;
@@ -115,11 +115,11 @@ fn index_words(rest: &[u8]) -> Option<IndexWords<'_>>
 
 /// The entry that a line gives behind its keyword, which is `MODE STAGE FLAGS ID PATH`. None where
 /// a word is missing, or says nothing.
-pub fn index_entry(alloc: Global, rest: &[u8]) -> Result<Option<IndexEntry>, OutOfMemory>
-    ensures { IfOk result (λ entry. entry ≡ index_entry rest.now) }
+pub fn parse_index_entry(alloc: Global, rest: &[u8]) -> Result<Option<IndexEntry>, OutOfMemory>
+    ensures { IfOk result (λ entry. entry ≡ parse_index_entry rest.now) }
 {
-    match index_words(rest) {
-        Some(words) => entry_in(alloc, words),
+    match split_index_words(rest) {
+        Some(words) => index_entry_from_words(alloc, words),
         None => Ok(None),
     }
 }
@@ -127,22 +127,26 @@ pub fn index_entry(alloc: Global, rest: &[u8]) -> Result<Option<IndexEntry>, Out
 /// What the words of an entry say.
 ///
 /// See docs/DECISIONS.md#index-lines.
-fn entry_in(alloc: Global, words: IndexWords<'_>) -> Result<Option<IndexEntry>, OutOfMemory>
-    ensures { IfOk result (λ entry. entry ≡ entry_in (words_seen words.entry)) }
+fn index_entry_from_words(
+    alloc: Global,
+    words: IndexWords<'_>,
+) -> Result<Option<IndexEntry>, OutOfMemory>
+    ensures { IfOk result (λ entry. entry ≡ index_entry_from_words (index_words_of_borrowed
+        words.entry)) }
 {
-    let Some(mode) = mode_of(words.mode) else {
+    let Some(mode) = parse_mode_word(words.mode) else {
         return Ok(None);
     };
-    let Some(stage) = stage_of(words.stage) else {
+    let Some(stage) = parse_stage_word(words.stage) else {
         return Ok(None);
     };
-    let Some(flags) = flags_of(words.flags) else {
+    let Some(flags) = parse_flags_word(words.flags) else {
         return Ok(None);
     };
-    let Some(id) = id_of(words.id) else {
+    let Some(id) = parse_id_word(words.id) else {
         return Ok(None);
     };
-    let Some(path) = unescaped(alloc, words.path)? else {
+    let Some(path) = unescape_path(alloc, words.path)? else {
         return Ok(None);
     };
     Ok(Some(IndexEntry {

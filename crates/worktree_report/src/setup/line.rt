@@ -1,16 +1,16 @@
 //! What a line of a setup says by itself.
 ghost use Rattle.std.specs.Prelude.{◌≡◌, ◌&&◌, not, is_some, IfOk};
-ghost use Rattle.worktree_report.specs.SetupKeywords.{is_skipped, is_root, is_once, once_line, file_line, spec_line, worktree_line, path_line, rule_line, keyword_line, line_of};
+ghost use Rattle.worktree_report.specs.SetupKeywords.{is_empty_or_comment_line, is_valid_root_value, is_valid_setting_allowed_once, parse_single_setting_line, parse_blob_config_or_single_line, parse_spec_line, parse_worktree_line, parse_spec_worktree_or_file_line, parse_rule_or_later_line, parse_line_by_keyword, parse_setup_line};
 ghost use Rattle.worktree_report.specs.SetupSeen.{seen};
 
-use crate::escape::unescaped;
-use crate::setup::depth::depth_of;
+use crate::escape::unescape_path;
+use crate::setup::depth::parse_depth_limit;
 use crate::setup::field::{Field, split_at_first_space};
-use crate::setup::files::{SetupBlob, blob_of, config_of};
-use crate::setup::index_line::index_entry;
-use crate::setup::option::{SetupOption, option_of};
-use crate::setup::spec::is_spec;
-use crate::words::{has_nul, is_whole_path};
+use crate::setup::files::{SetupBlob, parse_blob_line, parse_config_line};
+use crate::setup::index_line::parse_index_entry;
+use crate::setup::option::{SetupOption, parse_option_line};
+use crate::setup::spec::is_valid_spec;
+use crate::words::{contains_nul_byte, is_absolute_without_dots};
 use git_config_lite::Source;
 use gitbase_core::{Bytes, IndexEntry, OutOfMemory, PathText, is_absolute};
 use std::alloc::Global;
@@ -38,54 +38,57 @@ pub enum SetupLine {
     Configures((Source, PathText)),
 }
 
-fn is_skipped(line: &[u8]) -> bool
-    ensures { result ≡ is_skipped line.now }
+fn is_empty_or_comment_line(line: &[u8]) -> bool
+    ensures { result ≡ is_empty_or_comment_line line.now }
 {
     matches!(line, [] | [b'#', ..])
 }
 
-fn keyword_line(alloc: Global, fields: Field<'_>) -> Result<Option<SetupLine>, OutOfMemory>
-    ensures { IfOk result (λ line. line ≡ keyword_line (seen fields.entry)) }
+fn parse_line_by_keyword(alloc: Global, fields: Field<'_>) -> Result<Option<SetupLine>, OutOfMemory>
+    ensures { IfOk result (λ line. line ≡ parse_line_by_keyword (seen fields.entry)) }
 {
     if fields.word == b"option".as_slice() {
-        return Ok(option_of(alloc, fields.rest)?.map(SetupLine::Sets));
+        return Ok(parse_option_line(alloc, fields.rest)?.map(SetupLine::Sets));
     }
     if fields.word == b"index".as_slice() {
-        return Ok(index_entry(alloc, fields.rest)?.map(SetupLine::Indexes));
+        return Ok(parse_index_entry(alloc, fields.rest)?.map(SetupLine::Indexes));
     }
-    rule_line(alloc, fields)
+    parse_rule_or_later_line(alloc, fields)
 }
 
 /// Whether bytes may be a traversal root.
 /// See docs/DECISIONS.md#root-line.
-fn is_root(rest: &[u8]) -> bool
-    ensures { result ≡ is_root rest.now }
+fn is_valid_root_value(rest: &[u8]) -> bool
+    ensures { result ≡ is_valid_root_value rest.now }
 {
-    !rest.is_empty() && !has_nul(rest)
+    !rest.is_empty() && !contains_nul_byte(rest)
 }
 
 /// Whether a line is one of those that stand once, and has a value that it may have.
-fn is_once(fields: &Field<'_>) -> bool
-    ensures { result ≡ is_once (seen fields.now) }
+fn is_valid_setting_allowed_once(fields: &Field<'_>) -> bool
+    ensures { result ≡ is_valid_setting_allowed_once (seen fields.now) }
 {
     if fields.word == b"depth".as_slice() {
-        return depth_of(fields.rest).is_some();
+        return parse_depth_limit(fields.rest).is_some();
     }
     if fields.word == b"root".as_slice() {
-        return is_root(fields.rest);
+        return is_valid_root_value(fields.rest);
     }
     if fields.word == b"git_dir".as_slice() || fields.word == b"current_dir".as_slice() {
-        return is_whole_path(fields.rest);
+        return is_absolute_without_dots(fields.rest);
     }
     false
 }
 
 /// A line that gives the depth limit, the traversal root or the place of a directory. What it gives
 /// is kept as an option under its keyword.
-fn once_line(alloc: Global, fields: Field<'_>) -> Result<Option<SetupLine>, OutOfMemory>
-    ensures { IfOk result (λ line. line ≡ once_line (seen fields.entry)) }
+fn parse_single_setting_line(
+    alloc: Global,
+    fields: Field<'_>,
+) -> Result<Option<SetupLine>, OutOfMemory>
+    ensures { IfOk result (λ line. line ≡ parse_single_setting_line (seen fields.entry)) }
 {
-    if !is_once(&fields) {
+    if !is_valid_setting_allowed_once(&fields) {
         return Ok(None);
     }
     Ok(Some(SetupLine::Sets(SetupOption {
@@ -95,10 +98,10 @@ fn once_line(alloc: Global, fields: Field<'_>) -> Result<Option<SetupLine>, OutO
 }
 
 /// A line that gives a path spec.
-fn spec_line(alloc: Global, text: &[u8]) -> Result<Option<SetupLine>, OutOfMemory>
-    ensures { IfOk result (λ line. line ≡ spec_line text.now) }
+fn parse_spec_line(alloc: Global, text: &[u8]) -> Result<Option<SetupLine>, OutOfMemory>
+    ensures { IfOk result (λ line. line ≡ parse_spec_line text.now) }
 {
-    if !is_spec(alloc, text)? {
+    if !is_valid_spec(alloc, text)? {
         return Ok(None);
     }
     Ok(Some(SetupLine::Specifies(Bytes::from_slice(alloc, text)?)))
@@ -107,10 +110,10 @@ fn spec_line(alloc: Global, text: &[u8]) -> Result<Option<SetupLine>, OutOfMemor
 /// A line that names a directory that is a worktree of its own.
 ///
 /// See docs/DECISIONS.md#worktree-line.
-fn worktree_line(alloc: Global, rest: &[u8]) -> Result<Option<SetupLine>, OutOfMemory>
-    ensures { IfOk result (λ line. line ≡ worktree_line rest.now) }
+fn parse_worktree_line(alloc: Global, rest: &[u8]) -> Result<Option<SetupLine>, OutOfMemory>
+    ensures { IfOk result (λ line. line ≡ parse_worktree_line rest.now) }
 {
-    let Some(path) = unescaped(alloc, rest)? else {
+    let Some(path) = unescape_path(alloc, rest)? else {
         return Ok(None);
     };
     if is_absolute(path.as_bytes()) {
@@ -120,34 +123,43 @@ fn worktree_line(alloc: Global, rest: &[u8]) -> Result<Option<SetupLine>, OutOfM
 }
 
 /// A line that gives a blob, or names a configuration.
-fn file_line(alloc: Global, fields: Field<'_>) -> Result<Option<SetupLine>, OutOfMemory>
-    ensures { IfOk result (λ line. line ≡ file_line (seen fields.entry)) }
+fn parse_blob_config_or_single_line(
+    alloc: Global,
+    fields: Field<'_>,
+) -> Result<Option<SetupLine>, OutOfMemory>
+    ensures { IfOk result (λ line. line ≡ parse_blob_config_or_single_line (seen fields.entry)) }
 {
     if fields.word == b"blob".as_slice() {
-        return Ok(blob_of(alloc, fields.rest)?.map(SetupLine::Stores));
+        return Ok(parse_blob_line(alloc, fields.rest)?.map(SetupLine::Stores));
     }
     if fields.word == b"config".as_slice() {
-        return Ok(config_of(alloc, fields.rest)?.map(SetupLine::Configures));
+        return Ok(parse_config_line(alloc, fields.rest)?.map(SetupLine::Configures));
     }
-    once_line(alloc, fields)
+    parse_single_setting_line(alloc, fields)
 }
 
 /// A line that gives a path spec, or names such a directory.
-fn path_line(alloc: Global, fields: Field<'_>) -> Result<Option<SetupLine>, OutOfMemory>
-    ensures { IfOk result (λ line. line ≡ path_line (seen fields.entry)) }
+fn parse_spec_worktree_or_file_line(
+    alloc: Global,
+    fields: Field<'_>,
+) -> Result<Option<SetupLine>, OutOfMemory>
+    ensures { IfOk result (λ line. line ≡ parse_spec_worktree_or_file_line (seen fields.entry)) }
 {
     if fields.word == b"spec".as_slice() {
-        return spec_line(alloc, fields.rest);
+        return parse_spec_line(alloc, fields.rest);
     }
     if fields.word == b"worktree".as_slice() {
-        return worktree_line(alloc, fields.rest);
+        return parse_worktree_line(alloc, fields.rest);
     }
-    file_line(alloc, fields)
+    parse_blob_config_or_single_line(alloc, fields)
 }
 
 /// A line that gives an ignore rule.
-fn rule_line(alloc: Global, fields: Field<'_>) -> Result<Option<SetupLine>, OutOfMemory>
-    ensures { IfOk result (λ line. line ≡ rule_line (seen fields.entry)) }
+fn parse_rule_or_later_line(
+    alloc: Global,
+    fields: Field<'_>,
+) -> Result<Option<SetupLine>, OutOfMemory>
+    ensures { IfOk result (λ line. line ≡ parse_rule_or_later_line (seen fields.entry)) }
 {
     if fields.word == b"override".as_slice() {
         let rule = Bytes::from_slice(alloc, fields.rest)?;
@@ -157,18 +169,18 @@ fn rule_line(alloc: Global, fields: Field<'_>) -> Result<Option<SetupLine>, OutO
         let rule = Bytes::from_slice(alloc, fields.rest)?;
         return Ok(Some(SetupLine::GlobalRule(rule)));
     }
-    path_line(alloc, fields)
+    parse_spec_worktree_or_file_line(alloc, fields)
 }
 
 /// What a line says by itself. None where it says nothing.
-pub fn line_of(alloc: Global, line: &[u8]) -> Result<Option<SetupLine>, OutOfMemory>
-    ensures { IfOk result (λ said. said ≡ line_of line.now) }
+pub fn parse_setup_line(alloc: Global, line: &[u8]) -> Result<Option<SetupLine>, OutOfMemory>
+    ensures { IfOk result (λ said. said ≡ parse_setup_line line.now) }
 {
-    if is_skipped(line) {
+    if is_empty_or_comment_line(line) {
         return Ok(Some(SetupLine::Skipped));
     }
     match split_at_first_space(line) {
-        Some(fields) => keyword_line(alloc, fields),
+        Some(fields) => parse_line_by_keyword(alloc, fields),
         None => Ok(None),
     }
 }

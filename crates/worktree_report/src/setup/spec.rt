@@ -1,14 +1,14 @@
 //! The path specs of a setup.
 ghost use Rattle.std.specs.Prelude.{◌≡◌, map, IfOk};
-ghost use Rattle.worktree_report.specs.SetupSpecs.{spec_in, is_spec, specs_in};
+ghost use Rattle.worktree_report.specs.SetupSpecs.{parse_spec, is_valid_spec, parse_valid_specs};
 
 use gitbase_core::{Bytes, OutOfMemory};
 use glob_rules::pathspec::{Defaults, Error, Search, Spec};
 use std::alloc::Global;
 
 /// The path spec of a text, where it is one.
-fn spec_in(alloc: Global, ignore_case: bool, text: &[u8]) -> Result<Option<Spec>, OutOfMemory>
-    ensures { IfOk result (λ spec. spec ≡ spec_in ignore_case text.now) }
+fn parse_spec(alloc: Global, ignore_case: bool, text: &[u8]) -> Result<Option<Spec>, OutOfMemory>
+    ensures { IfOk result (λ spec. spec ≡ parse_spec ignore_case text.now) }
 {
     match Spec::parse(alloc, text, Defaults { ignore_case }) {
         Ok(spec) => Ok(Some(spec)),
@@ -21,21 +21,25 @@ fn spec_in(alloc: Global, ignore_case: bool, text: &[u8]) -> Result<Option<Spec>
 /// Whether a text is a path spec, whether letters fold or not.
 ///
 /// See docs/DECISIONS.md#spec-line.
-pub fn is_spec(alloc: Global, text: &[u8]) -> Result<bool, OutOfMemory>
-    ensures { IfOk result (λ is. is ≡ is_spec text.now) }
+pub fn is_valid_spec(alloc: Global, text: &[u8]) -> Result<bool, OutOfMemory>
+    ensures { IfOk result (λ is. is ≡ is_valid_spec text.now) }
 {
-    let plain = spec_in(alloc, false, text)?;
-    let folded = spec_in(alloc, true, text)?;
+    let plain = parse_spec(alloc, false, text)?;
+    let folded = parse_spec(alloc, true, text)?;
     Ok(plain.is_some() && folded.is_some())
 }
 
 /// The path specs of some texts, in their order.
-pub fn specs_in(alloc: Global, ignore_case: bool, texts: &[Bytes]) -> Result<Search, OutOfMemory>
-    ensures { IfOk result (λ specs. specs ≡ specs_in ignore_case texts.now) }
+pub fn search_from_spec_texts(
+    alloc: Global,
+    ignore_case: bool,
+    texts: &[Bytes],
+) -> Result<Search, OutOfMemory>
+    ensures { IfOk result (λ specs. specs ≡ parse_valid_specs ignore_case texts.now) }
 {
     let mut specs = Vec::new(alloc);
     for text in texts {
-        if let Some(spec) = spec_in(alloc, ignore_case, text.as_bytes())? {
+        if let Some(spec) = parse_spec(alloc, ignore_case, text.as_bytes())? {
             specs.push(spec)?;
         }
     }

@@ -3,18 +3,18 @@ use Rattle.std.specs.Prelude.{◌≡◌, ℕ, suc, ◌-◌, length, get_or, Bool
 use Rattle.std.specs.List.{list_any}
 use Rattle.std.proofs.Common.{arith, eqb-true, refl, sym, ap, ◌∙◌, subst, append_assoc}
 use Rattle.std.proofs.lemmas.List.{append-nil, map-append, reverse-reverse}
-use Rattle.gitbase_core.specs.Path.{components, joined, is_slash, ends_in_slash}
+use Rattle.gitbase_core.specs.Path.{components, path_joined_with_slash, is_slash, ends_in_slash}
 use Rattle.gitbase_core.proofs.Names as gitbase
-use Rattle.worktree_fs.specs.ByNames.{node_at}
-use Rattle.worktree_fs.specs.MadeAndRemoved.{Removes}
-use Rattle.worktree_fs.specs.Paths.{fronts, full_path, is_dots, spelled}
-use Rattle.worktree_fs.specs.Tree.{Names, Node, Place, Jump, reached, nowhere, file, link, directory, other, child, is_directory, is_dot, is_dot_dot, is_text, along, behind, enter, resolve_from_node, parent_place, resolve, spot, trail, walking}
+use Rattle.worktree_fs.specs.ByNames.{descendant_by_names}
+use Rattle.worktree_fs.specs.MadeAndRemoved.{NodeRemovedAtPath}
+use Rattle.worktree_fs.specs.Paths.{all_prefixes_shortest_first, root_joined_with_relative, is_dot_or_dot_dot, slash_joined_components}
+use Rattle.worktree_fs.specs.Tree.{Names, Node, DirectoryWithParents, LinkResolver, reached, nowhere, file, link, directory, other, child_by_name, is_directory, is_dot, is_dot_dot, is_utf8_without_nul, resolve_components_by_link_resolver, link_resolver_with_limit, child_directory_with_parents, resolve_from_node, parent_directory_or_root, resolve_components_within_links, resolution_of_path, reversed_names_from_root, resolver_continuations}
 use Rattle.worktree_fs.proofs.Routes.ByNames.{from_none}
 use Rattle.worktree_fs.proofs.Trees.Changed.{removed-stays}
 use Rattle.worktree_fs.proofs.Paths.Spelled.{components-spelled}
 use Rattle.worktree_fs.proofs.Paths.Texts.{pieces-join}
-use Rattle.worktree_stack.specs.ChecksOut.{AreThere, IsNoLink, IsPlain, IsThere}
-use Rattle.worktree_stack.specs.Excludes.{ancestors}
+use Rattle.worktree_stack.specs.ChecksOut.{AreDirectoriesBelowRoot, IsNotSymlink, IsPathWithoutLinksOrDots, IsDirectoryBelowRoot}
+use Rattle.worktree_stack.specs.Excludes.{proper_ancestor_directories}
 use Rattle.worktree_stack.proofs.Lookup.InStep.{pushed-ancestors}
 
 neither : (a b : Bool) → (a || b) ≡ false → (a ≡ false) × (b ≡ false)
@@ -24,115 +24,115 @@ neither true b e = absurd (cc e)
 
 -- no link stands at names on the way along some others, the last of them left out
 abbrev pub NoLinks : Names → List (List ℕ) → Type 0
-NoLinks here cs = (front rest : List (List ℕ)) (last : List ℕ) → cs ≡ front ++ last ∷ rest → IsNoLink (node_at front (Some (directory here)))
+NoLinks here cs = (front rest : List (List ℕ)) (last : List ℕ) → cs ≡ front ++ last ∷ rest → IsNotSymlink (descendant_by_names front (Some (directory here)))
 
 some-directory : {a b : Names} {n m : List (List ℕ)} → reached n (directory a) ≡ reached m (directory b) → Some (directory a) ≡ Some (directory b)
 some-directory e = cc
 
 -- a walk along no link ends where the names lead
-plain-walk : (jump : Jump) (cs : List (List ℕ)) (place : Place) (names : List (List ℕ)) (inner : Names) → list_any is_dots cs ≡ false → NoLinks place.here cs
-    → along jump false place cs ≡ reached names (directory inner) → node_at cs (Some (directory place.here)) ≡ Some (directory inner)
+plain-walk : (jump : LinkResolver) (cs : List (List ℕ)) (place : DirectoryWithParents) (names : List (List ℕ)) (inner : Names) → list_any is_dot_or_dot_dot cs ≡ false → NoLinks place.here cs
+    → resolve_components_by_link_resolver jump false place cs ≡ reached names (directory inner) → descendant_by_names cs (Some (directory place.here)) ≡ Some (directory inner)
 plain-walk jump [] place names inner dots plain e = some-directory e
 plain-walk jump (c ∷ rest) place names inner dots plain e =
-    let apart = neither (is_dots c) (list_any is_dots rest) dots in
+    let apart = neither (is_dot_or_dot_dot c) (list_any is_dot_or_dot_dot rest) dots in
     let d = neither (is_dot c) (is_dot_dot c) apart.0 in
-    on (child place.here c) refl (plain-walk jump rest) apart.1
-    (sym (ap (λ b. if b then along jump false place rest else if is_dot_dot c then along jump false (parent_place place) rest else resolve_from_node (walking (λ p. along jump false p rest) jump false) place rest c (child place.here c)) d.0
-    ∙ ap (λ b. if b then along jump false (parent_place place) rest else resolve_from_node (walking (λ p. along jump false p rest) jump false) place rest c (child place.here c)) d.1) ∙ e)
+    on (child_by_name place.here c) refl (plain-walk jump rest) apart.1
+    (sym (ap (λ b. if b then resolve_components_by_link_resolver jump false place rest else if is_dot_dot c then resolve_components_by_link_resolver jump false (parent_directory_or_root place) rest else resolve_from_node (resolver_continuations (λ p. resolve_components_by_link_resolver jump false p rest) jump false) place rest c (child_by_name place.here c)) d.0
+    ∙ ap (λ b. if b then resolve_components_by_link_resolver jump false (parent_directory_or_root place) rest else resolve_from_node (resolver_continuations (λ p. resolve_components_by_link_resolver jump false p rest) jump false) place rest c (child_by_name place.here c)) d.1) ∙ e)
   where
-    on : (o : Option Node) → child place.here c ≡ o
-        → ((place : Place) (names : List (List ℕ)) (inner : Names) → list_any is_dots rest ≡ false → NoLinks place.here rest → along jump false place rest ≡ reached names (directory inner) → node_at rest (Some (directory place.here)) ≡ Some (directory inner))
-        → list_any is_dots rest ≡ false → resolve_from_node (walking (λ p. along jump false p rest) jump false) place rest c o ≡ reached names (directory inner) → node_at rest (child place.here c) ≡ Some (directory inner)
+    on : (o : Option Node) → child_by_name place.here c ≡ o
+        → ((place : DirectoryWithParents) (names : List (List ℕ)) (inner : Names) → list_any is_dot_or_dot_dot rest ≡ false → NoLinks place.here rest → resolve_components_by_link_resolver jump false place rest ≡ reached names (directory inner) → descendant_by_names rest (Some (directory place.here)) ≡ Some (directory inner))
+        → list_any is_dot_or_dot_dot rest ≡ false → resolve_from_node (resolver_continuations (λ p. resolve_components_by_link_resolver jump false p rest) jump false) place rest c o ≡ reached names (directory inner) → descendant_by_names rest (child_by_name place.here c) ≡ Some (directory inner)
     on None is more dots e = absurd (cc e)
     on (Some (directory names1)) is more dots e =
-        ap (node_at rest) is ∙ more (enter place c names1) names inner dots (λ front rest1 last split. subst (λ (o : Option Node). IsNoLink (node_at front o)) is (plain (c ∷ front) rest1 last (ap (λ (l : List (List ℕ)). c ∷ l) split))) e
+        ap (descendant_by_names rest) is ∙ more (child_directory_with_parents place c names1) names inner dots (λ front rest1 last split. subst (λ (o : Option Node). IsNotSymlink (descendant_by_names front o)) is (plain (c ∷ front) rest1 last (ap (λ (l : List (List ℕ)). c ∷ l) split))) e
     on (Some (link target)) is more dots e = linked rest refl e
       where
-        linked : (r : List (List ℕ)) → rest ≡ r → resolve_from_node (walking (λ p. along jump false p rest) jump false) place r c (Some (link target)) ≡ reached names (directory inner) → node_at rest (child place.here c) ≡ Some (directory inner)
+        linked : (r : List (List ℕ)) → rest ≡ r → resolve_from_node (resolver_continuations (λ p. resolve_components_by_link_resolver jump false p rest) jump false) place r c (Some (link target)) ≡ reached names (directory inner) → descendant_by_names rest (child_by_name place.here c) ≡ Some (directory inner)
         linked [] split e = absurd (cc e)
         linked (r ∷ rs) split e = absurd (plain (c ∷ []) rs r (ap (λ (l : List (List ℕ)). c ∷ l) split) target is)
     on (Some (file bytes)) is more dots e = ended rest e
       where
-        ended : (r : List (List ℕ)) → resolve_from_node (walking (λ p. along jump false p rest) jump false) place r c (Some (file bytes)) ≡ reached names (directory inner) → node_at rest (child place.here c) ≡ Some (directory inner)
+        ended : (r : List (List ℕ)) → resolve_from_node (resolver_continuations (λ p. resolve_components_by_link_resolver jump false p rest) jump false) place r c (Some (file bytes)) ≡ reached names (directory inner) → descendant_by_names rest (child_by_name place.here c) ≡ Some (directory inner)
         ended [] e = absurd (cc e)
         ended (r ∷ rs) e = absurd (cc e)
     on (Some other) is more dots e = ended rest e
       where
-        ended : (r : List (List ℕ)) → resolve_from_node (walking (λ p. along jump false p rest) jump false) place r c (Some other) ≡ reached names (directory inner) → node_at rest (child place.here c) ≡ Some (directory inner)
+        ended : (r : List (List ℕ)) → resolve_from_node (resolver_continuations (λ p. resolve_components_by_link_resolver jump false p rest) jump false) place r c (Some other) ≡ reached names (directory inner) → descendant_by_names rest (child_by_name place.here c) ≡ Some (directory inner)
         ended [] e = absurd (cc e)
         ended (r ∷ rs) e = absurd (cc e)
 
 -- where names lead to a directory a walk along them does
-names-walk : (jump : Jump) (cs : List (List ℕ)) (place : Place) (inner : Names) → list_any is_dots cs ≡ false → node_at cs (Some (directory place.here)) ≡ Some (directory inner)
-    → (names : List (List ℕ)) × (along jump false place cs ≡ reached names (directory inner))
-names-walk jump [] place inner dots e = (trail place, ap (reached (trail place)) (same-node e))
+names-walk : (jump : LinkResolver) (cs : List (List ℕ)) (place : DirectoryWithParents) (inner : Names) → list_any is_dot_or_dot_dot cs ≡ false → descendant_by_names cs (Some (directory place.here)) ≡ Some (directory inner)
+    → (names : List (List ℕ)) × (resolve_components_by_link_resolver jump false place cs ≡ reached names (directory inner))
+names-walk jump [] place inner dots e = (reversed_names_from_root place, ap (reached (reversed_names_from_root place)) (same-node e))
   where
     same-node : Some (directory place.here) ≡ Some (directory inner) → directory place.here ≡ directory inner
     same-node e = cc e
 names-walk jump (c ∷ rest) place inner dots e =
-    let apart = neither (is_dots c) (list_any is_dots rest) dots in
+    let apart = neither (is_dot_or_dot_dot c) (list_any is_dot_or_dot_dot rest) dots in
     let d = neither (is_dot c) (is_dot_dot c) apart.0 in
-    let x = on (child place.here c) (names-walk jump rest) apart.1 e in (
+    let x = on (child_by_name place.here c) (names-walk jump rest) apart.1 e in (
       x.0,
-      ap (λ b. if b then along jump false place rest else if is_dot_dot c then along jump false (parent_place place) rest else resolve_from_node (walking (λ p. along jump false p rest) jump false) place rest c (child place.here c)) d.0
-          ∙ ap (λ b. if b then along jump false (parent_place place) rest else resolve_from_node (walking (λ p. along jump false p rest) jump false) place rest c (child place.here c)) d.1 ∙ x.1,
+      ap (λ b. if b then resolve_components_by_link_resolver jump false place rest else if is_dot_dot c then resolve_components_by_link_resolver jump false (parent_directory_or_root place) rest else resolve_from_node (resolver_continuations (λ p. resolve_components_by_link_resolver jump false p rest) jump false) place rest c (child_by_name place.here c)) d.0
+          ∙ ap (λ b. if b then resolve_components_by_link_resolver jump false (parent_directory_or_root place) rest else resolve_from_node (resolver_continuations (λ p. resolve_components_by_link_resolver jump false p rest) jump false) place rest c (child_by_name place.here c)) d.1 ∙ x.1,
     )
   where
-    leaf : (rest : List (List ℕ)) (node : Node) → is_directory node ≡ false → node_at rest (Some node) ≡ Some (directory inner) → ⊥
+    leaf : (rest : List (List ℕ)) (node : Node) → is_directory node ≡ false → descendant_by_names rest (Some node) ≡ Some (directory inner) → ⊥
     leaf [] (file bytes) l e = cc e
     leaf [] (link target) l e = cc e
     leaf [] (directory n) l e = cc l
     leaf [] other l e = cc e
     leaf (r ∷ rs) (file bytes) l e = gone (from_none rs) e
       where
-        gone : node_at rs None ≡ None → node_at rs None ≡ Some (directory inner) → ⊥
+        gone : descendant_by_names rs None ≡ None → descendant_by_names rs None ≡ Some (directory inner) → ⊥
         gone a b = cc
     leaf (r ∷ rs) (link target) l e = gone (from_none rs) e
       where
-        gone : node_at rs None ≡ None → node_at rs None ≡ Some (directory inner) → ⊥
+        gone : descendant_by_names rs None ≡ None → descendant_by_names rs None ≡ Some (directory inner) → ⊥
         gone a b = cc
     leaf (r ∷ rs) (directory n) l e = cc l
     leaf (r ∷ rs) other l e = gone (from_none rs) e
       where
-        gone : node_at rs None ≡ None → node_at rs None ≡ Some (directory inner) → ⊥
+        gone : descendant_by_names rs None ≡ None → descendant_by_names rs None ≡ Some (directory inner) → ⊥
         gone a b = cc
 
-    on : (o : Option Node) → ((place : Place) (inner : Names) → list_any is_dots rest ≡ false → node_at rest (Some (directory place.here)) ≡ Some (directory inner) → (names : List (List ℕ)) × (along jump false place rest ≡ reached names (directory inner)))
-        → list_any is_dots rest ≡ false → node_at rest o ≡ Some (directory inner) → (names : List (List ℕ)) × (resolve_from_node (walking (λ p. along jump false p rest) jump false) place rest c o ≡ reached names (directory inner))
+    on : (o : Option Node) → ((place : DirectoryWithParents) (inner : Names) → list_any is_dot_or_dot_dot rest ≡ false → descendant_by_names rest (Some (directory place.here)) ≡ Some (directory inner) → (names : List (List ℕ)) × (resolve_components_by_link_resolver jump false place rest ≡ reached names (directory inner)))
+        → list_any is_dot_or_dot_dot rest ≡ false → descendant_by_names rest o ≡ Some (directory inner) → (names : List (List ℕ)) × (resolve_from_node (resolver_continuations (λ p. resolve_components_by_link_resolver jump false p rest) jump false) place rest c o ≡ reached names (directory inner))
     on None more dots e = absurd (gone (from_none rest) e)
       where
-        gone : node_at rest None ≡ None → node_at rest None ≡ Some (directory inner) → ⊥
+        gone : descendant_by_names rest None ≡ None → descendant_by_names rest None ≡ Some (directory inner) → ⊥
         gone a b = cc
-    on (Some (directory names1)) more dots e = more (enter place c names1) inner dots e
+    on (Some (directory names1)) more dots e = more (child_directory_with_parents place c names1) inner dots e
     on (Some (link target)) more dots e = absurd (leaf rest (link target) refl e)
     on (Some (file bytes)) more dots e = absurd (leaf rest (file bytes) refl e)
     on (Some other) more dots e = absurd (leaf rest other refl e)
 
-abbrev top : Names → Place
+abbrev top : Names → DirectoryWithParents
 top t = record { here = t; above = [] }
 
-pub spot-plain : (t : Names) (path : List ℕ) (names : List (List ℕ)) (inner : Names) → list_any is_dots (components path) ≡ false → NoLinks t (components path)
-    → spot t path false ≡ reached names (directory inner) → (is_text path ≡ true) × (node_at (components path) (Some (directory t)) ≡ Some (directory inner))
-unfolding spot
-spot-plain t path names inner dots plain e = go (is_text path) refl e
+pub spot-plain : (t : Names) (path : List ℕ) (names : List (List ℕ)) (inner : Names) → list_any is_dot_or_dot_dot (components path) ≡ false → NoLinks t (components path)
+    → resolution_of_path t path false ≡ reached names (directory inner) → (is_utf8_without_nul path ≡ true) × (descendant_by_names (components path) (Some (directory t)) ≡ Some (directory inner))
+unfolding resolution_of_path
+spot-plain t path names inner dots plain e = go (is_utf8_without_nul path) refl e
   where
-    go : (b : Bool) → is_text path ≡ b → (if b then resolve 32 false (top t) (components path) else nowhere) ≡ reached names (directory inner) → (is_text path ≡ true) × (node_at (components path) (Some (directory t)) ≡ Some (directory inner))
-    go true text e = (text, plain-walk (behind 32 false) (components path) (top t) names inner dots plain e)
+    go : (b : Bool) → is_utf8_without_nul path ≡ b → (if b then resolve_components_within_links 32 false (top t) (components path) else nowhere) ≡ reached names (directory inner) → (is_utf8_without_nul path ≡ true) × (descendant_by_names (components path) (Some (directory t)) ≡ Some (directory inner))
+    go true text e = (text, plain-walk (link_resolver_with_limit 32 false) (components path) (top t) names inner dots plain e)
     go false text e = absurd (cc e)
 
-pub spot-names : (t : Names) (path : List ℕ) (inner : Names) → is_text path ≡ true → list_any is_dots (components path) ≡ false → node_at (components path) (Some (directory t)) ≡ Some (directory inner)
-    → (names : List (List ℕ)) × (spot t path false ≡ reached names (directory inner))
-unfolding spot
+pub spot-names : (t : Names) (path : List ℕ) (inner : Names) → is_utf8_without_nul path ≡ true → list_any is_dot_or_dot_dot (components path) ≡ false → descendant_by_names (components path) (Some (directory t)) ≡ Some (directory inner)
+    → (names : List (List ℕ)) × (resolution_of_path t path false ≡ reached names (directory inner))
+unfolding resolution_of_path
 spot-names t path inner text dots e =
-    let x = names-walk (behind 32 false) (components path) (top t) inner dots e in
-    (x.0, ap (λ b. if b then resolve 32 false (top t) (components path) else nowhere) text ∙ x.1)
+    let x = names-walk (link_resolver_with_limit 32 false) (components path) (top t) inner dots e in
+    (x.0, ap (λ b. if b then resolve_components_within_links 32 false (top t) (components path) else nowhere) text ∙ x.1)
 
 -- a directory that stands at some names stays where a node that is none is removed
-pub stays-removed : (path : List ℕ) (t mid : Names) → Removes path t mid → (names : List (List ℕ)) (inner : Names) → node_at names (Some (directory t)) ≡ Some (directory inner)
-    → (more : Names) × (node_at names (Some (directory mid)) ≡ Some (directory more))
+pub stays-removed : (path : List ℕ) (t mid : Names) → NodeRemovedAtPath path t mid → (names : List (List ℕ)) (inner : Names) → descendant_by_names names (Some (directory t)) ≡ Some (directory inner)
+    → (more : Names) × (descendant_by_names names (Some (directory mid)) ≡ Some (directory more))
 stays-removed path t mid removed names inner e =
-    let x = removed-stays removed (reverse names) inner (ap (λ (l : List (List ℕ)). node_at l (Some (directory t))) (reverse-reverse names) ∙ e) in
-    (x.0, ap (λ (l : List (List ℕ)). node_at l (Some (directory mid))) (sym (reverse-reverse names)) ∙ x.1)
+    let x = removed-stays removed (reverse names) inner (ap (λ (l : List (List ℕ)). descendant_by_names l (Some (directory t))) (reverse-reverse names) ∙ e) in
+    (x.0, ap (λ (l : List (List ℕ)). descendant_by_names l (Some (directory mid))) (sym (reverse-reverse names)) ∙ x.1)
 
 -- what is split before its last one, or behind it
 abbrev tail-of : List (List ℕ) → List (List ℕ)
@@ -171,7 +171,7 @@ before-slash (a ∷ b ∷ path) e =
     let rest = before-slash (b ∷ path) (sym (ends-cons a b path) ∙ e) in
     (a ∷ rest.0, ap (λ (l : List ℕ). a ∷ l) rest.1)
 
-pub components-behind : (path more : List ℕ) → components (joined path more) ≡ components path ++ components more
+pub components-behind : (path more : List ℕ) → components (path_joined_with_slash path more) ≡ components path ++ components more
 components-behind [] more = refl
 components-behind (a ∷ path) more = go (ends_in_slash (a ∷ path)) refl
   where
@@ -183,53 +183,53 @@ components-behind (a ∷ path) more = go (ends_in_slash (a ∷ path)) refl
         ∙ ap components (append_assoc front.0 (47 ∷ []) more) ∙ pieces-join front.0 more
         ∙ ap (λ l. l ++ components more) (sym (ap components front.1 ∙ pieces-join front.0 [] ∙ append-nil (components front.0)))
 
-spelled-behind : (root path : List ℕ) → (path ≡ [] → ⊥) → full_path root path ≡ joined root path
+spelled-behind : (root path : List ℕ) → (path ≡ [] → ⊥) → root_joined_with_relative root path ≡ path_joined_with_slash root path
 spelled-behind root [] some = absurd (some refl)
 spelled-behind root (b ∷ path) some = refl
 
-pub components-full : (root : List ℕ) (names : List (List ℕ)) → gitbase.AreNames names → components (full_path root (spelled names)) ≡ components root ++ names
-components-full root names are = go (spelled names) refl
+pub components-full : (root : List ℕ) (names : List (List ℕ)) → gitbase.AreNames names → components (root_joined_with_relative root (slash_joined_components names)) ≡ components root ++ names
+components-full root names are = go (slash_joined_components names) refl
   where
-    go : (path : List ℕ) → spelled names ≡ path → components (full_path root (spelled names)) ≡ components root ++ names
-    go [] e = ap (λ (p : List ℕ). components (full_path root p)) e ∙ sym (append-nil (components root)) ∙ ap (λ (l : List (List ℕ)). components root ++ l) (sym (ap components e) ∙ components-spelled names are)
+    go : (path : List ℕ) → slash_joined_components names ≡ path → components (root_joined_with_relative root (slash_joined_components names)) ≡ components root ++ names
+    go [] e = ap (λ (p : List ℕ). components (root_joined_with_relative root p)) e ∙ sym (append-nil (components root)) ∙ ap (λ (l : List (List ℕ)). components root ++ l) (sym (ap components e) ∙ components-spelled names are)
     go (b ∷ path) e =
-        ap (λ (p : List ℕ). components (full_path root p)) e ∙ components-behind root (b ∷ path)
+        ap (λ (p : List ℕ). components (root_joined_with_relative root p)) e ∙ components-behind root (b ∷ path)
         ∙ ap (λ (l : List (List ℕ)). components root ++ l) (sym (ap components e) ∙ components-spelled names are)
 
 -- the fronts of a front come first
-fronts-first : (a b : List (List ℕ)) → (more : List (List (List ℕ))) × (fronts (a ++ b) ≡ fronts a ++ more)
+fronts-first : (a b : List (List ℕ)) → (more : List (List (List ℕ))) × (all_prefixes_shortest_first (a ++ b) ≡ all_prefixes_shortest_first a ++ more)
 fronts-first [] [] = ([], refl)
-fronts-first [] (n ∷ b) = (map (λ (front : List (List ℕ)). n ∷ front) (fronts b), refl)
+fronts-first [] (n ∷ b) = (map (λ (front : List (List ℕ)). n ∷ front) (all_prefixes_shortest_first b), refl)
 fronts-first (n ∷ a) b =
     let x = fronts-first a b in
     let onto : List (List ℕ) → List (List ℕ) = λ front. n ∷ front in
-    (map onto x.0, ap (λ (l : List (List (List ℕ))). [] ∷ map onto l) x.1 ∙ ap (λ (l : List (List (List ℕ))). [] ∷ l) (map-append onto (fronts a) x.0))
+    (map onto x.0, ap (λ (l : List (List (List ℕ))). [] ∷ map onto l) x.1 ∙ ap (λ (l : List (List (List ℕ))). [] ∷ l) (map-append onto (all_prefixes_shortest_first a) x.0))
 
-there-first : (root : List ℕ) (t : Names) (a b : List (List (List ℕ))) → AreThere root t (a ++ b) → AreThere root t a
+there-first : (root : List ℕ) (t : Names) (a b : List (List (List ℕ))) → AreDirectoriesBelowRoot root t (a ++ b) → AreDirectoriesBelowRoot root t a
 there-first root t [] b are = tt
 there-first root t (names ∷ a) b are = (are.0, there-first root t a b are.1)
 
-pub there-front : (root : List ℕ) (t : Names) (a b : List (List ℕ)) → AreThere root t (fronts (a ++ b)) → AreThere root t (fronts a)
-there-front root t a b are = let x = fronts-first a b in there-first root t (fronts a) x.0 (subst (AreThere root t) x.1 are)
+pub there-front : (root : List ℕ) (t : Names) (a b : List (List ℕ)) → AreDirectoriesBelowRoot root t (all_prefixes_shortest_first (a ++ b)) → AreDirectoriesBelowRoot root t (all_prefixes_shortest_first a)
+there-front root t a b are = let x = fronts-first a b in there-first root t (all_prefixes_shortest_first a) x.0 (subst (AreDirectoriesBelowRoot root t) x.1 are)
 
-there-last : (root : List ℕ) (t : Names) (ds : List (List (List ℕ))) (d : List (List ℕ)) → AreThere root t (ds ++ d ∷ []) → IsThere root t d
+there-last : (root : List ℕ) (t : Names) (ds : List (List (List ℕ))) (d : List (List ℕ)) → AreDirectoriesBelowRoot root t (ds ++ d ∷ []) → IsDirectoryBelowRoot root t d
 there-last root t [] d are = are.0
 there-last root t (x ∷ ds) d are = there-last root t ds d are.1
 
-there-at : (root : List ℕ) (t : Names) (names : List (List ℕ)) → AreThere root t (fronts names) → IsThere root t names
-there-at root t names are = there-last root t (ancestors names) names (subst (AreThere root t) (pushed-ancestors names) are)
+there-at : (root : List ℕ) (t : Names) (names : List (List ℕ)) → AreDirectoriesBelowRoot root t (all_prefixes_shortest_first names) → IsDirectoryBelowRoot root t names
+there-at root t names are = there-last root t (proper_ancestor_directories names) names (subst (AreDirectoriesBelowRoot root t) (pushed-ancestors names) are)
 
 front-are : (a b : List (List ℕ)) → gitbase.AreNames (a ++ b) → gitbase.AreNames a
 front-are [] b are = tt
 front-are (n ∷ a) b are = (are.0, front-are a b are.1)
 
-both-normal : (a b : List (List ℕ)) → list_any is_dots a ≡ false → list_any is_dots b ≡ false → list_any is_dots (a ++ b) ≡ false
+both-normal : (a b : List (List ℕ)) → list_any is_dot_or_dot_dot a ≡ false → list_any is_dot_or_dot_dot b ≡ false → list_any is_dot_or_dot_dot (a ++ b) ≡ false
 both-normal [] b x y = y
-both-normal (n ∷ a) b x y = let e = neither (is_dots n) (list_any is_dots a) x in ap (λ (d : Bool). d || list_any is_dots (a ++ b)) e.0 ∙ both-normal a b e.1 y
+both-normal (n ∷ a) b x y = let e = neither (is_dot_or_dot_dot n) (list_any is_dot_or_dot_dot a) x in ap (λ (d : Bool). d || list_any is_dot_or_dot_dot (a ++ b)) e.0 ∙ both-normal a b e.1 y
 
-pub front-normal : (a b : List (List ℕ)) → list_any is_dots (a ++ b) ≡ false → list_any is_dots a ≡ false
+pub front-normal : (a b : List (List ℕ)) → list_any is_dot_or_dot_dot (a ++ b) ≡ false → list_any is_dot_or_dot_dot a ≡ false
 front-normal [] b x = refl
-front-normal (n ∷ a) b x = let e = neither (is_dots n) (list_any is_dots (a ++ b)) x in ap (λ (d : Bool). d || list_any is_dots a) e.0 ∙ front-normal a b e.1
+front-normal (n ∷ a) b x = let e = neither (is_dot_or_dot_dot n) (list_any is_dot_or_dot_dot (a ++ b)) x in ap (λ (d : Bool). d || list_any is_dot_or_dot_dot a) e.0 ∙ front-normal a b e.1
 
 map-same : {A B : Type 0} (f g : A → B) (xs : List A) → ((x : A) → f x ≡ g x) → map f xs ≡ map g xs
 map-same f g [] same = refl
@@ -245,38 +245,38 @@ map-itself (x ∷ xs) = ap (λ ys. x ∷ ys) (map-itself xs)
 
 -- ---- the directories below a root
 
-module _ (root : List ℕ) (t mid : Names) (path : List ℕ) (removed : Removes path t mid) (plain : IsPlain t root) (names : List (List ℕ)) (names-are : gitbase.AreNames names)
-    (normal : list_any is_dots names ≡ false) (there : AreThere root t (fronts names)) where
+module _ (root : List ℕ) (t mid : Names) (path : List ℕ) (removed : NodeRemovedAtPath path t mid) (plain : IsPathWithoutLinksOrDots t root) (names : List (List ℕ)) (names-are : gitbase.AreNames names)
+    (normal : list_any is_dot_or_dot_dot names ≡ false) (there : AreDirectoriesBelowRoot root t (all_prefixes_shortest_first names)) where
   abbrev FreeTo : List (List ℕ) → Type 0
-  FreeTo pre = (front rest : List (List ℕ)) → components root ++ pre ≡ front ++ rest → IsNoLink (node_at front (Some (directory t)))
+  FreeTo pre = (front rest : List (List ℕ)) → components root ++ pre ≡ front ++ rest → IsNotSymlink (descendant_by_names front (Some (directory t)))
 
   abbrev FreeBefore : List (List ℕ) → Type 0
   FreeBefore pre = NoLinks t (components root ++ pre)
 
   -- a directory that is pushed stands at its names
-  at-names : (p : List ℕ) (ps rest : List (List ℕ)) → gitbase.AreNames ((p ∷ ps) ++ rest) → list_any is_dots ((p ∷ ps) ++ rest) ≡ false → AreThere root t (fronts ((p ∷ ps) ++ rest)) → FreeBefore (p ∷ ps)
-      → (is_text (full_path root (spelled (p ∷ ps))) ≡ true) × (inner : Names) × (node_at (components root ++ (p ∷ ps)) (Some (directory t)) ≡ Some (directory inner))
+  at-names : (p : List ℕ) (ps rest : List (List ℕ)) → gitbase.AreNames ((p ∷ ps) ++ rest) → list_any is_dot_or_dot_dot ((p ∷ ps) ++ rest) ≡ false → AreDirectoriesBelowRoot root t (all_prefixes_shortest_first ((p ∷ ps) ++ rest)) → FreeBefore (p ∷ ps)
+      → (is_utf8_without_nul (root_joined_with_relative root (slash_joined_components (p ∷ ps))) ≡ true) × (inner : Names) × (descendant_by_names (components root ++ (p ∷ ps)) (Some (directory t)) ≡ Some (directory inner))
   at-names p ps rest are dots there free =
       let pre : List (List ℕ) = p ∷ ps in
-      let whole : List ℕ = full_path root (spelled pre) in
+      let whole : List ℕ = root_joined_with_relative root (slash_joined_components pre) in
       let parts : components whole ≡ components root ++ pre = components-full root pre (front-are pre rest are) in
       let leads = there-at root t pre (there-front root t pre rest there) in
       let x = spot-plain t whole leads.0 leads.1
-      (ap (list_any is_dots) parts ∙ both-normal (components root) pre plain.normal (front-normal pre rest dots))
+      (ap (list_any is_dot_or_dot_dot) parts ∙ both-normal (components root) pre plain.normal (front-normal pre rest dots))
       (subst (NoLinks t) (sym parts) free) leads.2 in
-      (x.0, leads.1, ap (λ (l : List (List ℕ)). node_at l (Some (directory t))) (sym parts) ∙ x.1)
+      (x.0, leads.1, ap (λ (l : List (List ℕ)). descendant_by_names l (Some (directory t))) (sym parts) ∙ x.1)
 
   -- and so it is there in the end
-  still : (pre rest : List (List ℕ)) → gitbase.AreNames (pre ++ rest) → list_any is_dots (pre ++ rest) ≡ false → AreThere root t (fronts (pre ++ rest)) → FreeBefore pre → IsThere root mid pre
+  still : (pre rest : List (List ℕ)) → gitbase.AreNames (pre ++ rest) → list_any is_dot_or_dot_dot (pre ++ rest) ≡ false → AreDirectoriesBelowRoot root t (all_prefixes_shortest_first (pre ++ rest)) → FreeBefore pre → IsDirectoryBelowRoot root mid pre
   still [] rest are dots there free = tt
   still (p ∷ ps) rest are dots there free =
       let pre : List (List ℕ) = p ∷ ps in
-      let whole : List ℕ = full_path root (spelled pre) in
+      let whole : List ℕ = root_joined_with_relative root (slash_joined_components pre) in
       let parts : components whole ≡ components root ++ pre = components-full root pre (front-are pre rest are) in
       let x = at-names p ps rest are dots there free in
       let y = stays-removed path t mid removed (components root ++ pre) x.1 x.2 in
-      let z = spot-names mid whole y.0 x.0 (ap (list_any is_dots) parts ∙ both-normal (components root) pre plain.normal (front-normal pre rest dots))
-      (ap (λ (l : List (List ℕ)). node_at l (Some (directory mid))) parts ∙ y.1) in
+      let z = spot-names mid whole y.0 x.0 (ap (list_any is_dot_or_dot_dot) parts ∙ both-normal (components root) pre plain.normal (front-normal pre rest dots))
+      (ap (λ (l : List (List ℕ)). descendant_by_names l (Some (directory mid))) parts ∙ y.1) in
       (z.0, y.0, z.1)
 
   before-from : (pre : List (List ℕ)) → FreeTo pre → FreeBefore pre
@@ -288,38 +288,38 @@ module _ (root : List ℕ) (t mid : Names) (path : List ℕ) (removed : Removes 
       let x = split-last (components root ++ pre) front rest n last (append_assoc (components root) pre (n ∷ []) ∙ split) in
       free front x.0 x.1
 
-  free-more : (pre : List (List ℕ)) (n : List ℕ) (inner : Names) → FreeTo pre → node_at (components root ++ (pre ++ n ∷ [])) (Some (directory t)) ≡ Some (directory inner) → FreeTo (pre ++ n ∷ [])
+  free-more : (pre : List (List ℕ)) (n : List ℕ) (inner : Names) → FreeTo pre → descendant_by_names (components root ++ (pre ++ n ∷ [])) (Some (directory t)) ≡ Some (directory inner) → FreeTo (pre ++ n ∷ [])
   free-more pre n inner free is front [] split = λ target linked.
-      clash target (ap (λ (l : List (List ℕ)). node_at l (Some (directory t))) (split ∙ append-nil front)) is linked
+      clash target (ap (λ (l : List (List ℕ)). descendant_by_names l (Some (directory t))) (split ∙ append-nil front)) is linked
     where
-      clash : (target : List ℕ) → node_at (components root ++ (pre ++ n ∷ [])) (Some (directory t)) ≡ node_at front (Some (directory t)) → node_at (components root ++ (pre ++ n ∷ [])) (Some (directory t)) ≡ Some (directory inner)
-          → node_at front (Some (directory t)) ≡ Some (link target) → ⊥
+      clash : (target : List ℕ) → descendant_by_names (components root ++ (pre ++ n ∷ [])) (Some (directory t)) ≡ descendant_by_names front (Some (directory t)) → descendant_by_names (components root ++ (pre ++ n ∷ [])) (Some (directory t)) ≡ Some (directory inner)
+          → descendant_by_names front (Some (directory t)) ≡ Some (link target) → ⊥
       clash target a b c = never (sym b ∙ a ∙ c)
         where
           never : Some (directory inner) ≡ Some (link target) → ⊥
           never e = cc e
   free-more pre n inner free is front (last ∷ rest) split = before-more pre n free front rest last split
 
-  all-still : (pre rest : List (List ℕ)) → gitbase.AreNames (pre ++ rest) → list_any is_dots (pre ++ rest) ≡ false → AreThere root t (fronts (pre ++ rest)) → FreeTo pre → AreThere root mid (map (λ (x : List (List ℕ)). pre ++ x) (fronts rest))
-  all-still pre [] are dots there free = (subst (IsThere root mid) (sym (append-nil pre)) (still pre [] are dots there (before-from pre free)), tt)
+  all-still : (pre rest : List (List ℕ)) → gitbase.AreNames (pre ++ rest) → list_any is_dot_or_dot_dot (pre ++ rest) ≡ false → AreDirectoriesBelowRoot root t (all_prefixes_shortest_first (pre ++ rest)) → FreeTo pre → AreDirectoriesBelowRoot root mid (map (λ (x : List (List ℕ)). pre ++ x) (all_prefixes_shortest_first rest))
+  all-still pre [] are dots there free = (subst (IsDirectoryBelowRoot root mid) (sym (append-nil pre)) (still pre [] are dots there (before-from pre free)), tt)
   all-still pre (n ∷ rest) are dots there free =
       let joins : pre ++ n ∷ rest ≡ (pre ++ n ∷ []) ++ rest = sym (append_assoc pre (n ∷ []) rest) in
       let are1 = subst gitbase.AreNames joins are in
-      let dots1 : list_any is_dots ((pre ++ n ∷ []) ++ rest) ≡ false = sym (ap (list_any is_dots) joins) ∙ dots in
-      let there1 = subst (λ (l : List (List ℕ)). AreThere root t (fronts l)) joins there in
+      let dots1 : list_any is_dot_or_dot_dot ((pre ++ n ∷ []) ++ rest) ≡ false = sym (ap (list_any is_dot_or_dot_dot) joins) ∙ dots in
+      let there1 = subst (λ (l : List (List ℕ)). AreDirectoriesBelowRoot root t (all_prefixes_shortest_first l)) joins there in
       let more = at-next pre n rest are1 dots1 there1 (before-more pre n free) in (
-        subst (IsThere root mid) (sym (append-nil pre)) (still pre (n ∷ rest) are dots there (before-from pre free)),
-        subst (AreThere root mid) (sym (map-twice (λ (x : List (List ℕ)). pre ++ x) (λ (x : List (List ℕ)). n ∷ x) (fronts rest) ∙ map-same _ _ (fronts rest) (λ x. sym (append_assoc pre (n ∷ []) x))))
+        subst (IsDirectoryBelowRoot root mid) (sym (append-nil pre)) (still pre (n ∷ rest) are dots there (before-from pre free)),
+        subst (AreDirectoriesBelowRoot root mid) (sym (map-twice (λ (x : List (List ℕ)). pre ++ x) (λ (x : List (List ℕ)). n ∷ x) (all_prefixes_shortest_first rest) ∙ map-same _ _ (all_prefixes_shortest_first rest) (λ x. sym (append_assoc pre (n ∷ []) x))))
             (all-still (pre ++ n ∷ []) rest are1 dots1 there1 (free-more pre n more.0 free more.1)),
       )
     where
-      at-next : (pre : List (List ℕ)) (n : List ℕ) (rest : List (List ℕ)) → gitbase.AreNames ((pre ++ n ∷ []) ++ rest) → list_any is_dots ((pre ++ n ∷ []) ++ rest) ≡ false → AreThere root t (fronts ((pre ++ n ∷ []) ++ rest)) → FreeBefore (pre ++ n ∷ [])
-          → (inner : Names) × (node_at (components root ++ (pre ++ n ∷ [])) (Some (directory t)) ≡ Some (directory inner))
+      at-next : (pre : List (List ℕ)) (n : List ℕ) (rest : List (List ℕ)) → gitbase.AreNames ((pre ++ n ∷ []) ++ rest) → list_any is_dot_or_dot_dot ((pre ++ n ∷ []) ++ rest) ≡ false → AreDirectoriesBelowRoot root t (all_prefixes_shortest_first ((pre ++ n ∷ []) ++ rest)) → FreeBefore (pre ++ n ∷ [])
+          → (inner : Names) × (descendant_by_names (components root ++ (pre ++ n ∷ [])) (Some (directory t)) ≡ Some (directory inner))
       at-next [] n rest are dots there free = let x = at-names n [] rest are dots there free in (x.1, x.2)
       at-next (p ∷ ps) n rest are dots there free = let x = at-names p (ps ++ n ∷ []) rest are dots there free in (x.1, x.2)
 
   -- the directories below a root to which no link leads are still there
-  pub there-removed : AreThere root mid (fronts names)
+  pub there-removed : AreDirectoriesBelowRoot root mid (all_prefixes_shortest_first names)
   there-removed =
-      subst (AreThere root mid) (map-itself (fronts names))
+      subst (AreDirectoriesBelowRoot root mid) (map-itself (all_prefixes_shortest_first names))
       (all-still [] names names-are normal there (λ front rest split. plain.no_link front rest (sym (append-nil (components root)) ∙ split)))

@@ -1,13 +1,13 @@
 -- Calls that pop directories, one behind another.
 use Rattle.std.specs.Prelude.{◌≡◌, List, ◌++◌}
 use Rattle.std.proofs.Common.{sym, subst, ◌∙◌}
-use Rattle.worktree_fs.specs.PathStack.{Call}
-use Rattle.worktree_stack.specs.StackSteps.{Pops}
-use Rattle.worktree_stack.specs.Stacked.{Stacked}
+use Rattle.worktree_fs.specs.PathStack.{DelegateCall}
+use Rattle.worktree_stack.specs.StackSteps.{PopsDirectoriesOnly}
+use Rattle.worktree_stack.specs.Stacked.{StackModel}
 use Rattle.worktree_stack.proofs.Lookup.Carrying.{carries-then}
 use Rattle.worktree_stack.proofs.CheckOut.HeldOut.{lowest-then}
 
-pub pops-then : (a b : List Call) (old mid new : Stacked) → Pops a old mid → Pops b mid new → Pops (a ++ b) old new
+pub pops-then : (a b : List DelegateCall) (old mid new : StackModel) → PopsDirectoriesOnly a old mid → PopsDirectoriesOnly b mid new → PopsDirectoriesOnly (a ++ b) old new
 pops-then a b old mid new first second =
     record {
       made = second.made ∙ first.made;
@@ -23,5 +23,5 @@ pops-then a b old mid new first second =
     }
 
 -- the same of other calls, which are these
-pub pops-as : (calls calls' : List Call) (old new : Stacked) → calls' ≡ calls → Pops calls old new → Pops calls' old new
-pops-as calls calls' old new same pops = subst (λ (c : List Call). Pops c old new) (sym same) pops
+pub pops-as : (calls calls' : List DelegateCall) (old new : StackModel) → calls' ≡ calls → PopsDirectoriesOnly calls old new → PopsDirectoriesOnly calls' old new
+pops-as calls calls' old new same pops = subst (λ (c : List DelegateCall). PopsDirectoriesOnly c old new) (sym same) pops

@@ -11,11 +11,11 @@ use Rattle.std.proofs.lemmas.List.Elements.{filter_more}
 use Rattle.std.proofs.lemmas.List.Folds.{list_any_at}
 use Rattle.std.proofs.lemmas.Map.Text.{is_eq-slice_cmp}
 use Rattle.gitbase_core.specs.declared.entry.IndexEntry.{IndexEntry}
-use Rattle.gitbase_core.specs.Index.{path_cmp, stages_clash, IsIndex}
+use Rattle.gitbase_core.specs.Index.{compare_path_bytes, has_stage_zero_conflict, AreValidIndexEntries}
 use Rattle.gitbase_core.proofs.IndexRules.{passes-at, rises, not_before}
 use Rattle.glob_rules.specs.declared.Case.{Case}
-use Rattle.worktree_stack.specs.Setup.{AttributesSetup, Setup, Mapping}
-use Rattle.worktree_stack.specs.Mappings.{stands_before, are_ascending, is_rules_entry, mapping_of, mappings_in}
+use Rattle.worktree_stack.specs.Setup.{AttributesSetup, Setup, RulesFileMapping}
+use Rattle.worktree_stack.specs.Mappings.{is_mapping_path_less, are_mapping_paths_ascending, is_rules_file_read_from_index, path_and_blob_id_of_entry, rules_file_mappings_of_index}
 
 -- ---- two entries of an index
 
@@ -28,11 +28,11 @@ no_clash true two h = absurd (cc)
 no_clash false true h = absurd (cc)
 no_clash false false h = refl
 
-pair-ascends : (entries : List IndexEntry) (i j : ℕ) (d : IndexEntry) → IsIndex entries → i < j → j < length entries
+pair-ascends : (entries : List IndexEntry) (i j : ℕ) (d : IndexEntry) → AreValidIndexEntries entries → i < j → j < length entries
     → ((get_or entries i d).stage == 0 || (get_or entries i d).stage == 2) ≡ true → ((get_or entries j d).stage == 0 || (get_or entries j d).stage == 2) ≡ true
-    → path_cmp (get_or entries i d).path (get_or entries j d).path ≡ Less
+    → compare_path_bytes (get_or entries i d).path (get_or entries j d).path ≡ Less
 pair-ascends entries i j d index low high one two =
-    elim (not_before (path_cmp (get_or entries i d).path (get_or entries j d).path) (nat_cmp (get_or entries i d).stage (get_or entries j d).stage) (rises entries i j d index low high)) [
+    elim (not_before (compare_path_bytes (get_or entries i d).path (get_or entries j d).path) (nat_cmp (get_or entries i d).stage (get_or entries j d).stage) (rises entries i j d index low high)) [
       | inl less ↦ less
       | inr equal ↦
           let a = get_or entries i d in
@@ -40,9 +40,9 @@ pair-ascends entries i j d index low high one two =
           let stages : nat_cmp a.stage b.stage ≡ Less = rw equal at (rises entries i j d index low high) in
           let lowest : (a.stage == 0) ≡ true = lower_stage a.stage b.stage stages one two in
           let same : bytes_eq a.path b.path ≡ true = sym (is_eq-slice_cmp a.path b.path) ∙ ap is_eq equal in
-          let none : list_any (stages_clash b) (take j entries) ≡ false = no_clash _ (list_any (stages_clash b) (take j entries)) (passes-at entries j d index high).stage in
-          let clash : stages_clash b (get_or (take j entries) i d) ≡ true = ap (stages_clash b) (get_or-take j entries i d low) ∙ (rw (same, lowest) refl) in
-          absurd (true≢false (sym (list_any_at (stages_clash b) (take j entries) i d (omega (arith, length-take-le j entries (omega arith))) clash) ∙ none))
+          let none : list_any (has_stage_zero_conflict b) (take j entries) ≡ false = no_clash _ (list_any (has_stage_zero_conflict b) (take j entries)) (passes-at entries j d index high).stage in
+          let clash : has_stage_zero_conflict b (get_or (take j entries) i d) ≡ true = ap (has_stage_zero_conflict b) (get_or-take j entries i d low) ∙ (rw (same, lowest) refl) in
+          absurd (true≢false (sym (list_any_at (has_stage_zero_conflict b) (take j entries) i d (omega (arith, length-take-le j entries (omega arith))) clash) ∙ none))
     ]
 
 -- ---- lists of entries
@@ -86,15 +86,15 @@ module _ (keep : IndexEntry → Bool) where
       go each more false is = more
 
 abbrev Before : IndexEntry → IndexEntry → Type 0
-Before a b = path_cmp a.path b.path ≡ Less
+Before a b = compare_path_bytes a.path b.path ≡ Less
 
-each-all : (m : Mapping) (es : List IndexEntry) → Each (λ b. path_cmp m.0 b.path ≡ Less) es → list_all (stands_before m) (map mapping_of es) ≡ true
+each-all : (m : RulesFileMapping) (es : List IndexEntry) → Each (λ b. compare_path_bytes m.0 b.path ≡ Less) es → list_all (is_mapping_path_less m) (map path_and_blob_id_of_entry es) ≡ true
 each-all m [] each = refl
 each-all m (e ∷ es) each = rw each.0 (each-all m es each.1)
 
-ascending-rising : (es : List IndexEntry) → Rising Before es → are_ascending (map mapping_of es) ≡ true
+ascending-rising : (es : List IndexEntry) → Rising Before es → are_mapping_paths_ascending (map path_and_blob_id_of_entry es) ≡ true
 ascending-rising [] rising = refl
-ascending-rising (e ∷ es) rising = rw (each-all (mapping_of e) es rising.0) (ascending-rising es rising.1)
+ascending-rising (e ∷ es) rising = rw (each-all (path_and_blob_id_of_entry e) es rising.0) (ascending-rising es rising.1)
 
 -- ---- the mappings of an index
 
@@ -103,11 +103,11 @@ stage_of true true use_it h = refl
 stage_of true false use_it h = absurd (cc)
 stage_of false stage use_it h = absurd (cc)
 
-pub ascending_mappings : (case : Case) (attributes : Option AttributesSetup) (ignore : Option Setup) (entries : List IndexEntry) → IsIndex entries
-    → are_ascending (mappings_in case attributes ignore entries) ≡ true
+pub ascending_mappings : (case : Case) (attributes : Option AttributesSetup) (ignore : Option Setup) (entries : List IndexEntry) → AreValidIndexEntries entries
+    → are_mapping_paths_ascending (rules_file_mappings_of_index case attributes ignore entries) ≡ true
 ascending_mappings case attributes ignore [] index = refl
 ascending_mappings case attributes ignore (d ∷ more) index =
-    let keep : IndexEntry → Bool = is_rules_entry case attributes ignore in
+    let keep : IndexEntry → Bool = is_rules_file_read_from_index case attributes ignore in
     let entries : List IndexEntry = d ∷ more in
     ascending-rising (filter keep entries)
     (rising-kept keep Before entries
@@ -116,5 +116,5 @@ ascending_mappings case attributes ignore (d ∷ more) index =
 
 -- one entry more
 pub mappings_more : (keep : IndexEntry → Bool) (entries : List IndexEntry) (i : ℕ) (d : IndexEntry) → i < length entries
-    → map mapping_of (filter keep (take (i + 1) entries)) ≡ map mapping_of (filter keep (take i entries)) ++ map mapping_of (cond (keep (get_or entries i d)) (get_or entries i d ∷ []) [])
-mappings_more keep entries i d low = ap (map mapping_of) (filter_more keep entries i d low) ∙ map-append mapping_of (filter keep (take i entries)) (cond (keep (get_or entries i d)) (get_or entries i d ∷ []) [])
+    → map path_and_blob_id_of_entry (filter keep (take (i + 1) entries)) ≡ map path_and_blob_id_of_entry (filter keep (take i entries)) ++ map path_and_blob_id_of_entry (cond (keep (get_or entries i d)) (get_or entries i d ∷ []) [])
+mappings_more keep entries i d low = ap (map path_and_blob_id_of_entry) (filter_more keep entries i d low) ∙ map-append path_and_blob_id_of_entry (filter keep (take i entries)) (cond (keep (get_or entries i d)) (get_or entries i d ∷ []) [])

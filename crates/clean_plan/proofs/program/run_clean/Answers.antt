@@ -1,34 +1,34 @@
 use Rattle.std.proofs.Common.{◌≡◌, ℕ, List}
-use Rattle.worktree_fs.specs.Causes.{NotIncreased}
+use Rattle.worktree_fs.specs.Causes.{CountNotIncreased}
 use Rattle.worktree_report.proofs.Runs.{ends_well, run_text, run_usage}
 use Rattle.clean_plan.specs.Run as top
 use Rattle.clean_plan.proofs.Runs.{no_usage, text_asked-is, text_asked-unfaulted, wants_memory_alone}
 use Rattle.clean_plan.proofs.program.run_clean.Goals as goal
 
 pub returns-clause-runs : goal.returns-clause-runs
-returns-clause-runs g c = record { answer = c.text_asked-answer.result; answers = c.text_asked-answer.ensures; ends = c.write_answer.ensures }
+returns-clause-runs g c = record { answer = c.clean_plan_text_for_words-answer.result; answers = c.clean_plan_text_for_words-answer.ensures; ends = c.write_answer.ensures }
 
 pub returns-clause-unfaulted : goal.returns-clause-unfaulted
 returns-clause-unfaulted g c = λ zero.
     let wrote =
-    run_text _ _ _ _ _ _ _ _ (top.Answers g.W.Worktree g.I.Interrupt _ _ _ _ _)
-    (λ (text : List ℕ). (g.W.Worktree.faults c.text_asked-answer.new.worktree ≡ g.W.Worktree.faults c.args.worktree.now)
-    × NotIncreased (g.W.Worktree.faults c.args.worktree.now) (g.W.Worktree.faults c.text_asked-answer.new.worktree))
-    (λ text answers. text_asked-unfaulted g.W.Worktree g.I.Interrupt _ _ _ _ _ text answers) c.text_asked-answer.result c.text_asked-answer.ensures c.write_answer.ensures zero in
+    run_text _ _ _ _ _ _ _ _ (top.AnswersOptionalCleanRequest g.W.Worktree g.I.Interrupt _ _ _ _ _)
+    (λ (text : List ℕ). (g.W.Worktree.faults c.clean_plan_text_for_words-answer.new.worktree ≡ g.W.Worktree.faults c.args.worktree.now)
+    × CountNotIncreased (g.W.Worktree.faults c.args.worktree.now) (g.W.Worktree.faults c.clean_plan_text_for_words-answer.new.worktree))
+    (λ text answers. text_asked-unfaulted g.W.Worktree g.I.Interrupt _ _ _ _ _ text answers) c.clean_plan_text_for_words-answer.result c.clean_plan_text_for_words-answer.ensures c.write_answer.ensures zero in
     wrote.1
 
 pub returns-clause-plan : goal.returns-clause-plan
 returns-clause-plan g c = λ t told zero.
-    run_text _ _ _ _ _ _ _ _ (top.Answers g.W.Worktree g.I.Interrupt _ _ _ _ _) (λ (text : List ℕ). top.IsOutputAt _ t _ text)
+    run_text _ _ _ _ _ _ _ _ (top.AnswersOptionalCleanRequest g.W.Worktree g.I.Interrupt _ _ _ _ _) (λ (text : List ℕ). top.IsTextOfOptionalRequest _ t _ text)
     (λ text answers. text_asked-is g.W.Worktree g.I.Interrupt _ _ _ _ _ text answers t told)
-    c.text_asked-answer.result c.text_asked-answer.ensures c.write_answer.ensures zero
+    c.clean_plan_text_for_words-answer.result c.clean_plan_text_for_words-answer.ensures c.write_answer.ensures zero
 
 pub returns-clause-usage : goal.returns-clause-usage
 returns-clause-usage g c =
-    run_usage _ _ _ _ _ _ _ _ (top.AnswersClean g.W.Worktree g.I.Interrupt _ _ _ _) _ _ _ _ (no_usage g.W.Worktree g.I.Interrupt _ _ _ _)
-    _ c.text_asked-answer.result c.text_asked-answer.ensures c.write_answer.ensures
+    run_usage _ _ _ _ _ _ _ _ (top.AnswersCleanRequest g.W.Worktree g.I.Interrupt _ _ _ _) _ _ _ _ (no_usage g.W.Worktree g.I.Interrupt _ _ _ _)
+    _ c.clean_plan_text_for_words-answer.result c.clean_plan_text_for_words-answer.ensures c.write_answer.ensures
 
 pub returns-clause-complete : goal.returns-clause-complete
 returns-clause-complete g c = λ t told valid quiet calm taken.
     ends_well _ _ _ _ _ _ _ _ _ c.write_answer.ensures taken
-    (wants_memory_alone g.W.Worktree g.I.Interrupt _ _ _ _ _ c.text_asked-answer.result c.text_asked-answer.ensures t told quiet calm valid)
+    (wants_memory_alone g.W.Worktree g.I.Interrupt _ _ _ _ _ c.clean_plan_text_for_words-answer.result c.clean_plan_text_for_words-answer.ensures t told quiet calm valid)

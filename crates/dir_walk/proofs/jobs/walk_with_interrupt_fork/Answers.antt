@@ -1,6 +1,6 @@
 use Rattle.std.proofs.Common.{rules}
 use Rattle.std.proofs.lemmas.Result.{err_from_is_err_and}
-use Rattle.dir_classify.specs.Layers.{setting_of}
+use Rattle.dir_classify.specs.Layers.{setting_of_shared}
 use Rattle.dir_walk.proofs.Walked.Forked.{job-directory, job-interrupt, job-memory}
 use Rattle.dir_walk.proofs.jobs.walk_with_interrupt_fork.Goals as goal
 
@@ -14,5 +14,5 @@ returns-clause-job g c =
     let forked = c.in_ok-fork.ensures in
     let absorbed = c.absorb.ensures in
     let walked = job-directory c.walk_directory-result.ensures.told c.walk_directory-result.ensures.walks c.walk_directory-result.ensures.opens in
-    job-interrupt g.W.Worktree g.F.Find g.I.Interrupt g.D.Delegate a.parts.now.interrupt.now (setting_of g.M.Matcher a.shared.now) a.place.now.path a.class.now c.walk_directory-result.result
+    job-interrupt g.W.Worktree g.F.Find g.I.Interrupt g.D.Delegate a.parts.now.interrupt.now (setting_of_shared g.M.Matcher a.shared.now) a.place.now.path a.class.now c.walk_directory-result.result
     forked.questions forked.raised absorbed.questions absorbed.raised absorbed.later (search rules)

@@ -1,7 +1,7 @@
 use Rattle.std.proofs.Common.{◌≡◌, ◌-◌, drop, find, length, take}
-use Rattle.ls_files.specs.Others.{above_after}
-use Rattle.git_clean.specs.Places.{is_removed_whole, top}
-use Rattle.git_clean.specs.Scenes.{scene_by}
+use Rattle.ls_files.specs.Others.{directories_above_behind_prefix}
+use Rattle.git_clean.specs.Places.{directory_goes_whole, top}
+use Rattle.git_clean.specs.Scenes.{scene_in_specification}
 use Rattle.git_clean.proofs.places.top.Given as goal
 
 abbrev pub decreases-loop-at : goal.decreases-loop-at
@@ -9,4 +9,4 @@ decreases-loop-at l = length l.path - l.at
 
 abbrev pub invariant-loop-at : goal.invariant-loop-at
 invariant-loop-at l =
-    find (is_removed_whole (scene_by l.scene)) (above_after (take l.at l.path) (drop l.at l.path)) ≡ top (scene_by l.scene) l.path
+    find (directory_goes_whole (scene_in_specification l.scene)) (directories_above_behind_prefix (take l.at l.path) (drop l.at l.path)) ≡ top (scene_in_specification l.scene) l.path

@@ -10,5 +10,5 @@ returns-in_err-known g c =
 pub returns : goal.returns
 returns g c =
     let known = c.in_ok-known.ensures in
-    MakesReport-described (record { loads = known.loads; read = known.read; unfaulted = known.unfaulted }) c.in_ok-known.known c.in_ok-known.ensures.gives c.in_ok-known.ensures.known c.in_ok-known.ensures.unasked c.walk_by_setup-walked.result c.report_by.result
-    c.walk_by_setup-walked.ensures c.report_by.ensures
+    MakesReport-described (record { loads = known.loads; read = known.read; unfaulted = known.unfaulted }) c.in_ok-known.known c.in_ok-known.ensures.gives c.in_ok-known.ensures.known c.in_ok-known.ensures.unasked c.walk_by_setup-walked.result c.report_of_walk_result.result
+    c.walk_by_setup-walked.ensures c.report_of_walk_result.ensures

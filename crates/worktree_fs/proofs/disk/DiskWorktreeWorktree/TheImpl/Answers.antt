@@ -1,7 +1,7 @@
 -- The disk tells nothing of what it holds, and its counts are those of its own clauses.
 use Rattle.std.proofs.Common.{◌≡◌, Option, Some, None, Ok, Err, refl, sym, subst, ap, IfOk, OnErr, Result}
 use Rattle.worktree_fs.specs.Tree.{Names}
-use Rattle.worktree_fs.specs.Disk.{Disk, uncounted}
+use Rattle.worktree_fs.specs.Disk.{DiskWorktreeModel, with_counts_reset}
 use Rattle.worktree_fs.specs.declared.answers.ReadError.{ReadError}
 use Rattle.worktree_fs.proofs.Trees.KeptNames.{kept-listing}
 use Rattle.worktree_fs.proofs.disk.DiskWorktreeWorktree.TheImpl.Goals as goal
@@ -21,10 +21,10 @@ kind-tells g c = record {
   cause = c.ensures.cause;
   unfaulted = c.ensures.unfaulted;
   faults = c.ensures.later;
-  list_faults = ap (λ (d : Disk). d.list_faults) c.ensures.state;
-  reads = ap (λ (d : Disk). d.reads) c.ensures.state;
-  lists = ap (λ (d : Disk). d.lists) c.ensures.state;
-  precomposes = ap (λ (d : Disk). d.composes) c.ensures.state;
+  list_faults = ap (λ (d : DiskWorktreeModel). d.list_faults) c.ensures.state;
+  reads = ap (λ (d : DiskWorktreeModel). d.reads) c.ensures.state;
+  lists = ap (λ (d : DiskWorktreeModel). d.lists) c.ensures.state;
+  precomposes = ap (λ (d : DiskWorktreeModel). d.composes) c.ensures.state;
 }
 
 pub kind_following-tells : goal.kind_following-tells
@@ -34,10 +34,10 @@ kind_following-tells g c = record {
   cause = c.ensures.cause;
   unfaulted = c.ensures.unfaulted;
   faults = c.ensures.later;
-  list_faults = ap (λ (d : Disk). d.list_faults) c.ensures.state;
-  reads = ap (λ (d : Disk). d.reads) c.ensures.state;
-  lists = ap (λ (d : Disk). d.lists) c.ensures.state;
-  precomposes = ap (λ (d : Disk). d.composes) c.ensures.state;
+  list_faults = ap (λ (d : DiskWorktreeModel). d.list_faults) c.ensures.state;
+  reads = ap (λ (d : DiskWorktreeModel). d.reads) c.ensures.state;
+  lists = ap (λ (d : DiskWorktreeModel). d.lists) c.ensures.state;
+  precomposes = ap (λ (d : DiskWorktreeModel). d.composes) c.ensures.state;
 }
 
 pub real_path-tells : goal.real_path-tells
@@ -47,10 +47,10 @@ real_path-tells g c = record {
   cause = c.ensures.cause;
   unfaulted = c.ensures.unfaulted;
   faults = c.ensures.later;
-  list_faults = ap (λ (d : Disk). d.list_faults) c.ensures.state;
-  reads = ap (λ (d : Disk). d.reads) c.ensures.state;
-  lists = ap (λ (d : Disk). d.lists) c.ensures.state;
-  precomposes = ap (λ (d : Disk). d.composes) c.ensures.state;
+  list_faults = ap (λ (d : DiskWorktreeModel). d.list_faults) c.ensures.state;
+  reads = ap (λ (d : DiskWorktreeModel). d.reads) c.ensures.state;
+  lists = ap (λ (d : DiskWorktreeModel). d.lists) c.ensures.state;
+  precomposes = ap (λ (d : DiskWorktreeModel). d.composes) c.ensures.state;
 }
 
 pub list-tells : goal.list-tells
@@ -65,10 +65,10 @@ list-tells g c = record {
   list_cause = c.ensures.list_cause;
   list_faults = c.ensures.list_faults;
   list_faults_kept = c.ensures.list_faults_kept;
-  reads = ap (λ (d : Disk). d.reads) c.ensures.state;
-  lists = ap (λ (d : Disk). d.lists) c.ensures.state;
+  reads = ap (λ (d : DiskWorktreeModel). d.reads) c.ensures.state;
+  lists = ap (λ (d : DiskWorktreeModel). d.lists) c.ensures.state;
   lists_later = c.ensures.lists_later;
-  precomposes = ap (λ (d : Disk). d.composes) c.ensures.state;
+  precomposes = ap (λ (d : DiskWorktreeModel). d.composes) c.ensures.state;
 }
 
 pub read-tells : goal.read-tells
@@ -81,11 +81,11 @@ read-tells g c = record {
   cause = c.ensures.cause;
   unfaulted = c.ensures.unfaulted;
   faults = c.ensures.later;
-  list_faults = ap (λ (d : Disk). d.list_faults) c.ensures.state;
-  reads = ap (λ (d : Disk). d.reads) c.ensures.state;
+  list_faults = ap (λ (d : DiskWorktreeModel). d.list_faults) c.ensures.state;
+  reads = ap (λ (d : DiskWorktreeModel). d.reads) c.ensures.state;
   reads_later = c.ensures.reads_later;
-  lists = ap (λ (d : Disk). d.lists) c.ensures.state;
-  precomposes = ap (λ (d : Disk). d.composes) c.ensures.state;
+  lists = ap (λ (d : DiskWorktreeModel). d.lists) c.ensures.state;
+  precomposes = ap (λ (d : DiskWorktreeModel). d.composes) c.ensures.state;
 }
 
 pub make_dir-tells : goal.make_dir-tells
@@ -98,10 +98,10 @@ make_dir-tells g c = record {
   cause = c.ensures.cause;
   unfaulted = c.ensures.unfaulted;
   faults = c.ensures.later;
-  list_faults = ap (λ (d : Disk). d.list_faults) c.ensures.state;
-  reads = ap (λ (d : Disk). d.reads) c.ensures.state;
-  lists = ap (λ (d : Disk). d.lists) c.ensures.state;
-  precomposes = ap (λ (d : Disk). d.composes) c.ensures.state;
+  list_faults = ap (λ (d : DiskWorktreeModel). d.list_faults) c.ensures.state;
+  reads = ap (λ (d : DiskWorktreeModel). d.reads) c.ensures.state;
+  lists = ap (λ (d : DiskWorktreeModel). d.lists) c.ensures.state;
+  precomposes = ap (λ (d : DiskWorktreeModel). d.composes) c.ensures.state;
 }
 
 pub remove_node-tells : goal.remove_node-tells
@@ -114,10 +114,10 @@ remove_node-tells g c = record {
   cause = c.ensures.cause;
   unfaulted = c.ensures.unfaulted;
   faults = c.ensures.later;
-  list_faults = ap (λ (d : Disk). d.list_faults) c.ensures.state;
-  reads = ap (λ (d : Disk). d.reads) c.ensures.state;
-  lists = ap (λ (d : Disk). d.lists) c.ensures.state;
-  precomposes = ap (λ (d : Disk). d.composes) c.ensures.state;
+  list_faults = ap (λ (d : DiskWorktreeModel). d.list_faults) c.ensures.state;
+  reads = ap (λ (d : DiskWorktreeModel). d.reads) c.ensures.state;
+  lists = ap (λ (d : DiskWorktreeModel). d.lists) c.ensures.state;
+  precomposes = ap (λ (d : DiskWorktreeModel). d.composes) c.ensures.state;
 }
 
 -- what is true of what was answered
@@ -126,12 +126,12 @@ given P r answer is p = subst (λ r. IfOk r P) (sym is) p
 
 pub fork-tells : goal.fork-tells
 fork-tells g c =
-    let d : Disk = c.args.self.now in
+    let d : DiskWorktreeModel = c.args.self.now in
     record {
-      tree = given (λ (fork : Disk). ◌≡◌ {A = Option Names} None None) c.result (uncounted d) c.ensures refl;
-      faults = given (λ (fork : Disk). fork.faults ≡ 0) c.result (uncounted d) c.ensures refl;
-      list_faults = given (λ (fork : Disk). fork.list_faults ≡ 0) c.result (uncounted d) c.ensures refl;
-      reads = given (λ (fork : Disk). fork.reads ≡ 0) c.result (uncounted d) c.ensures refl;
-      lists = given (λ (fork : Disk). fork.lists ≡ 0) c.result (uncounted d) c.ensures refl;
-      precomposes = given (λ (fork : Disk). fork.composes ≡ d.composes) c.result (uncounted d) c.ensures refl;
+      tree = given (λ (fork : DiskWorktreeModel). ◌≡◌ {A = Option Names} None None) c.result (with_counts_reset d) c.ensures refl;
+      faults = given (λ (fork : DiskWorktreeModel). fork.faults ≡ 0) c.result (with_counts_reset d) c.ensures refl;
+      list_faults = given (λ (fork : DiskWorktreeModel). fork.list_faults ≡ 0) c.result (with_counts_reset d) c.ensures refl;
+      reads = given (λ (fork : DiskWorktreeModel). fork.reads ≡ 0) c.result (with_counts_reset d) c.ensures refl;
+      lists = given (λ (fork : DiskWorktreeModel). fork.lists ≡ 0) c.result (with_counts_reset d) c.ensures refl;
+      precomposes = given (λ (fork : DiskWorktreeModel). fork.composes ≡ d.composes) c.result (with_counts_reset d) c.ensures refl;
     }

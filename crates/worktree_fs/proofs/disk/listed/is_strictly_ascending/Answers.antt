@@ -4,8 +4,8 @@ use Rattle.std.proofs.lemmas.Map.Keys.{sorted_from_all_adjacent}
 use Rattle.worktree_fs.proofs.Lists.Distinct.{below_next}
 use Rattle.worktree_fs.proofs.disk.listed.is_strictly_ascending.Goals as goal
 
-pub returns-then-not-is_below : goal.returns-then-not-is_below
-returns-then-not-is_below c = (
+pub returns-then-not-is_name_less : goal.returns-then-not-is_name_less
+returns-then-not-is_name_less c = (
   λ rises. absurd (true≢false (sym rises)),
   λ sorted.
       let before = below_next c.args.names.now c.loop-i.i c.index-names-i.result c.index-names-i-in-loop-i.result sorted c.loop-i.invariant.0 c.loop-i-test.true in

@@ -1,11 +1,11 @@
 use Rattle.std.proofs.Common.{◌≡◌, ◌∙◌, rules, Bool, true, Result, Ok, Err, List, ℕ, Some, None, false, refl, sym, ap, subst, if◌then◌else◌, OnOk, OnErr, IfOk}
 use Rattle.std.specs.Prelude.{MatchResult}
-use Rattle.worktree_fs.specs.Tree.{Names, look, spot}
-use Rattle.worktree_fs.specs.MadeAndRemoved.{AnswersInside, Removes}
-use Rattle.worktree_fs.specs.Answers.{ListsNames, ListRefuses}
-use Rattle.worktree_fs.specs.Memory.{Memory, ListsInOrder, told_by, count_call_and_check_fault}
+use Rattle.worktree_fs.specs.Tree.{Names, look, resolution_of_path}
+use Rattle.worktree_fs.specs.MadeAndRemoved.{AnswersMakeInExistingParent, NodeRemovedAtPath}
+use Rattle.worktree_fs.specs.Answers.{ListsDirectoryNamesInAnyOrder, ListErrorFitsLookup}
+use Rattle.worktree_fs.specs.Memory.{MemoryWorktreeModel, ListsDirectoryNamesInOrder, tree_if_valid, is_next_call_planned_to_fail}
 use Rattle.worktree_fs.specs.declared.memory.plan.CallKind.TheVariants as calls
-use Rattle.worktree_fs.specs.Changes.{make_answer, after_make, remove_answer, after_remove}
+use Rattle.worktree_fs.specs.Changes.{answer_to_make_dir, entries_after_make_dir, answer_to_remove_node, entries_after_remove_node}
 use Rattle.worktree_fs.specs.declared.answers.ListError.{ListError}
 use Rattle.worktree_fs.specs.declared.answers.ReadError.{ReadError}
 use Rattle.worktree_fs.specs.declared.answers.ReadError.TheVariants as errors
@@ -14,7 +14,7 @@ use Rattle.worktree_fs.proofs.Lists.Distinct.{lists_names}
 use Rattle.worktree_fs.proofs.Trees.Tested.{told_is}
 use Rattle.worktree_fs.proofs.memory.MemoryWorktreeWorktree.TheImpl.Goals as goal
 
-lists : (is_reversed : _) (at : _) (r : Result (List (List ℕ)) ListError) → MatchResult r (ListsInOrder is_reversed at) (ListRefuses at) → MatchResult r (ListsNames at) (ListRefuses at)
+lists : (is_reversed : _) (at : _) (r : Result (List (List ℕ)) ListError) → MatchResult r (ListsDirectoryNamesInOrder is_reversed at) (ListErrorFitsLookup at) → MatchResult r (ListsDirectoryNamesInAnyOrder at) (ListErrorFitsLookup at)
 lists is_reversed at (Ok listed) h = lists_names is_reversed at listed h
 lists is_reversed at (Err error) h = h
 
@@ -22,20 +22,20 @@ pub list-tells : goal.list-tells
 list-tells c = record {
   answer = λ t told.
       lists c.args.self.now.is_reversed (look t c.args.path.now c.args.follow) c.result
-      (subst (λ (n : Names). MatchResult c.result (ListsInOrder c.args.self.now.is_reversed (look n c.args.path.now c.args.follow)) (ListRefuses (look n c.args.path.now c.args.follow))) (told_is c.args.self.now.tree t told) c.ensures.answer);
+      (subst (λ (n : Names). MatchResult c.result (ListsDirectoryNamesInOrder c.args.self.now.is_reversed (look n c.args.path.now c.args.follow)) (ListErrorFitsLookup (look n c.args.path.now c.args.follow))) (told_is c.args.self.now.tree t told) c.ensures.answer);
   names = c.ensures.names;
   composed = c.ensures.kept;
-  tree = ap (λ (m : Memory). told_by m.tree) c.ensures.state;
+  tree = ap (λ (m : MemoryWorktreeModel). tree_if_valid m.tree) c.ensures.state;
   cause = c.ensures.cause;
   unfaulted = c.ensures.unfaulted;
   faults = c.ensures.faults;
   list_cause = c.ensures.list_cause;
   list_faults = c.ensures.list_faults;
   list_faults_kept = c.ensures.list_faults_kept;
-  reads = ap (λ (m : Memory). m.reads) c.ensures.state;
-  lists = ap (λ (m : Memory). m.lists) c.ensures.state;
+  reads = ap (λ (m : MemoryWorktreeModel). m.reads) c.ensures.state;
+  lists = ap (λ (m : MemoryWorktreeModel). m.lists) c.ensures.state;
   lists_later = c.ensures.lists_later;
-  precomposes = ap (λ (m : Memory). m.composes) c.ensures.state;
+  precomposes = ap (λ (m : MemoryWorktreeModel). m.composes) c.ensures.state;
 }
 
 pub read-tells : goal.read-tells
@@ -44,15 +44,15 @@ read-tells c = record {
   bytes = search rules;
   into = c.ensures.into;
   link = c.ensures.link;
-  tree = ap (λ (m : Memory). told_by m.tree) c.ensures.state;
+  tree = ap (λ (m : MemoryWorktreeModel). tree_if_valid m.tree) c.ensures.state;
   cause = search rules;
   unfaulted = search rules;
   faults = c.ensures.later;
-  list_faults = ap (λ (m : Memory). m.list_faults) c.ensures.state;
-  reads = ap (λ (m : Memory). m.reads) c.ensures.state;
+  list_faults = ap (λ (m : MemoryWorktreeModel). m.list_faults) c.ensures.state;
+  reads = ap (λ (m : MemoryWorktreeModel). m.reads) c.ensures.state;
   reads_later = c.ensures.reads_later;
-  lists = ap (λ (m : Memory). m.lists) c.ensures.state;
-  precomposes = ap (λ (m : Memory). m.composes) c.ensures.state;
+  lists = ap (λ (m : MemoryWorktreeModel). m.lists) c.ensures.state;
+  precomposes = ap (λ (m : MemoryWorktreeModel). m.composes) c.ensures.state;
 }
 
 made_of : {T P Q : Type 0} (r : Result T ReadError) → (P → Q) → OnOk r P → OnOk r Q
@@ -63,24 +63,24 @@ kept_of : {T P Q : Type 0} (r : Result T ReadError) → (P → Q) → OnErr r P 
 kept_of (Ok answer) f p = tt
 kept_of (Err error) f p = f p
 
-told_clash : (t : Names) → told_by t ≡ Some t → told_by t ≡ None → ⊥
+told_clash : (t : Names) → tree_if_valid t ≡ Some t → tree_if_valid t ≡ None → ⊥
 told_clash t e f = cc
 
 pub make_dir-tells : goal.make_dir-tells
 make_dir-tells c = record {
-  answer = λ t told. subst (λ (n : Names). IfOk c.result (λ answer. answer ≡ make_answer c.args.self.now.composes n (spot n c.args.path.now false))) (told_is c.args.self.now.tree t told) c.ensures.answer;
-  inside = λ t told. subst (λ (n : Names). IfOk c.result (AnswersInside c.args.self.now.composes n c.args.path.now)) (told_is c.args.self.now.tree t told) c.ensures.inside;
-  made = λ t told. made_of c.result (λ (is : c.new.self.now.tree ≡ after_make c.args.self.now.composes c.args.self.now.tree (spot c.args.self.now.tree c.args.path.now false)).
-      c.ensures.told ∙ ap Some (is ∙ ap (λ (n : Names). after_make c.args.self.now.composes n (spot n c.args.path.now false)) (told_is c.args.self.now.tree t told))) c.ensures.made;
-  kept = kept_of c.result (λ (is : c.new.self.now.tree ≡ c.args.self.now.tree). ap told_by is) c.ensures.refused;
+  answer = λ t told. subst (λ (n : Names). IfOk c.result (λ answer. answer ≡ answer_to_make_dir c.args.self.now.composes n (resolution_of_path n c.args.path.now false))) (told_is c.args.self.now.tree t told) c.ensures.answer;
+  inside = λ t told. subst (λ (n : Names). IfOk c.result (AnswersMakeInExistingParent c.args.self.now.composes n c.args.path.now)) (told_is c.args.self.now.tree t told) c.ensures.inside;
+  made = λ t told. made_of c.result (λ (is : c.new.self.now.tree ≡ entries_after_make_dir c.args.self.now.composes c.args.self.now.tree (resolution_of_path c.args.self.now.tree c.args.path.now false)).
+      c.ensures.told ∙ ap Some (is ∙ ap (λ (n : Names). entries_after_make_dir c.args.self.now.composes n (resolution_of_path n c.args.path.now false)) (told_is c.args.self.now.tree t told))) c.ensures.made;
+  kept = kept_of c.result (λ (is : c.new.self.now.tree ≡ c.args.self.now.tree). ap tree_if_valid is) c.ensures.refused;
   untold = λ none. absurd (told_clash c.args.self.now.tree c.ensures.told_before none);
   cause = search rules;
   unfaulted = search rules;
   faults = c.ensures.later;
-  list_faults = ap (λ (m : Memory). m.list_faults) c.ensures.rest;
-  reads = ap (λ (m : Memory). m.reads) c.ensures.rest;
-  lists = ap (λ (m : Memory). m.lists) c.ensures.rest;
-  precomposes = ap (λ (m : Memory). m.composes) c.ensures.rest;
+  list_faults = ap (λ (m : MemoryWorktreeModel). m.list_faults) c.ensures.rest;
+  reads = ap (λ (m : MemoryWorktreeModel). m.reads) c.ensures.rest;
+  lists = ap (λ (m : MemoryWorktreeModel). m.lists) c.ensures.rest;
+  precomposes = ap (λ (m : MemoryWorktreeModel). m.composes) c.ensures.rest;
 }
 
 -- a removal that was planned to fail, or was made
@@ -104,24 +104,24 @@ pub remove_node-tells : goal.remove_node-tells
 remove_node-tells c =
     let old = c.args.self.now.tree in
     let new = c.new.self.now.tree in
-    let at = spot old c.args.path.now false in
-    let planned = count_call_and_check_fault c.args.self.now calls.RemoveNode in
-    let after = after_remove old at in
+    let at = resolution_of_path old c.args.path.now false in
+    let planned = is_next_call_planned_to_fail c.args.self.now calls.RemoveNode in
+    let after = entries_after_remove_node old at in
     record {
-      answer = λ t told. subst (λ (n : Names). IfOk c.result (λ answer. answer ≡ remove_answer (spot n c.args.path.now false))) (told_is old t told)
-          (answered (remove_answer at) old after planned c.result c.ensures.answer);
-      removed = λ t told. made_of c.result (λ (is : new ≡ after). c.ensures.told ∙ ap Some (is ∙ ap (λ (n : Names). after_remove n (spot n c.args.path.now false)) (told_is old t told)))
-          (changed (remove_answer at) old after planned c.result new c.ensures.answer c.ensures.tree);
+      answer = λ t told. subst (λ (n : Names). IfOk c.result (λ answer. answer ≡ answer_to_remove_node (resolution_of_path n c.args.path.now false))) (told_is old t told)
+          (answered (answer_to_remove_node at) old after planned c.result c.ensures.answer);
+      removed = λ t told. made_of c.result (λ (is : new ≡ after). c.ensures.told ∙ ap Some (is ∙ ap (λ (n : Names). entries_after_remove_node n (resolution_of_path n c.args.path.now false)) (told_is old t told)))
+          (changed (answer_to_remove_node at) old after planned c.result new c.ensures.answer c.ensures.tree);
       gone = λ t now told told_now removed.
-          subst (λ (n : Names). Removes c.args.path.now n now) (told_is old t told)
-          (subst (λ (n : Names). Removes c.args.path.now old n) (told_is new now told_now) (c.ensures.gone removed));
-      kept = kept_of c.result (λ (is : new ≡ old). ap told_by is) (unchanged (remove_answer at) old after planned c.result new c.ensures.answer c.ensures.tree);
+          subst (λ (n : Names). NodeRemovedAtPath c.args.path.now n now) (told_is old t told)
+          (subst (λ (n : Names). NodeRemovedAtPath c.args.path.now old n) (told_is new now told_now) (c.ensures.gone removed));
+      kept = kept_of c.result (λ (is : new ≡ old). ap tree_if_valid is) (unchanged (answer_to_remove_node at) old after planned c.result new c.ensures.answer c.ensures.tree);
       untold = λ none. absurd (told_clash old c.ensures.told_before none);
       cause = search rules;
       unfaulted = search rules;
       faults = c.ensures.later;
-      list_faults = ap (λ (m : Memory). m.list_faults) c.ensures.rest;
-      reads = ap (λ (m : Memory). m.reads) c.ensures.rest;
-      lists = ap (λ (m : Memory). m.lists) c.ensures.rest;
-      precomposes = ap (λ (m : Memory). m.composes) c.ensures.rest;
+      list_faults = ap (λ (m : MemoryWorktreeModel). m.list_faults) c.ensures.rest;
+      reads = ap (λ (m : MemoryWorktreeModel). m.reads) c.ensures.rest;
+      lists = ap (λ (m : MemoryWorktreeModel). m.lists) c.ensures.rest;
+      precomposes = ap (λ (m : MemoryWorktreeModel). m.composes) c.ensures.rest;
     }

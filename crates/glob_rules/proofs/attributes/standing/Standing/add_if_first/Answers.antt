@@ -1,5 +1,5 @@
 use Rattle.std.proofs.Common.{◌≡◌, rules, ap, sym, ◌∙◌, ℕ, List, false, refl}
-use Rattle.glob_rules.specs.AttributeValues.{has_assigned_name, state_in}
+use Rattle.glob_rules.specs.AttributeValues.{has_assigned_name, state_of_name}
 use Rattle.glob_rules.specs.Standing.{dereferenced_assignments}
 use Rattle.glob_rules.proofs.StandingStates.{there_or_not, has-more, told-last}
 use Rattle.glob_rules.proofs.attributes.standing.Standing.add_if_first.Goals as goal
@@ -22,7 +22,7 @@ invariant_of-self-in-Ok c =
     let new : has_assigned_name c.args.assigned.now.name standing ≡ false = sym (ap (λ (n : List ℕ). has_assigned_name n standing) named) ∙ there ∙ c.if-contains_key.false in
     λ name.
     has-more c.self.inside.states.entries c.insert.new.self.entries standing c.args.assigned.now c.as_bytes-name.result _ named refl c.self.invariant new c.in-Ok.ensures.updates.0 name
-    ∙ sym (ap (state_in name) (ap dereferenced_assignments c.in_ok-push.ensures.items ∙ told-last c.self.inside.said.items c.args.assigned))
+    ∙ sym (ap (state_of_name name) (ap dereferenced_assignments c.in_ok-push.ensures.items ∙ told-last c.self.inside.said.items c.args.assigned))
 
 pub returns-in-Ok-clause-first : goal.returns-in-Ok-clause-first
 returns-in-Ok-clause-first c =

@@ -1,6 +1,0 @@
-use Rattle.std.proofs.Common.{rules}
-use Rattle.clean_plan.proofs.Among.{among-by_order}
-use Rattle.clean_plan.proofs.paths.Paths.has.Goals as goal
-
-pub returns : goal.returns
-returns c = let there = among-by_order c.args.path.now c.self.inside.sorted.keys in search rules

@@ -1,9 +1,0 @@
-use Rattle.std.proofs.Common.{◌≡◌, length}
-use Rattle.command_line.specs.Steps.{letters}
-use Rattle.command_line.proofs.step.letters.Given as goal
-
-abbrev pub invariant-loop-letter : goal.invariant-loop-letter
-invariant-loop-letter l = letters l.verb l.rest l.said ≡ letters l.verb l.text l.fn.draft
-
-abbrev pub decreases-loop-letter : goal.decreases-loop-letter
-decreases-loop-letter l = length l.rest

@@ -1,8 +1,0 @@
-use Rattle.std.proofs.Common.{rules, not}
-use Rattle.std.proofs.lemmas.Fn.{always_returns_same}
-use Rattle.git_clean.specs.Beneath.{stands_below}
-use Rattle.git_clean.proofs.Near.{rise-is}
-use Rattle.git_clean.proofs.beneath.rise.Goals as goal
-
-pub returns : goal.returns
-returns c = rise-is c.args.found.now _ (c.is_sorted_by.ensures.cases (λ x y. not (stands_below y x)) (always_returns_same _ _ _ (λ a r g called. search rules)))

@@ -1,9 +1,0 @@
-use Rattle.std.proofs.Common.{◌≡◌, length}
-use Rattle.git_config_lite.specs.Values.{past_blank_elements}
-use Rattle.git_config_lite.proofs.value.past_blanks.Given as goal
-
-abbrev pub invariant-loop-first : goal.invariant-loop-first
-invariant-loop-first l = past_blank_elements l.rest ≡ past_blank_elements l.elements
-
-abbrev pub decreases-loop-first : goal.decreases-loop-first
-decreases-loop-first l = length l.rest

@@ -1,9 +1,0 @@
-use Rattle.std.proofs.Common.{length, ◌≡◌}
-use Rattle.glob_rules.specs.AttributeLines.{after_blanks}
-use Rattle.glob_rules.proofs.attributes.line.after_blanks.Given as goal
-
-abbrev pub invariant-loop-byte : goal.invariant-loop-byte
-invariant-loop-byte l = after_blanks l.rest ≡ after_blanks l.bytes
-
-abbrev pub decreases-loop-byte : goal.decreases-loop-byte
-decreases-loop-byte l = length l.rest

@@ -1,5 +1,0 @@
-use Rattle.std.specs.Prelude.{◌≡◌, ◌++◌}
-use Rattle.ls_files.proofs.others.in_order.Given as goal
-
-abbrev pub invariant-loop-name : goal.invariant-loop-name
-invariant-loop-name l = l.list.items ++ l.name-iterator ≡ l.fn.names.keys

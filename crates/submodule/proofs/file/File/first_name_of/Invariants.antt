@@ -1,7 +1,0 @@
-use Rattle.std.proofs.Common.{◌≡◌, codes, find}
-use Rattle.submodule.specs.Overrides.{value}
-use Rattle.submodule.specs.Access.{has_path, name_by_path}
-use Rattle.submodule.proofs.file.File.first_name_of.Given as goal
-
-abbrev pub invariant-loop-name : goal.invariant-loop-name
-invariant-loop-name l = find (λ name. has_path l.relative_path (value name (codes "path") l.self.sections)) l.name-iterator ≡ name_by_path l.relative_path l.self.sections

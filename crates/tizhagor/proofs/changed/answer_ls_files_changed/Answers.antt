@@ -1,0 +1,25 @@
+use Rattle.std.proofs.Common.{ap}
+use Rattle.std.proofs.lemmas.Result.{err_from_is_err_and}
+use Rattle.gitbase_core.specs.Steps.{and_then}
+use Rattle.tizhagor.specs.Changing.{changed_files_reply_of_placed, changed_files_reply_around_directory}
+use Rattle.tizhagor.specs.Comparing.{find_work_tree_and_repository_places}
+use Rattle.tizhagor.specs.declared.compare.Placed.{Placed}
+use Rattle.tizhagor.proofs.Besides.{behind_owners, stops_before}
+use Rattle.tizhagor.proofs.changed.answer_ls_files_changed.Goals as goal
+
+pub returns-in_err-placed : goal.returns-in_err-placed
+returns-in_err-placed g c =
+    let p = err_from_is_err_and c.from_residual.result c.from_residual.ensures.1 in
+    rw (p.1, p.2)
+    (stops_before g.W.Worktree g.O.Owners g.D.Stats _ _ _ _ _ c.in_err-placed.field-0.0 (λ t owned. find_work_tree_and_repository_places t owned c.args.here.now.current.now c.args.here.now.variables.now c.args.here.now.directory.now)
+    (λ t owned told. changed_files_reply_around_directory t owned told c.args.here.now.current.now c.args.here.now.variables.now c.args.here.now.directory.now c.args.asked.now c.args.wants.now c.args.standings)
+    (λ t owned told h. ap (and_then (λ (placed : Placed). changed_files_reply_of_placed t told placed c.args.asked.now c.args.wants.now c.args.standings)) h)
+    c.in_err-placed.ensures.finds c.in_err-placed.ensures.of)
+
+pub returns : goal.returns
+returns g c =
+    behind_owners g.W.Worktree g.O.Owners g.D.Stats _ _ _ _ _ _ _ c.in_ok-placed.placed (λ t owned. find_work_tree_and_repository_places t owned c.args.here.now.current.now c.args.here.now.variables.now c.args.here.now.directory.now)
+    (λ t told. changed_files_reply_of_placed t told c.in_ok-placed.placed c.args.asked.now c.args.wants.now c.args.standings)
+    (λ t owned told. changed_files_reply_around_directory t owned told c.args.here.now.current.now c.args.here.now.variables.now c.args.here.now.directory.now c.args.asked.now c.args.wants.now c.args.standings) c.read_index_time_and_list_changed.result
+    (λ t owned told h. ap (and_then (λ (placed : Placed). changed_files_reply_of_placed t told placed c.args.asked.now c.args.wants.now c.args.standings)) h)
+    c.in_ok-placed.ensures.finds c.read_index_time_and_list_changed.ensures.finds c.read_index_time_and_list_changed.ensures.of

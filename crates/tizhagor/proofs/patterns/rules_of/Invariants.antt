@@ -1,7 +1,0 @@
-use Rattle.std.proofs.Common.{◌≡◌, take}
-use Rattle.std.specs.List.{flat_map}
-use Rattle.tizhagor.specs.Patterns.{rule_line}
-use Rattle.tizhagor.proofs.patterns.rules_of.Given as goal
-
-abbrev pub invariant-loop-pattern : goal.invariant-loop-pattern
-invariant-loop-pattern l = l.text.items ≡ flat_map rule_line (take l.pattern-index l.patterns)

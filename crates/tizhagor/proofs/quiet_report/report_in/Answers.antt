@@ -1,8 +1,0 @@
-use Rattle.tizhagor.proofs.QuietReports.{reports}
-use Rattle.tizhagor.proofs.quiet_report.report_in.Goals as goal
-
-pub returns : goal.returns
-returns g c =
-    reports g.W.Worktree g.I.Interrupt _ _ _ _ c.args.writing c.args.found c.walked_text-answer.result c.bytes_unless_new_fault.result
-    (rw (← c.as_bytes.ensures) c.walked_text-answer.ensures)
-    (rw (← c.fault_count-before.ensures) c.bytes_unless_new_fault.ensures)

@@ -1,7 +1,0 @@
-use Rattle.std.proofs.Common.{◌≡◌, Some, subst}
-use Rattle.worktree_fs.specs.Memory.{Memory, told_by}
-use Rattle.worktree_fs.proofs.Trees.Tested.{told_some}
-use Rattle.worktree_fs.proofs.memory.MemoryWorktree.assert_tree_told.Goals as goal
-
-pub returns : goal.returns
-returns c = subst (λ (m : Memory). told_by m.tree ≡ Some m.tree) c.self.view_is (told_some c.self.inside.root c.entries-entries.ensures.tree)

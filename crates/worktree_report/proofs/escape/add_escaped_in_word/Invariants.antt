@@ -1,6 +1,0 @@
-use Rattle.std.proofs.Common.{◌≡◌, ◌++◌, take}
-use Rattle.worktree_report.specs.Escapes.{escaped_in_word}
-use Rattle.worktree_report.proofs.escape.add_escaped_in_word.Given as goal
-
-abbrev pub invariant-loop-byte : goal.invariant-loop-byte
-invariant-loop-byte l = l.text.items ≡ l.fn.text.items ++ escaped_in_word (take l.byte-index l.path)

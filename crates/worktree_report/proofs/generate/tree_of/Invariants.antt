@@ -1,6 +1,0 @@
-use Rattle.std.proofs.Common.{◌≡◌, false}
-use Rattle.worktree_report.specs.Generate.{tree_of}
-use Rattle.worktree_report.proofs.generate.tree_of.Given as goal
-
-abbrev pub invariant-loop-number : goal.invariant-loop-number
-invariant-loop-number l = record { tree : l.tree.tree ≡ tree_of l.number; composes : l.tree.composes ≡ false; faults : l.tree.faults ≡ 0 }
