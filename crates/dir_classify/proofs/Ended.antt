@@ -217,10 +217,10 @@ Reaches-unrooted w f w0 w1 o0 o1 old new given root e step =
       prefix = tt;
       whole = tt;
       ended = tt;
-      about = ([], leads, step.about);
-      refused = λ s tells. ([], leads, (step.about, step.refused s tells));
+      about = ([], leads, step.asking.about);
+      refused = λ s tells. ([], leads, (step.asking.about, step.asking.refused s tells));
       met = λ s tells stepped quiet.
-          ([], record { spelled_is = refl; rest = components (end_of_way_to_root given (setup_of_optional_stack old) s root).path; components_are = refl }, (step.about, step.refused s tells));
+          ([], record { spelled_is = refl; rest = components (end_of_way_to_root given (setup_of_optional_stack old) s root).path; components_are = refl }, (step.asking.about, step.asking.refused s tells));
       asked = λ s tells stepped quiet.
           OnAccess-both (asks_of given.options (evidence_from_setting_and_sources given (setup_of_optional_stack old) s) [] (kind_on_disk_if_asked given s.tree [] true) None ≡ true)
           ((is_some_rules_file_unread (setup_of_optional_stack old) s [] ≡ true) ⊎ CountIncreasedOrSaturated (f.faults o0) (f.faults o1))
@@ -229,16 +229,16 @@ Reaches-unrooted w f w0 w1 o0 o1 old new given root e step =
           (CountIncreasedOrSaturated (f.faults o0) (f.faults o1)) (unread-root given (setup_of_optional_stack old) s root asks) (λ more. more) unread)
           (asked-quiet (w.faults w0) (w.faults w1) (λ k. asks_of given.options (evidence_from_setting_and_sources given (setup_of_optional_stack old) s) [] k None) (kind_on_disk_if_asked given s.tree [] true) e quiet (step.asked s tells.tree_is))
           (unread-refused s (setup_of_optional_stack old) [] (CountIncreasedOrSaturated (w.faults w0) (w.faults w1)) (CountIncreasedOrSaturated (f.faults o0) (f.faults o1)) e (quiet-not (w.faults w0) (w.faults w1) quiet)
-          step.about (step.refused s tells) step.cause);
+          step.asking.about (step.asking.refused s tells) step.asking.cause);
       asked_so = λ s tells stepped. OnLookup-weaker (λ a. ⊥) _ e (λ a never. absurd never) (root-memory step);
       stopped =
           OnLookup-weaker (StopsAtRefusedDirectoryIfGiven (w.told w0) (f.holds o0) (CountIncreasedOrSaturated (w.faults w0) (w.faults w1)) (CountIncreasedOrSaturated (f.faults o0) (f.faults o1)) [] old new) _ e
-          (λ a stops. ([], leads, record { before = old; since = inl refl; made = refl; in_step = λ s tells stepped. stepped; stops = stops })) step.stopped;
-      cause = step.cause;
-      keeps = step.keeps;
-      store = step.store;
-      unmapped = step.unmapped;
-      rules = step.rules;
+          (λ a stops. ([], leads, record { before = old; since = inl refl; made = refl; in_step = λ s tells stepped. stepped; stops = stops })) step.asking.stopped;
+      cause = step.asking.cause;
+      keeps = step.asking.keeps;
+      store = step.asking.store;
+      unmapped = step.asking.unmapped;
+      rules = step.asking.rules;
       reads = inl (unasked-first (most_reads_to_classify_path given.options) (components root) (root-unasked step));
       unsought = λ s tells stepped quiet never. inl (unasked-first 0 (components root) (root-unread step s tells.tree_is quiet (never [] leads)));
       needed = λ s told quiet. unasked-needed (root-unasked step) _;

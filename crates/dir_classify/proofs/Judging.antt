@@ -25,11 +25,11 @@ use Rattle.dir_classify.specs.Kinds.{is_dir}
 use Rattle.dir_classify.specs.Layers.{WalkSetting, evidence_from_setting_and_sources, index_kinds_by_setting, kind_of_node_at, kind_on_disk_if_asked}
 use Rattle.dir_classify.specs.Reads.{most_reads_to_classify_path}
 use Rattle.dir_classify.specs.Question.{ClassQuestion, question_about_dot_git, question_about_known_kind, question_about_path}
+use Rattle.dir_classify.proofs.AsksRulesAboutPath.{asking-later}
 use Rattle.dir_classify.proofs.Classed.{asked-as, asked-kind, classed-as, classed-as-judged, classed-kind}
 use Rattle.dir_classify.proofs.Fitting.{asks-dot_git, can_match-of, dot_git-case, in_index-of, kind-asks, kind-case, kind-seeks, nothing-dot_git, nothing-kind, unmatched-asks, unmatched-case}
-use Rattle.dir_classify.proofs.Keeping.{asks-same, asks-then, at-most-later, increased-later, quiet-first, quiet-second, read-not, tells-then, unasked-later}
-use Rattle.dir_classify.proofs.Refusals.{OnAccess-weaker, OnFault-weaker}
-use Rattle.dir_classify.proofs.Stopped.{stopped-later}
+use Rattle.dir_classify.proofs.Keeping.{asks-same, at-most-later, quiet-first, quiet-second, read-not, tells-then, unasked-later}
+use Rattle.dir_classify.proofs.Refusals.{OnAccess-weaker}
 use Rattle.dir_classify.proofs.Upgrades.{judged-unread, rose-or}
 
 -- ---- the rules were not asked
@@ -56,16 +56,18 @@ unruled w f w0 w1 o0 old given q c kept reads is judged none unsought sought sam
           classed-as-judged (w.faults w0) (w.faults w1) q ev (kind_on_disk_if_asked given s.tree q.path q.ask_disk) c (judged s tells.tree_is)
           (λ kind. none-unread (q.asks kind ev) (ev.is_unread q.path) (none s kind)) (λ kind no. unasked);
       unruled = λ s told quiet no. is s told quiet;
-      about = tt;
-      refused = λ s tells. tt;
+      asking = record {
+        about = tt;
+        refused = λ s tells. tt;
+        stopped = tt;
+        cause = tt;
+        keeps = kept;
+        store = record { holds = refl; faults = omega arith };
+        unmapped = λ none. refl;
+        rules = record { made = refl; in_step = λ s tells step. step };
+        reads = inl unasked;
+      };
       asked = λ s told. tt;
-      stopped = tt;
-      cause = tt;
-      keeps = kept;
-      store = record { holds = refl; faults = omega arith };
-      unmapped = λ none. refl;
-      rules = record { made = refl; in_step = λ s tells step. step };
-      reads = inl unasked;
       unsought = λ s tells step quiet no. inl (record { same = refl; store = refl; reads = read-not 0 (unsought s no) });
       sought = λ no. inl (record { same = refl; store = refl; reads = read-not 0 (sought no) });
       early = tt;
@@ -102,16 +104,8 @@ module _ {W F : Type 0} (w : WorktreeOf W) (f : FindOf F) (w0 w1 : W) (o0 o1 : F
             classed-as (w.faults w0) (w.faults w1) dot_git any_path ev (kind_on_disk_if_asked given s.tree path ask_disk) c refl (λ k failed. same-class (evidence_as_read failed ev) k) (same-asks s) (j.swallowed s tells step);
         unruled = λ s told quiet no.
             j.unruled s told quiet (same-asks s (kind_on_disk_if_asked given s.tree path ask_disk) ∙ no) ∙ same-class (evidence_from_setting_and_sources given (setup_of_optional_stack old) s) (kind_on_disk_if_asked given s.tree path ask_disk);
-        about = tt;
-        refused = λ s tells. tt;
+        asking = j.asking;
         asked = λ s told. tt;
-        stopped = tt;
-        cause = tt;
-        keeps = j.keeps;
-        store = j.store;
-        unmapped = j.unmapped;
-        rules = j.rules;
-        reads = j.reads;
         unsought = λ s tells step quiet no. j.unsought s tells step quiet refl;
         sought = j.sought;
         early = tt;
@@ -132,17 +126,9 @@ module _ {W F : Type 0} (w : WorktreeOf W) (f : FindOf F) (w0 w1 : W) (o0 o1 : F
         read = λ s tells step quiet. tt;
         swallowed = λ s tells step. tt;
         unruled = λ s told quiet no. tt;
-        about = j.about;
-        refused = j.refused;
+        asking = j.asking;
         asked = λ s told. let ev = evidence_from_setting_and_sources given (setup_of_optional_stack old) s in
             asked-as (w.faults w0) (w.faults w1) (λ k. dot_git.asks k ev) (λ k. any_path.asks k ev) (kind_on_disk_if_asked given s.tree path ask_disk) e (same-asks s) (j.asked s told);
-        stopped = j.stopped;
-        cause = j.cause;
-        keeps = j.keeps;
-        store = j.store;
-        unmapped = j.unmapped;
-        rules = j.rules;
-        reads = j.reads;
         unsought = λ s tells step quiet no. j.unsought s tells step quiet refl;
         sought = tt;
         early = j.early;
@@ -293,8 +279,8 @@ module _ {W F : Type 0} (w : WorktreeOf W) (f : FindOf F) (w0 w1 w2 : W) (o0 o1 
   pub at-kind : (c : Outcome) → AnswersClassQuestion w f w1 w2 o0 o1 old new given (question_about_known_kind given.options path kind ask_disk) (Ok c)
       → AnswersClassQuestion w f w0 w2 o0 o1 old new given (question_about_path given.options path known ask_disk) (Ok c)
   at-kind c later =
-      let before = λ (quiet : CountNotIncreased (w.faults w0) (w.faults w2)). quiet-first (w.faults w0) (w.faults w1) (w.faults w2) first.faults later.keeps.faults quiet in
-      let after = λ (quiet : CountNotIncreased (w.faults w0) (w.faults w2)). quiet-second (w.faults w0) (w.faults w1) (w.faults w2) first.faults later.keeps.faults quiet in
+      let before = λ (quiet : CountNotIncreased (w.faults w0) (w.faults w2)). quiet-first (w.faults w0) (w.faults w1) (w.faults w2) first.faults later.asking.keeps.faults quiet in
+      let after = λ (quiet : CountNotIncreased (w.faults w0) (w.faults w2)). quiet-second (w.faults w0) (w.faults w1) (w.faults w2) first.faults later.asking.keeps.faults quiet in
       record {
         class = λ s tells step quiet. later.class s (tells-now s tells) step (after quiet) ∙ class-by s (seen s.tree) (exactly-settled s tells.tree_is (before quiet));
         read = λ s tells step quiet.
@@ -304,16 +290,8 @@ module _ {W F : Type 0} (w : WorktreeOf W) (f : FindOf F) (w0 w1 w2 : W) (o0 o1 
         unruled = λ s told quiet no.
             let is = exactly-settled s told (before quiet) in
             later.unruled s (first.tree ∙ told) (after quiet) (asks-by s (seen s.tree) is ∙ no) ∙ class-by s (seen s.tree) is;
-        about = tt;
-        refused = λ s tells. tt;
+        asking = asking-later w f w0 w1 w2 o0 o1 old new (most_reads_to_classify_path given.options) path (Ok c) first unread later.asking;
         asked = λ s told. tt;
-        stopped = tt;
-        cause = tt;
-        keeps = asks-then w w0 w1 w2 first later.keeps;
-        store = later.store;
-        unmapped = later.unmapped;
-        rules = record { made = later.rules.made; in_step = λ s tells step. later.rules.in_step s (tells-now s tells) step };
-        reads = at-most-later (most_reads_to_classify_path given.options) path (w.reads w0) (w.reads w1) (w.reads w2) o0 o1 old new (Ok c) unread later.reads;
         unsought = λ s tells step quiet no.
             at-most-later 0 path (w.reads w0) (w.reads w1) (w.reads w2) o0 o1 old new (Ok c) unread
             (later.unsought s (tells-now s tells) step (after quiet) (seeks-by s (seen s.tree) (exactly-settled s tells.tree_is (before quiet)) ∙ no));
@@ -340,29 +318,19 @@ module _ {W F : Type 0} (w : WorktreeOf W) (f : FindOf F) (w0 w1 w2 : W) (o0 o1 
   pub at-kind-refused : (e : Error) → AnswersClassQuestion w f w1 w2 o0 o1 old new given (question_about_known_kind given.options path kind ask_disk) (Err e)
       → AnswersClassQuestion w f w0 w2 o0 o1 old new given (question_about_path given.options path known ask_disk) (Err e)
   at-kind-refused e later =
-      let before = λ (quiet : CountNotIncreased (w.faults w0) (w.faults w2)). quiet-first (w.faults w0) (w.faults w1) (w.faults w2) first.faults later.keeps.faults quiet in
-      let after = λ (quiet : CountNotIncreased (w.faults w0) (w.faults w2)). quiet-second (w.faults w0) (w.faults w1) (w.faults w2) first.faults later.keeps.faults quiet in
+      let before = λ (quiet : CountNotIncreased (w.faults w0) (w.faults w2)). quiet-first (w.faults w0) (w.faults w1) (w.faults w2) first.faults later.asking.keeps.faults quiet in
+      let after = λ (quiet : CountNotIncreased (w.faults w0) (w.faults w2)). quiet-second (w.faults w0) (w.faults w1) (w.faults w2) first.faults later.asking.keeps.faults quiet in
       record {
         class = λ s tells step quiet. tt;
         read = λ s tells step quiet. tt;
         swallowed = λ s tells step. tt;
         unruled = λ s told quiet no. tt;
-        about = later.about;
-        refused = λ s tells. later.refused s (tells-now s tells);
+        asking = asking-later w f w0 w1 w2 o0 o1 old new (most_reads_to_classify_path given.options) path (Err e) first unread later.asking;
         asked = λ s told.
             let ev = evidence_from_setting_and_sources given (setup_of_optional_stack old) s in
             let by = read-by s told in
-            asked-kind (w.faults w0) (w.faults w1) (w.faults w2) (λ k. settled_so.asks k ev) (λ k. any_so.asks k ev) (seen s.tree) (seen s.tree) by.0 e by.1 later.keeps.faults
+            asked-kind (w.faults w0) (w.faults w1) (w.faults w2) (λ k. settled_so.asks k ev) (λ k. any_so.asks k ev) (seen s.tree) (seen s.tree) by.0 e by.1 later.asking.keeps.faults
             (λ b. asks-by s (kind_unless_failed by.0 (seen s.tree)) by.2) (later.asked s (first.tree ∙ told));
-        stopped = stopped-later (w.told w0) (w.told w1) (f.holds o0) (f.holds o0) (w.faults w0) (w.faults w1) (w.faults w2) (f.faults o0) (f.faults o0) (f.faults o1) path old new e first.tree refl first.faults (omega arith) later.stopped;
-        cause =
-            OnFault-weaker (CountIncreasedOrSaturated (w.faults w1) (w.faults w2)) (CountIncreasedOrSaturated (f.faults o0) (f.faults o1)) (CountIncreasedOrSaturated (w.faults w0) (w.faults w2)) (CountIncreasedOrSaturated (f.faults o0) (f.faults o1)) e
-            (increased-later (w.faults w0) (w.faults w1) (w.faults w2) first.faults) (λ x. x) later.cause;
-        keeps = asks-then w w0 w1 w2 first later.keeps;
-        store = later.store;
-        unmapped = later.unmapped;
-        rules = record { made = later.rules.made; in_step = λ s tells step. later.rules.in_step s (tells-now s tells) step };
-        reads = at-most-later (most_reads_to_classify_path given.options) path (w.reads w0) (w.reads w1) (w.reads w2) o0 o1 old new (Err e) unread later.reads;
         unsought = λ s tells step quiet no.
             at-most-later 0 path (w.reads w0) (w.reads w1) (w.reads w2) o0 o1 old new (Err e) unread
             (later.unsought s (tells-now s tells) step (after quiet) (seeks-by s (seen s.tree) (exactly-settled s tells.tree_is (before quiet)) ∙ no));

@@ -21,10 +21,10 @@ use Rattle.dir_classify.specs.Kept.{LeavesRulesUnasked}
 use Rattle.dir_classify.specs.Layers.{WalkSetting, evidence_from_setting_and_sources, kind_of_node_at, kind_on_disk_if_asked}
 use Rattle.dir_classify.specs.Reads.{most_reads_to_classify_path}
 use Rattle.dir_classify.specs.Question.{ClassQuestion, question_about_path, question_about_path_on_way}
+use Rattle.dir_classify.proofs.AsksRulesAboutPath.{asking-later}
 use Rattle.dir_classify.proofs.Classed.{asked-kind, classed-kind}
-use Rattle.dir_classify.proofs.Keeping.{asks-then, at-most-later, increased-later, quiet-first, quiet-second, tells-then, unasked-later}
-use Rattle.dir_classify.proofs.Refusals.{OnAccess-weaker, OnFault-weaker}
-use Rattle.dir_classify.proofs.Stopped.{stopped-later}
+use Rattle.dir_classify.proofs.Keeping.{at-most-later, quiet-first, quiet-second, tells-then, unasked-later}
+use Rattle.dir_classify.proofs.Refusals.{OnAccess-weaker}
 use Rattle.dir_classify.proofs.Upgrades.{rose-or}
 
 -- nothing reads as nothing
@@ -93,8 +93,8 @@ module _ {W F : Type 0} (w : WorktreeOf W) (f : FindOf F) (w0 w1 w2 : W) (o0 o1 
   pub on-way : (c : Outcome) → AnswersClassQuestion w f w1 w2 o0 o1 old new given (question_about_path given.options path kind false) (Ok c)
       → AnswersClassQuestion w f w0 w2 o0 o1 old new given (question_about_path_on_way given.options path) (Ok c)
   on-way c later =
-      let before = λ (quiet : CountNotIncreased (w.faults w0) (w.faults w2)). quiet-first (w.faults w0) (w.faults w1) (w.faults w2) first.faults later.keeps.faults quiet in
-      let after = λ (quiet : CountNotIncreased (w.faults w0) (w.faults w2)). quiet-second (w.faults w0) (w.faults w1) (w.faults w2) first.faults later.keeps.faults quiet in
+      let before = λ (quiet : CountNotIncreased (w.faults w0) (w.faults w2)). quiet-first (w.faults w0) (w.faults w1) (w.faults w2) first.faults later.asking.keeps.faults quiet in
+      let after = λ (quiet : CountNotIncreased (w.faults w0) (w.faults w2)). quiet-second (w.faults w0) (w.faults w1) (w.faults w2) first.faults later.asking.keeps.faults quiet in
       record {
         class = λ s tells step quiet.
             later.class s (tells-now s tells) step (after quiet) ∙ class-by (evidence_from_setting_and_sources given (setup_of_optional_stack old) s) (seen s.tree) (exactly s tells.tree_is (before quiet));
@@ -105,16 +105,8 @@ module _ {W F : Type 0} (w : WorktreeOf W) (f : FindOf F) (w0 w1 w2 : W) (o0 o1 
         unruled = λ s told quiet no.
             let is = exactly s told (before quiet) in
             later.unruled s (first.tree ∙ told) (after quiet) (asks-by s (seen s.tree) is ∙ no) ∙ class-by (evidence_from_setting_and_sources given (setup_of_optional_stack old) s) (seen s.tree) is;
-        about = tt;
-        refused = λ s tells. tt;
+        asking = asking-later w f w0 w1 w2 o0 o1 old new (most_reads_to_classify_path given.options) path (Ok c) first unread later.asking;
         asked = λ s told. tt;
-        stopped = tt;
-        cause = tt;
-        keeps = asks-then w w0 w1 w2 first later.keeps;
-        store = later.store;
-        unmapped = later.unmapped;
-        rules = record { made = later.rules.made; in_step = λ s tells step. later.rules.in_step s (tells-now s tells) step };
-        reads = at-most-later (most_reads_to_classify_path given.options) path (w.reads w0) (w.reads w1) (w.reads w2) o0 o1 old new (Ok c) unread later.reads;
         unsought = λ s tells step quiet no.
             at-most-later 0 path (w.reads w0) (w.reads w1) (w.reads w2) o0 o1 old new (Ok c) unread
             (later.unsought s (tells-now s tells) step (after quiet) (seeks-by s (seen s.tree) (exactly s tells.tree_is (before quiet)) ∙ no));
@@ -135,29 +127,19 @@ module _ {W F : Type 0} (w : WorktreeOf W) (f : FindOf F) (w0 w1 w2 : W) (o0 o1 
   pub on-way-refused : (e : Error) → AnswersClassQuestion w f w1 w2 o0 o1 old new given (question_about_path given.options path kind false) (Err e)
       → AnswersClassQuestion w f w0 w2 o0 o1 old new given (question_about_path_on_way given.options path) (Err e)
   on-way-refused e later =
-      let before = λ (quiet : CountNotIncreased (w.faults w0) (w.faults w2)). quiet-first (w.faults w0) (w.faults w1) (w.faults w2) first.faults later.keeps.faults quiet in
-      let after = λ (quiet : CountNotIncreased (w.faults w0) (w.faults w2)). quiet-second (w.faults w0) (w.faults w1) (w.faults w2) first.faults later.keeps.faults quiet in
+      let before = λ (quiet : CountNotIncreased (w.faults w0) (w.faults w2)). quiet-first (w.faults w0) (w.faults w1) (w.faults w2) first.faults later.asking.keeps.faults quiet in
+      let after = λ (quiet : CountNotIncreased (w.faults w0) (w.faults w2)). quiet-second (w.faults w0) (w.faults w1) (w.faults w2) first.faults later.asking.keeps.faults quiet in
       record {
         class = λ s tells step quiet. tt;
         read = λ s tells step quiet. tt;
         swallowed = λ s tells step. tt;
         unruled = λ s told quiet no. tt;
-        about = later.about;
-        refused = λ s tells. later.refused s (tells-now s tells);
+        asking = asking-later w f w0 w1 w2 o0 o1 old new (most_reads_to_classify_path given.options) path (Err e) first unread later.asking;
         asked = λ s told.
             let ev = evidence_from_setting_and_sources given (setup_of_optional_stack old) s in
             let by = read-by s told in
-            asked-kind (w.faults w0) (w.faults w1) (w.faults w2) (λ k. first_known.asks k ev) (λ k. any_so.asks k ev) None (seen s.tree) by.0 e by.1 later.keeps.faults
+            asked-kind (w.faults w0) (w.faults w1) (w.faults w2) (λ k. first_known.asks k ev) (λ k. any_so.asks k ev) None (seen s.tree) by.0 e by.1 later.asking.keeps.faults
             (λ b. ap (λ (d : Option Kind). first_known.asks d ev) (none-read b) ∙ asks-by s (kind_unless_failed by.0 (seen s.tree)) by.2) (later.asked s (first.tree ∙ told));
-        stopped = stopped-later (w.told w0) (w.told w1) (f.holds o0) (f.holds o0) (w.faults w0) (w.faults w1) (w.faults w2) (f.faults o0) (f.faults o0) (f.faults o1) path old new e first.tree refl first.faults (omega arith) later.stopped;
-        cause =
-            OnFault-weaker (CountIncreasedOrSaturated (w.faults w1) (w.faults w2)) (CountIncreasedOrSaturated (f.faults o0) (f.faults o1)) (CountIncreasedOrSaturated (w.faults w0) (w.faults w2)) (CountIncreasedOrSaturated (f.faults o0) (f.faults o1)) e
-            (increased-later (w.faults w0) (w.faults w1) (w.faults w2) first.faults) (λ x. x) later.cause;
-        keeps = asks-then w w0 w1 w2 first later.keeps;
-        store = later.store;
-        unmapped = later.unmapped;
-        rules = record { made = later.rules.made; in_step = λ s tells step. later.rules.in_step s (tells-now s tells) step };
-        reads = at-most-later (most_reads_to_classify_path given.options) path (w.reads w0) (w.reads w1) (w.reads w2) o0 o1 old new (Err e) unread later.reads;
         unsought = λ s tells step quiet no.
             at-most-later 0 path (w.reads w0) (w.reads w1) (w.reads w2) o0 o1 old new (Err e) unread
             (later.unsought s (tells-now s tells) step (after quiet) (seeks-by s (seen s.tree) (exactly s tells.tree_is (before quiet)) ∙ no));

@@ -52,7 +52,7 @@ pub record IsOnward {W F : Type 0} (w : WorktreeOf W) (f : FindOf F) (w0 w1 : W)
   pub keeps : AsksWorktreeForRules w w0 w1
   pub store : KeepsStoredObjects f o0 o1
   pub unmapped : maps_rules_files_to_blobs (setup_of_optional_stack old) ≡ false → o1 ≡ o0
-  pub rules : KeepsRulesInStep w f w0 w1 o0 old new
+  pub rules : KeepsRulesInStep w f w0 o0 old new
   pub spelled_is : path ≡ slash_joined_components (components path)
   pub split : components root ≡ components path ++ components rest
   pub leads : (s : TreeAndObjects) → TellsTreeAndObjects (w.told w0) (f.holds o0) (setup_of_optional_stack old) s → IsStackInStepIfGiven s old → CountNotIncreased (w.faults w0) (w.faults w1)
@@ -244,8 +244,8 @@ module _ {W F : Type 0} (w : WorktreeOf W) (f : FindOf F) (w0 w1 w2 : W) (o0 o1 
     grown-unsought s tells stepped quiet never =
         way-asked 0 path name (path_joined_with_slash path name) (w.reads w0) (w.reads w1) (w.reads w2) o0 o1 o2 old now new result
         at.rules.made (grown-components path name at.spelled_is component) grown-spelled
-        (at.unsought s tells stepped (quiet-first (w.faults w0) (w.faults w1) (w.faults w2) at.keeps.faults step.keeps.faults quiet) (λ p leads. never p (leads-grown p leads)))
-        (step.unsought s (tells-here s tells) (at.rules.in_step s tells stepped) (quiet-second (w.faults w0) (w.faults w1) (w.faults w2) at.keeps.faults step.keeps.faults quiet)
+        (at.unsought s tells stepped (quiet-first (w.faults w0) (w.faults w1) (w.faults w2) at.keeps.faults step.asking.keeps.faults quiet) (λ p leads. never p (leads-grown p leads)))
+        (step.unsought s (tells-here s tells) (at.rules.in_step s tells stepped) (quiet-second (w.faults w0) (w.faults w1) (w.faults w2) at.keeps.faults step.asking.keeps.faults quiet)
         (ap (λ (m : Option StackSetup). seeks_of given.options (evidence_from_setting_and_sources given m s) (path_joined_with_slash path name) (kind_on_disk_if_asked given s.tree (path_joined_with_slash path name) true) None) at.rules.made
         ∙ never (path_joined_with_slash path name) grown-itself))
 
@@ -256,19 +256,19 @@ module _ {W F : Type 0} (w : WorktreeOf W) (f : FindOf F) (w0 w1 w2 : W) (o0 o1 
         let kinds : List ℕ → Option Kind = λ p. kind_on_disk_if_asked given s.tree p true in
         needed-further given.options ev kinds (components path) name (path_joined_with_slash path name) (components (path_joined_with_slash path name)) (lookup_count_of_stack old) (lookup_count_of_stack now) (lookup_count_of_stack new)
         (grown-is path name at.spelled_is component) (grown-components path name at.spelled_is component)
-        (at.needed s told (quiet-first (w.faults w0) (w.faults w1) (w.faults w2) at.keeps.faults step.keeps.faults quiet))
+        (at.needed s told (quiet-first (w.faults w0) (w.faults w1) (w.faults w2) at.keeps.faults step.asking.keeps.faults quiet))
         (asked-needed given.options ev kinds (most_reads_to_classify_path given.options) (path_joined_with_slash path name) (w.reads w1) (w.reads w2) o1 o2 now new result
-        (λ none. step.unasked s (at.keeps.tree ∙ told) (quiet-second (w.faults w0) (w.faults w1) (w.faults w2) at.keeps.faults step.keeps.faults quiet)
+        (λ none. step.unasked s (at.keeps.tree ∙ told) (quiet-second (w.faults w0) (w.faults w1) (w.faults w2) at.keeps.faults step.asking.keeps.faults quiet)
         (ap (λ (m : Option StackSetup). asks_of given.options (evidence_from_setting_and_sources given m s) (path_joined_with_slash path name) (kind_on_disk_if_asked given s.tree (path_joined_with_slash path name) true) None) at.rules.made ∙ none))
-        step.reads)
+        step.asking.reads)
 
     grown-unasked : (s : TreeAndObjects) → w.told w0 ≡ Some s.tree → CountNotIncreased (w.faults w0) (w.faults w2)
         → ((p : List ℕ) → IsPathOnWayToRoot (path_joined_with_slash path name) p → asks_of given.options (evidence_from_setting_and_sources given (setup_of_optional_stack old) s) p (kind_on_disk_if_asked given s.tree p true) None ≡ false)
         → LeavesRulesUnasked (most_reads_on_way (most_reads_to_classify_path given.options) (components (path_joined_with_slash path name))) (w.reads w0) (w.reads w2) o0 o2 old new
     grown-unasked s told quiet never =
         unasked-then (components (path_joined_with_slash path name)) (components path) name (grown-components path name at.spelled_is component)
-        (at.unasked s told (quiet-first (w.faults w0) (w.faults w1) (w.faults w2) at.keeps.faults step.keeps.faults quiet) (λ p leads. never p (leads-grown p leads)))
-        (step.unasked s (at.keeps.tree ∙ told) (quiet-second (w.faults w0) (w.faults w1) (w.faults w2) at.keeps.faults step.keeps.faults quiet)
+        (at.unasked s told (quiet-first (w.faults w0) (w.faults w1) (w.faults w2) at.keeps.faults step.asking.keeps.faults quiet) (λ p leads. never p (leads-grown p leads)))
+        (step.unasked s (at.keeps.tree ∙ told) (quiet-second (w.faults w0) (w.faults w1) (w.faults w2) at.keeps.faults step.asking.keeps.faults quiet)
         (ap (λ (m : Option StackSetup). asks_of given.options (evidence_from_setting_and_sources given m s) (path_joined_with_slash path name) (kind_on_disk_if_asked given s.tree (path_joined_with_slash path name) true) None) at.rules.made
         ∙ never (path_joined_with_slash path name) grown-itself))
 
@@ -283,26 +283,26 @@ module _ {W F : Type 0} (w : WorktreeOf W) (f : FindOf F) (w0 w1 w2 : W) (o0 o1 
     pub onward-grown : IsOnward w f w0 w2 o0 o2 old new given root (path_joined_with_slash path name) next in_repository left
     onward-grown =
         record {
-          keeps = asks-then w w0 w1 w2 at.keeps step.keeps;
-          store = record { holds = step.store.holds ∙ at.store.holds; faults = omega (arith, at.store.faults, step.store.faults) };
-          unmapped = unmapped-then old now at.rules.made at.unmapped step.unmapped;
+          keeps = asks-then w w0 w1 w2 at.keeps step.asking.keeps;
+          store = record { holds = step.asking.store.holds ∙ at.store.holds; faults = omega (arith, at.store.faults, step.asking.store.faults) };
+          unmapped = unmapped-then old now at.rules.made at.unmapped step.asking.unmapped;
           rules = record {
-            made = step.rules.made ∙ at.rules.made;
-            in_step = λ s tells stepped. step.rules.in_step s (tells-here s tells) (at.rules.in_step s tells stepped);
+            made = step.asking.rules.made ∙ at.rules.made;
+            in_step = λ s tells stepped. step.asking.rules.in_step s (tells-here s tells) (at.rules.in_step s tells stepped);
           };
           spelled_is = grown-spelled;
           split = grown-split;
           leads = λ s tells stepped quiet.
               let ev = evidence_from_setting_and_sources given (setup_of_optional_stack old) s in
               let kinds = λ (p : List ℕ). kind_on_disk_if_asked given s.tree p true in
-              let quiet_now = quiet-second (w.faults w0) (w.faults w1) (w.faults w2) at.keeps.faults step.keeps.faults quiet in
+              let quiet_now = quiet-second (w.faults w0) (w.faults w1) (w.faults w2) at.keeps.faults step.asking.keeps.faults quiet in
               way-step given.options ev kinds path name (components left) c next in_repository goes
               (step.class s (tells-here s tells) (at.rules.in_step s tells stepped) quiet_now
               ∙ ap (λ (m : Option StackSetup). class_of given.options (evidence_from_setting_and_sources given m s) (path_joined_with_slash path name) (kinds (path_joined_with_slash path name)) None) at.rules.made)
               (ap (λ (m : Option StackSetup). asks_of given.options (evidence_from_setting_and_sources given m s) (path_joined_with_slash path name) (kinds (path_joined_with_slash path name)) None && (evidence_from_setting_and_sources given m s).is_unread (path_joined_with_slash path name)) (sym at.rules.made)
               ∙ step.read s (tells-here s tells) (at.rules.in_step s tells stepped) quiet_now)
               ∙ ap (λ (l : List (List ℕ)). end_of_way_through_components given.options ev kinds (end_of_way_with_rules_read path c in_repository true) l) (sym rest_is)
-              ∙ at.leads s tells stepped (quiet-first (w.faults w0) (w.faults w1) (w.faults w2) at.keeps.faults step.keeps.faults quiet);
+              ∙ at.leads s tells stepped (quiet-first (w.faults w0) (w.faults w1) (w.faults w2) at.keeps.faults step.asking.keeps.faults quiet);
           top = λ is s told quiet. absurd (nothing-more (components path) (components left) name (sym is ∙ at.split ∙ ap (λ (l : List (List ℕ)). components path ++ l) rest_is));
           ends = λ s tells stepped now_faults r end.
               let kinds = λ (p : List ℕ). kind_on_disk_if_asked given s.tree p true in
@@ -319,7 +319,7 @@ module _ {W F : Type 0} (w : WorktreeOf W) (f : FindOf F) (w0 w1 w2 : W) (o0 o1 
           reads =
               way-answered (most_reads_to_classify_path given.options) (path_joined_with_slash path name) (w.reads w0) (w.reads w2) o0 o2 old new next tt
               (way-asked (most_reads_to_classify_path given.options) path name (path_joined_with_slash path name) (w.reads w0) (w.reads w1) (w.reads w2) o0 o1 o2 old now new (Ok next)
-              at.rules.made (grown-components path name at.spelled_is component) grown-spelled at.reads step.reads);
+              at.rules.made (grown-components path name at.spelled_is component) grown-spelled at.reads step.asking.reads);
           unsought = λ s tells stepped quiet never.
               way-answered 0 (path_joined_with_slash path name) (w.reads w0) (w.reads w2) o0 o2 old new next tt (grown-unsought (Ok next) step s tells stepped quiet never);
           needed = grown-needed (Ok next) step;
@@ -335,8 +335,8 @@ module _ {W F : Type 0} (w : WorktreeOf W) (f : FindOf F) (w0 w1 w2 : W) (o0 o1 
       let leads : IsPathOnWayToRoot root (path_joined_with_slash path name) = record { spelled_is = grown-spelled; rest = components left; components_are = grown-split } in
       let refused-here : (s : TreeAndObjects) → TellsTreeAndObjects (w.told w0) (f.holds o0) (setup_of_optional_stack old) s → IsRefusedForRulesOfPath s (setup_of_optional_stack old) (path_joined_with_slash path name) e =
       λ s tells. (
-        subst (λ (m : Option StackSetup). IsClassErrorAboutPath m (path_joined_with_slash path name) e) at.rules.made step.about,
-        subst (λ (m : Option StackSetup). IsErrorOfUnreadableRules s m (path_joined_with_slash path name) e) at.rules.made (step.refused s (tells-here s tells)),
+        subst (λ (m : Option StackSetup). IsClassErrorAboutPath m (path_joined_with_slash path name) e) at.rules.made step.asking.about,
+        subst (λ (m : Option StackSetup). IsErrorOfUnreadableRules s m (path_joined_with_slash path name) e) at.rules.made (step.asking.refused s (tells-here s tells)),
       ) in
       record {
         reached = λ s tells stepped quiet. tt;
@@ -345,14 +345,14 @@ module _ {W F : Type 0} (w : WorktreeOf W) (f : FindOf F) (w0 w1 w2 : W) (o0 o1 
         prefix = tt;
         whole = tt;
         ended = tt;
-        about = (path_joined_with_slash path name, leads, subst (λ (m : Option StackSetup). IsClassErrorAboutPath m (path_joined_with_slash path name) e) at.rules.made step.about);
+        about = (path_joined_with_slash path name, leads, subst (λ (m : Option StackSetup). IsClassErrorAboutPath m (path_joined_with_slash path name) e) at.rules.made step.asking.about);
         refused = λ s tells.
             (path_joined_with_slash path name, leads, refused-here s tells);
         met = λ s tells stepped quiet.
             let ev = evidence_from_setting_and_sources given (setup_of_optional_stack old) s in
             let kinds = λ (p : List ℕ). kind_on_disk_if_asked given s.tree p true in
             let way = ap (λ (l : List (List ℕ)). end_of_way_through_components given.options ev kinds (end_of_way_with_rules_read path c in_repository true) l) (sym rest_is)
-            ∙ at.leads s tells stepped (quiet-first (w.faults w0) (w.faults w1) (w.faults w2) at.keeps.faults step.keeps.faults quiet) in (
+            ∙ at.leads s tells stepped (quiet-first (w.faults w0) (w.faults w1) (w.faults w2) at.keeps.faults step.asking.keeps.faults quiet) in (
               path_joined_with_slash path name,
               subst (λ (r : EndOfWayToRoot). IsPathOnWayToRoot r.path (path_joined_with_slash path name)) way
                   (leads-next given.options ev kinds path name (components left) c in_repository goes at.spelled_is component (AreNames-components left)),
@@ -361,7 +361,7 @@ module _ {W F : Type 0} (w : WorktreeOf W) (f : FindOf F) (w0 w1 w2 : W) (o0 o1 
         asked = λ s tells stepped quiet.
             let ev = evidence_from_setting_and_sources given (setup_of_optional_stack old) s in
             let kinds = λ (p : List ℕ). kind_on_disk_if_asked given s.tree p true in
-            let quiet_now = quiet-second (w.faults w0) (w.faults w1) (w.faults w2) at.keeps.faults step.keeps.faults quiet in
+            let quiet_now = quiet-second (w.faults w0) (w.faults w1) (w.faults w2) at.keeps.faults step.asking.keeps.faults quiet in
             OnAccess-both (asks_of given.options (evidence_from_setting_and_sources given (setup_of_optional_stack now) s) (path_joined_with_slash path name) (kinds (path_joined_with_slash path name)) None ≡ true)
             ((is_some_rules_file_unread (setup_of_optional_stack now) s (path_joined_with_slash path name) ≡ true) ⊎ CountIncreasedOrSaturated (f.faults o1) (f.faults o2))
             (((end_of_way_to_root given (setup_of_optional_stack old) s root).is_unread ≡ true) ⊎ CountIncreasedOrSaturated (f.faults o0) (f.faults o2)) e
@@ -370,14 +370,14 @@ module _ {W F : Type 0} (w : WorktreeOf W) (f : FindOf F) (w0 w1 w2 : W) (o0 o1 
             (λ unread_is.
             ap (λ (r : EndOfWayToRoot). r.is_unread)
             (sym (ap (λ (l : List (List ℕ)). end_of_way_through_components given.options ev kinds (end_of_way_with_rules_read path c in_repository true) l) (sym rest_is)
-            ∙ at.leads s tells stepped (quiet-first (w.faults w0) (w.faults w1) (w.faults w2) at.keeps.faults step.keeps.faults quiet)))
+            ∙ at.leads s tells stepped (quiet-first (w.faults w0) (w.faults w1) (w.faults w2) at.keeps.faults step.asking.keeps.faults quiet)))
             ∙ unread-step given.options ev kinds path name (components left) c in_repository goes
             (unread-way given (setup_of_optional_stack now) (setup_of_optional_stack old) s (path_joined_with_slash path name) at.rules.made asks unread_is))
             (increased-later (f.faults o0) (f.faults o1) (f.faults o2) at.store.faults) unread)
             (asked-quiet (w.faults w1) (w.faults w2) (λ k. asks_of given.options (evidence_from_setting_and_sources given (setup_of_optional_stack now) s) (path_joined_with_slash path name) k None) (kinds (path_joined_with_slash path name)) e quiet_now
             (step.asked s (at.keeps.tree ∙ tells.tree_is)))
             (unread-refused s (setup_of_optional_stack now) (path_joined_with_slash path name) (CountIncreasedOrSaturated (w.faults w1) (w.faults w2)) (CountIncreasedOrSaturated (f.faults o1) (f.faults o2)) e (quiet-not (w.faults w1) (w.faults w2) quiet_now)
-            step.about (step.refused s (tells-here s tells)) step.cause);
+            step.asking.about (step.asking.refused s (tells-here s tells)) step.asking.cause);
         asked_so = λ s tells stepped.
             let kind = kind_on_disk_if_asked given s.tree (path_joined_with_slash path name) true in
             let Asked : AtPathError → Type 0 = IsRefusedByKindAsRead (w.faults w1) (w.faults w2) (λ k. asks_of given.options (evidence_from_setting_and_sources given (setup_of_optional_stack now) s) (path_joined_with_slash path name) k None) kind in
@@ -403,21 +403,21 @@ module _ {W F : Type 0} (w : WorktreeOf W) (f : FindOf F) (w0 w1 w2 : W) (o0 o1 
             OnLookup-weaker (StopsAtRefusedDirectoryIfGiven (w.told w0) (f.holds o0) (CountIncreasedOrSaturated (w.faults w0) (w.faults w2)) (CountIncreasedOrSaturated (f.faults o0) (f.faults o2)) (path_joined_with_slash path name) now new) _ e
             (λ a stops. (path_joined_with_slash path name, leads, record { before = now; since = since; made = at.rules.made; in_step = at.rules.in_step; stops = stops }))
             (stopped-later (w.told w0) (w.told w1) (f.holds o0) (f.holds o1) (w.faults w0) (w.faults w1) (w.faults w2) (f.faults o0) (f.faults o1) (f.faults o2) (path_joined_with_slash path name) now new e
-            at.keeps.tree at.store.holds at.keeps.faults at.store.faults step.stopped);
+            at.keeps.tree at.store.holds at.keeps.faults at.store.faults step.asking.stopped);
         cause =
             OnFault-weaker (CountIncreasedOrSaturated (w.faults w1) (w.faults w2)) (CountIncreasedOrSaturated (f.faults o1) (f.faults o2)) (CountIncreasedOrSaturated (w.faults w0) (w.faults w2)) (CountIncreasedOrSaturated (f.faults o0) (f.faults o2)) e
-            (increased-later (w.faults w0) (w.faults w1) (w.faults w2) at.keeps.faults) (increased-later (f.faults o0) (f.faults o1) (f.faults o2) at.store.faults) step.cause;
-        keeps = asks-then w w0 w1 w2 at.keeps step.keeps;
-        store = record { holds = step.store.holds ∙ at.store.holds; faults = omega (arith, at.store.faults, step.store.faults) };
-        unmapped = unmapped-then old now at.rules.made at.unmapped step.unmapped;
+            (increased-later (w.faults w0) (w.faults w1) (w.faults w2) at.keeps.faults) (increased-later (f.faults o0) (f.faults o1) (f.faults o2) at.store.faults) step.asking.cause;
+        keeps = asks-then w w0 w1 w2 at.keeps step.asking.keeps;
+        store = record { holds = step.asking.store.holds ∙ at.store.holds; faults = omega (arith, at.store.faults, step.asking.store.faults) };
+        unmapped = unmapped-then old now at.rules.made at.unmapped step.asking.unmapped;
         rules = record {
-          made = step.rules.made ∙ at.rules.made;
-          in_step = λ s tells stepped. step.rules.in_step s (tells-here s tells) (at.rules.in_step s tells stepped);
+          made = step.asking.rules.made ∙ at.rules.made;
+          in_step = λ s tells stepped. step.asking.rules.in_step s (tells-here s tells) (at.rules.in_step s tells stepped);
         };
         reads = way-root (most_reads_to_classify_path given.options) root (path_joined_with_slash path name) (components left) (w.reads w0) (w.reads w2) o0 o2 old new (Err e) grown-split
             (way-refused (most_reads_to_classify_path given.options) (path_joined_with_slash path name) (w.reads w0) (w.reads w2) o0 o2 old new e
             (way-asked (most_reads_to_classify_path given.options) path name (path_joined_with_slash path name) (w.reads w0) (w.reads w1) (w.reads w2) o0 o1 o2 old now new (Err e)
-            at.rules.made (grown-components path name at.spelled_is component) grown-spelled at.reads step.reads));
+            at.rules.made (grown-components path name at.spelled_is component) grown-spelled at.reads step.asking.reads));
         unsought = λ s tells stepped quiet never.
             way-root 0 root (path_joined_with_slash path name) (components left) (w.reads w0) (w.reads w2) o0 o2 old new (Err e) grown-split
             (way-refused 0 (path_joined_with_slash path name) (w.reads w0) (w.reads w2) o0 o2 old new e

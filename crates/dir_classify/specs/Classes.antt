@@ -18,6 +18,24 @@ use Rattle.dir_classify.specs.Question.{ClassQuestion, question_about_path}
 use Rattle.dir_classify.specs.Reads.{most_reads_to_classify_path}
 use Rattle.dir_classify.specs.Refused.{IsClassErrorAboutPath, IsErrorOfUnreadableRules, HoldsIfExcludesError, HoldsIfFaultError, HoldsOfExcludesError, StopsAtRefusedDirectoryIfGiven}
 
+-- What is asked of the ignore rules about a path, and of a worktree and a store for them, whatever is answered: a worktree was `w0`
+-- and is `w1`, a store was `o0` and is `o1`, and the rules were `old` and are `new`. To find repositories the worktree is read at most
+-- `most` times more.
+pub record AsksRulesAboutPath {W F T : Type 0} (w : WorktreeOf W) (f : FindOf F) (w0 w1 : W) (o0 o1 : F) (old new : Option StackModel)
+    (most : ℕ) (path : List ℕ) (result : Result T Error) : Type 0 where
+  -- Each refusal has its cause, and the rules stopped where they were refused.
+  pub about : IfErr result (IsClassErrorAboutPath (setup_of_optional_stack old) path)
+  pub refused : (s : TreeAndObjects) → TellsTreeAndObjects (w.told w0) (f.holds o0) (setup_of_optional_stack old) s → IfErr result (IsErrorOfUnreadableRules s (setup_of_optional_stack old) path)
+  pub stopped : IfErr result (HoldsOfExcludesError (StopsAtRefusedDirectoryIfGiven (w.told w0) (f.holds o0) (CountIncreasedOrSaturated (w.faults w0) (w.faults w1)) (CountIncreasedOrSaturated (f.faults o0) (f.faults o1)) path old new))
+  pub cause : IfErr result (HoldsIfFaultError (CountIncreasedOrSaturated (w.faults w0) (w.faults w1)) (CountIncreasedOrSaturated (f.faults o0) (f.faults o1)))
+  -- What stays.
+  pub keeps : AsksWorktreeForRules w w0 w1
+  pub store : KeepsStoredObjects f o0 o1
+  pub unmapped : maps_rules_files_to_blobs (setup_of_optional_stack old) ≡ false → o1 ≡ o0
+  pub rules : KeepsRulesInStep w f w0 o0 old new
+  -- Told or not, the rules were asked about this path alone, and so often was the worktree read at most.
+  pub reads : AsksRulesAtMostOnce most path (w.reads w0) (w.reads w1) o0 o1 old new result
+
 -- What a question about the class of a path answers and leaves, by the kind on disk, where that may be asked, and by the evidence; a
 -- worktree was `w0` and is `w1`, a store was `o0` and is `o1`, and the rules were `old` and are `new`.
 pub record AnswersClassQuestion {W F : Type 0} (w : WorktreeOf W) (f : FindOf F) (w0 w1 : W) (o0 o1 : F) (old new : Option StackModel)
@@ -37,20 +55,10 @@ pub record AnswersClassQuestion {W F : Type 0} (w : WorktreeOf W) (f : FindOf F)
   pub unruled : (s : TreeAndObjects) → w.told w0 ≡ Some s.tree → CountNotIncreased (w.faults w0) (w.faults w1)
       → q.asks (kind_on_disk_if_asked given s.tree q.path q.ask_disk) (evidence_from_setting_and_sources given (setup_of_optional_stack old) s) ≡ false
       → IfOk result (λ c. c ≡ q.judge (kind_on_disk_if_asked given s.tree q.path q.ask_disk) (evidence_from_setting_and_sources given (setup_of_optional_stack old) s))
-  -- Each refusal has its cause: the rules were asked by the kind that was read, and stopped where they were refused.
-  pub about : IfErr result (IsClassErrorAboutPath (setup_of_optional_stack old) q.path)
-  pub refused : (s : TreeAndObjects) → TellsTreeAndObjects (w.told w0) (f.holds o0) (setup_of_optional_stack old) s → IfErr result (IsErrorOfUnreadableRules s (setup_of_optional_stack old) q.path)
+  -- The rules are asked about this path alone. If they are refused, they were asked by the kind that was read.
+  pub asking : AsksRulesAboutPath w f w0 w1 o0 o1 old new (most_reads_to_classify_path given.options) q.path result
   pub asked : (s : TreeAndObjects) → w.told w0 ≡ Some s.tree
       → IfErr result (HoldsOfExcludesError (IsRefusedByKindAsRead (w.faults w0) (w.faults w1) (λ kind. q.asks kind (evidence_from_setting_and_sources given (setup_of_optional_stack old) s)) (kind_on_disk_if_asked given s.tree q.path q.ask_disk)))
-  pub stopped : IfErr result (HoldsOfExcludesError (StopsAtRefusedDirectoryIfGiven (w.told w0) (f.holds o0) (CountIncreasedOrSaturated (w.faults w0) (w.faults w1)) (CountIncreasedOrSaturated (f.faults o0) (f.faults o1)) q.path old new))
-  pub cause : IfErr result (HoldsIfFaultError (CountIncreasedOrSaturated (w.faults w0) (w.faults w1)) (CountIncreasedOrSaturated (f.faults o0) (f.faults o1)))
-  -- What stays.
-  pub keeps : AsksWorktreeForRules w w0 w1
-  pub store : KeepsStoredObjects f o0 o1
-  pub unmapped : maps_rules_files_to_blobs (setup_of_optional_stack old) ≡ false → o1 ≡ o0
-  pub rules : KeepsRulesInStep w f w0 w1 o0 old new
-  -- Told or not, the rules were asked about this path alone, and to find a repository so often was the worktree read at most.
-  pub reads : AsksRulesAtMostOnce (most_reads_to_classify_path given.options) q.path (w.reads w0) (w.reads w1) o0 o1 old new result
   -- The worktree is read for them alone where no repository is looked for: over a told tree and without a fault by the evidence; told
   -- or not, where the class says so, and where rules are refused.
   pub unsought : (s : TreeAndObjects) → TellsTreeAndObjects (w.told w0) (f.holds o0) (setup_of_optional_stack old) s → IsStackInStepIfGiven s old → CountNotIncreased (w.faults w0) (w.faults w1)

@@ -15,9 +15,9 @@ use Rattle.dir_classify.specs.Excludes.{setup_of_optional_stack, lookup_count_of
 abbrev pub AsksWorktreeForRules : {W : Type 0} → WorktreeOf W → W → W → Type 0
 AsksWorktreeForRules w before now = KeepsTreeAndListCounts w before now
 
--- Rules that are given stay what they were made with, and in step with a tree and a store where a worktree was `w0` and is
--- `w1`, and a store was `o0`.
-pub record KeepsRulesInStep {W F : Type 0} (w : WorktreeOf W) (f : FindOf F) (w0 w1 : W) (o0 : F) (old new : Option StackModel) : Type 0 where
+-- Rules that are given stay what they were made with, and in step with a tree and a store, where the worktree and the store had
+-- them: a worktree was `w0`, and a store was `o0`.
+pub record KeepsRulesInStep {W F : Type 0} (w : WorktreeOf W) (f : FindOf F) (w0 : W) (o0 : F) (old new : Option StackModel) : Type 0 where
   pub made : setup_of_optional_stack new ≡ setup_of_optional_stack old
   pub in_step : (s : TreeAndObjects) → TellsTreeAndObjects (w.told w0) (f.holds o0) (setup_of_optional_stack old) s → IsStackInStepIfGiven s old → IsStackInStepIfGiven s new
 

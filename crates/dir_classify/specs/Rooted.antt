@@ -150,7 +150,7 @@ pub record ClassifiesWayToRoot {W F : Type 0} (w : WorktreeOf W) (f : FindOf F) 
   pub keeps : AsksWorktreeForRules w w0 w1
   pub store : KeepsStoredObjects f o0 o1
   pub unmapped : maps_rules_files_to_blobs (setup_of_optional_stack old) ≡ false → o1 ≡ o0
-  pub rules : KeepsRulesInStep w f w0 w1 o0 old new
+  pub rules : KeepsRulesInStep w f w0 o0 old new
   pub reads : AsksRulesOnWayOrNot (most_reads_to_classify_path given.options) (last_path_asked_on_way root result) (w.reads w0) (w.reads w1) o0 o1 old new result
   -- Over a told tree and without a fault the worktree is read for them alone where no path on the way looks for a repository.
   pub unsought : (s : TreeAndObjects) → TellsTreeAndObjects (w.told w0) (f.holds o0) (setup_of_optional_stack old) s → IsStackInStepIfGiven s old → CountNotIncreased (w.faults w0) (w.faults w1)

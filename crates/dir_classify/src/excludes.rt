@@ -1,18 +1,17 @@
 //! What the ignore rules say of a path.
-ghost use Rattle.std.specs.Prelude.{◌≡◌, ◌&&◌, true, false, Bool, Some, None, IfOk, IfErr, OnOk, is_some};
+ghost use Rattle.std.specs.Prelude.{◌≡◌, true, false, Some, None, IfOk, OnOk, is_some};
 ghost use Rattle.worktree_fs.specs.Kept.{KeepsStoredObjects};
 ghost use Rattle.worktree_fs.specs.Paths.{is_relative_without_dots};
-ghost use Rattle.worktree_fs.specs.Causes.{CountIncreasedOrSaturated};
 ghost use Rattle.worktree_stack.specs.Lookups.{is_dir_by_mode};
 ghost use Rattle.worktree_stack.specs.LooksUp.{LooksUpPath, LookupLeavesWorktree};
 ghost use Rattle.worktree_stack.specs.Reading.{TreeAndObjects};
 ghost use Rattle.worktree_stack.specs.Setup.{has_excludes};
 ghost use Rattle.worktree_stack.specs.Stacked.{setup_of_stack};
+ghost use Rattle.dir_classify.specs.Classes.{AsksRulesAboutPath};
 ghost use Rattle.dir_classify.specs.Evidence.{ruling_without_rule};
-ghost use Rattle.dir_classify.specs.Excludes.{setup_of_optional_stack, maps_rules_files_to_blobs, may_read_worktree_rules, has_excludes_if_given, TellsTreeAndObjects, IsStackInStepIfGiven};
-ghost use Rattle.dir_classify.specs.Kept.{AsksWorktreeForRules, KeepsRulesInStep, AsksRulesAtMostOnce, LeavesAllUnchanged};
+ghost use Rattle.dir_classify.specs.Excludes.{setup_of_optional_stack, may_read_worktree_rules, has_excludes_if_given, TellsTreeAndObjects, IsStackInStepIfGiven};
+ghost use Rattle.dir_classify.specs.Kept.{LeavesAllUnchanged};
 ghost use Rattle.dir_classify.specs.Layers.{ruling_of_optional_setup, is_some_rules_file_unread};
-ghost use Rattle.dir_classify.specs.Refused.{IsClassErrorAboutPath, IsErrorOfUnreadableRules, HoldsIfFaultError, HoldsOfExcludesError, StopsAtRefusedDirectoryIfGiven};
 
 use crate::error::Error;
 use gitbase_core::{Find, Mode};
@@ -71,30 +70,11 @@ pub(crate) fn ruling_of_optional_stack<W: Worktree, F: Find>(
         (F.holds objects.old) (setup_of_optional_stack excludes.old) s → IsStackInStepIfGiven s
         excludes.old → OnOk result (is_some_rules_file_unread (setup_of_optional_stack excludes.old)
         s rela_path.now ≡ false) }
-    ensures about { IfErr result (IsClassErrorAboutPath (setup_of_optional_stack excludes.old)
-        rela_path.now) }
-    ensures refused { (s : TreeAndObjects) → TellsTreeAndObjects (W.told worktree.old)
-        (F.holds objects.old) (setup_of_optional_stack excludes.old) s
-        → IfErr result (IsErrorOfUnreadableRules s (setup_of_optional_stack excludes.old)
-        rela_path.now) }
-    ensures stopped { IfErr result (HoldsOfExcludesError (StopsAtRefusedDirectoryIfGiven
-        (W.told worktree.old) (F.holds objects.old) (CountIncreasedOrSaturated
-        (W.faults worktree.old) (W.faults worktree.new)) (CountIncreasedOrSaturated
-        (F.faults objects.old) (F.faults objects.new)) rela_path.now excludes.old excludes.new)) }
-    ensures cause { IfErr result
-        (HoldsIfFaultError (CountIncreasedOrSaturated (W.faults worktree.old)
-        (W.faults worktree.new)) (CountIncreasedOrSaturated (F.faults objects.old)
-        (F.faults objects.new))) }
-    ensures keeps { AsksWorktreeForRules W.Worktree worktree.old worktree.new }
-    ensures store { KeepsStoredObjects F.Find objects.old objects.new }
-    ensures unmapped { maps_rules_files_to_blobs (setup_of_optional_stack excludes.old) ≡ false
-        → objects.new ≡ objects.old }
+    // The rules are asked about this path alone; each refusal has its cause, and what stays.
+    ensures asking { AsksRulesAboutPath W.Worktree F.Find worktree.old worktree.new objects.old
+        objects.new excludes.old excludes.new 0 rela_path.now result }
     ensures by_mappings { may_read_worktree_rules (setup_of_optional_stack excludes.old) ≡ false
         → worktree.new ≡ worktree.old }
-    ensures rules { KeepsRulesInStep W.Worktree F.Find worktree.old worktree.new objects.old
-        excludes.old excludes.new }
-    ensures reads { AsksRulesAtMostOnce 0 rela_path.now (W.reads worktree.old)
-        (W.reads worktree.new) objects.old objects.new excludes.old excludes.new result }
     ensures no_rules { is_some (setup_of_optional_stack excludes.old) ≡ false
         → IfOk result (λ r. r ≡ ruling_without_rule) }
     ensures untouched { is_some (setup_of_optional_stack excludes.old) ≡ false → LeavesAllUnchanged
@@ -125,31 +105,11 @@ fn ruling_of_stack<W: Worktree, F: Find>(
         (F.holds objects.old) (Some (setup_of_stack stack.old)) s → IsStackInStepIfGiven s
         (Some stack.old) → OnOk result (is_some_rules_file_unread (Some (setup_of_stack stack.old))
         s rela_path.now ≡ false) }
-    ensures about { IfErr result (IsClassErrorAboutPath (Some (setup_of_stack stack.old))
-        rela_path.now) }
-    ensures refused { (s : TreeAndObjects) → TellsTreeAndObjects (W.told worktree.old)
-        (F.holds objects.old) (Some (setup_of_stack stack.old)) s
-        → IfErr result (IsErrorOfUnreadableRules s (Some (setup_of_stack stack.old))
-        rela_path.now) }
-    ensures stopped { IfErr result (HoldsOfExcludesError (StopsAtRefusedDirectoryIfGiven
-        (W.told worktree.old) (F.holds objects.old) (CountIncreasedOrSaturated
-        (W.faults worktree.old) (W.faults worktree.new)) (CountIncreasedOrSaturated
-        (F.faults objects.old) (F.faults objects.new)) rela_path.now (Some stack.old)
-        (Some stack.new))) }
-    ensures cause { IfErr result
-        (HoldsIfFaultError (CountIncreasedOrSaturated (W.faults worktree.old)
-        (W.faults worktree.new)) (CountIncreasedOrSaturated (F.faults objects.old)
-        (F.faults objects.new))) }
-    ensures keeps { AsksWorktreeForRules W.Worktree worktree.old worktree.new }
-    ensures store { KeepsStoredObjects F.Find objects.old objects.new }
-    ensures unmapped { maps_rules_files_to_blobs (Some (setup_of_stack stack.old)) ≡ false
-        → objects.new ≡ objects.old }
+    // The rules are asked about this path alone; each refusal has its cause, and what stays.
+    ensures asking { AsksRulesAboutPath W.Worktree F.Find worktree.old worktree.new objects.old
+        objects.new (Some stack.old) (Some stack.new) 0 rela_path.now result }
     ensures by_mappings { may_read_worktree_rules (Some (setup_of_stack stack.old)) ≡ false
         → worktree.new ≡ worktree.old }
-    ensures rules { KeepsRulesInStep W.Worktree F.Find worktree.old worktree.new objects.old
-        (Some stack.old) (Some stack.new) }
-    ensures reads { AsksRulesAtMostOnce 0 rela_path.now (W.reads worktree.old)
-        (W.reads worktree.new) objects.old objects.new (Some stack.old) (Some stack.new) result }
 {
     move_stack_to_path(
         alloc,

@@ -1,22 +1,22 @@
 //! The steps to the class of a path: which case fits, and what is asked for it.
 ghost use Rattle.std.specs.Prelude.{◌≡◌, ◌⊎◌, ◌&&◌, if◌then◌else◌, not, Bool, true, false, Option, Some, None, IfOk, IfErr, OnOk, is_some};
 ghost use Rattle.gitbase_core.specs.Path.{components, is_empty};
-ghost use Rattle.worktree_fs.specs.Causes.{CountNotIncreased, CountIncreasedOrSaturated};
-ghost use Rattle.worktree_fs.specs.Kept.{KeepsTreeAndListCounts, KeepsStoredObjects};
+ghost use Rattle.worktree_fs.specs.Causes.{CountNotIncreased};
+ghost use Rattle.worktree_fs.specs.Kept.{KeepsTreeAndListCounts};
 ghost use Rattle.worktree_fs.specs.Paths.{root_joined_with_relative, is_relative_without_dots, slash_joined_components};
 ghost use Rattle.worktree_fs.specs.Tree.{Names};
 ghost use Rattle.worktree_stack.specs.Reading.{TreeAndObjects};
 ghost use Rattle.dir_classify.specs.Chosen.{walk_options_of};
 ghost use Rattle.dir_classify.specs.Class.{is_kind_known_without_disk, is_dir_following_symlink, ruling_unless_worktree_root};
-ghost use Rattle.dir_classify.specs.Classes.{ClassifiesPath, AnswersClassQuestion};
+ghost use Rattle.dir_classify.specs.Classes.{ClassifiesPath, AnswersClassQuestion, AsksRulesAboutPath};
 ghost use Rattle.dir_classify.specs.Evidence.{ruling_without_rule};
-ghost use Rattle.dir_classify.specs.Excludes.{setup_of_optional_stack, maps_rules_files_to_blobs, has_excludes_if_given, TellsTreeAndObjects, IsStackInStepIfGiven};
+ghost use Rattle.dir_classify.specs.Excludes.{setup_of_optional_stack, has_excludes_if_given, TellsTreeAndObjects, IsStackInStepIfGiven};
 ghost use Rattle.dir_classify.specs.Faults.{IsRulingAsRead};
-ghost use Rattle.dir_classify.specs.Kept.{AsksWorktreeForRules, KeepsRulesInStep, AsksRulesAtMostOnce, LeavesAllUnchanged};
+ghost use Rattle.dir_classify.specs.Kept.{LeavesAllUnchanged};
 ghost use Rattle.std.specs.Option.{option_or};
 ghost use Rattle.dir_classify.specs.Layers.{setting_of_shared, evidence_from_setting_and_sources, kind_of_node_at, index_kinds_by_setting, is_some_rules_file_unread, IsLookupOfIndexIfGiven, IsNameInIndexDirectory};
 ghost use Rattle.dir_classify.specs.Question.{question_about_dot_git, question_about_known_kind};
-ghost use Rattle.dir_classify.specs.Refused.{IsClassErrorAboutPath, IsErrorOfUnreadableRules, HoldsIfExcludesError, HoldsIfFaultError, HoldsOfExcludesError, StopsAtRefusedDirectoryIfGiven};
+ghost use Rattle.dir_classify.specs.Refused.{HoldsIfExcludesError};
 
 use crate::cases::{
     index_and_disk_agree_on_directory, is_dot_git_by_options, outcome_of_dot_git,
@@ -202,30 +202,11 @@ fn ruling_unless_worktree_root<W: Worktree, F: Find, M: Matcher>(
         (λ ev. ruling_unless_worktree_root (walk_options_of shared.now.options) ev rela_path.now
         kind) (evidence_from_setting_and_sources (setting_of_shared M.Matcher shared.now)
         (setup_of_optional_stack excludes.old) s)) }
-    ensures about { IfErr result (IsClassErrorAboutPath (setup_of_optional_stack excludes.old)
-        rela_path.now) }
-    ensures refused { (s : TreeAndObjects) → TellsTreeAndObjects (W.told worktree.old)
-        (F.holds objects.old) (setup_of_optional_stack excludes.old) s
-        → IfErr result (IsErrorOfUnreadableRules s (setup_of_optional_stack excludes.old)
-        rela_path.now) }
-    ensures stopped { IfErr result (HoldsOfExcludesError (StopsAtRefusedDirectoryIfGiven
-        (W.told worktree.old) (F.holds objects.old) (CountIncreasedOrSaturated
-        (W.faults worktree.old) (W.faults worktree.new)) (CountIncreasedOrSaturated
-        (F.faults objects.old) (F.faults objects.new)) rela_path.now excludes.old excludes.new)) }
+    // The rules are asked about this path alone; each refusal has its cause, and what stays.
+    ensures asking { AsksRulesAboutPath W.Worktree F.Find worktree.old worktree.new objects.old
+        objects.new excludes.old excludes.new 0 rela_path.now result }
     ensures asked { IfErr result (HoldsIfExcludesError
         ((is_some (setup_of_optional_stack excludes.old) && not (is_empty rela_path.now)) ≡ true)) }
-    ensures cause { IfErr result
-        (HoldsIfFaultError (CountIncreasedOrSaturated (W.faults worktree.old)
-        (W.faults worktree.new)) (CountIncreasedOrSaturated (F.faults objects.old)
-        (F.faults objects.new))) }
-    ensures keeps { AsksWorktreeForRules W.Worktree worktree.old worktree.new }
-    ensures store { KeepsStoredObjects F.Find objects.old objects.new }
-    ensures unmapped { maps_rules_files_to_blobs (setup_of_optional_stack excludes.old) ≡ false
-        → objects.new ≡ objects.old }
-    ensures rules { KeepsRulesInStep W.Worktree F.Find worktree.old worktree.new objects.old
-        excludes.old excludes.new }
-    ensures reads { AsksRulesAtMostOnce 0 rela_path.now (W.reads worktree.old)
-        (W.reads worktree.new) objects.old objects.new excludes.old excludes.new result }
     ensures no_rules { (is_some (setup_of_optional_stack excludes.old) && not
         (is_empty rela_path.now)) ≡ false → IfOk result (λ r. r ≡ ruling_without_rule) }
     ensures untouched { (is_some (setup_of_optional_stack excludes.old) && not

@@ -130,7 +130,7 @@ pub record WalksWorktreeWithCauses {W F I T : Type 0} (w : WorktreeOf W) (f : Fi
   pub worktree : KeepsWorktree w w0 w1
   pub store : KeepsStoredObjects f o0 o1
   pub unmapped : strategy ≡ Held → maps_rules_files_to_blobs (setup_of_optional_stack old) ≡ false → o1 ≡ o0
-  pub rules : KeepsRulesInStep w f w0 w1 o0 old new
+  pub rules : KeepsRulesInStep w f w0 o0 old new
   pub interrupt : AsksInterruptPerRaise i i0 i1
   pub listed : OnOk result (w.list_faults w1 ≡ w.list_faults w0)
   pub calm : OnOk result (i.raised i1 ≡ i.raised i0)
@@ -142,7 +142,7 @@ pub record KeepsStateAtEnd {W F I D T : Type 0} (w : WorktreeOf W) (f : FindOf F
     (result : Result T Stop) : Type 0 where
   pub worktree : KeepsWorktree w w0 w1
   pub store : KeepsStoredObjects f o0 o1
-  pub rules : KeepsRulesInStep w f w0 w1 o0 old new
+  pub rules : KeepsRulesInStep w f w0 o0 old new
   pub interrupt : AsksInterruptPerRaise i i0 i1
   pub delegate : KeepsDelegateRunning d d0 d1
   pub heeds : HeedsDelegateBreak d d0 d1 result

@@ -62,7 +62,7 @@ fn walk_name_as_job<W: Worktree, F: Find, I: Interrupt, M: Matcher, D: Delegate>
         (setting_of_shared M.Matcher shared.now) blocked.now levels
         (at_name place.old.path name.now) result) }
     // The rules that were handed in stay in step.
-    ensures rules { KeepsRulesInStep W.Worktree F.Find parts.old.worktree.now parts.new.worktree.now
+    ensures rules { KeepsRulesInStep W.Worktree F.Find parts.old.worktree.now
         parts.old.objects.now parts.old.excludes.now parts.new.excludes.now }
     // The place is the same when all is done.
     ensures stays { OnOk result (place.new ≡ place.old) }
@@ -144,7 +144,7 @@ pub(crate) fn walk_root_directory_by_jobs<
         (setting_of_shared M.Matcher shared.now) blocked.now levels
         (at_directory place.old.path class.now) result) }
     // The rules that were handed in stay in step.
-    ensures rules { KeepsRulesInStep W.Worktree F.Find parts.old.worktree.now parts.new.worktree.now
+    ensures rules { KeepsRulesInStep W.Worktree F.Find parts.old.worktree.now
         parts.old.objects.now parts.old.excludes.now parts.new.excludes.now }
 {
     let path = place.path();

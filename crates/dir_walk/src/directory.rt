@@ -1,28 +1,15 @@
 //! The names of a directory that is entered, one after another.
-ghost use Rattle.std.specs.Prelude.{◌≡◌, ◌+◌, ℕ, true, false, Option, Some, None, IfOk, IfErr, OnOk, OnErr};
-ghost use Rattle.gitbase_core.specs.Path.{components, path_joined_with_slash};
+ghost use Rattle.std.specs.Prelude.{◌≡◌, true, false, Option, Some, None, OnOk};
+ghost use Rattle.gitbase_core.specs.Path.{components};
 ghost use Rattle.gitbase_core.specs.View.{IsViewOfEntriesBeneath};
-ghost use Rattle.worktree_fs.specs.Causes.{CountNotIncreased, CountIncreasedOrSaturated};
-ghost use Rattle.worktree_fs.specs.Kept.{KeepsStoredObjects};
 ghost use Rattle.worktree_fs.specs.Naming.{IsValidEntryName};
 ghost use Rattle.worktree_fs.specs.Paths.{root_joined_with_relative, is_relative_without_dots, slash_joined_components};
-ghost use Rattle.worktree_stack.specs.Reading.{TreeAndObjects};
-ghost use Rattle.worktree_stack.specs.Setup.{StackSetup};
 ghost use Rattle.dir_classify.specs.Chosen.{walk_options_of};
 ghost use Rattle.dir_classify.specs.Classes.{ClassifiesPath};
 ghost use Rattle.dir_classify.specs.Excludes.{setup_of_optional_stack, maps_rules_files_to_blobs, has_excludes_if_given};
 ghost use Rattle.dir_classify.specs.Kept.{KeepsRulesInStep};
-ghost use Rattle.dir_classify.specs.Layers.{setting_of_shared, evidence_from_setting_and_sources, IsLookupOfIndexIfGiven, IsNameInIndexDirectory};
-ghost use Rattle.dir_walk.specs.Emits.{GivesAllWalkedUnrefused, AddsPartOfWalkResult};
-ghost use Rattle.dir_walk.specs.Given.{HoldsOfErrorIfRefused};
-ghost use Rattle.dir_walk.specs.Kept.{KeepsWorktree, AsksInterruptPerRaise, KeepsDelegateRunning, HeedsDelegateBreak, CountsCausesOfRefusals};
+ghost use Rattle.dir_classify.specs.Layers.{setting_of_shared, IsLookupOfIndexIfGiven, IsNameInIndexDirectory};
 ghost use Rattle.dir_walk.specs.Moments.{KeepsPartReferences, walk_state_of_parts};
-ghost use Rattle.dir_walk.specs.Opens.{OpensAtMostWalkedEntered, OpensBoundedDirectories, count_refused_walk};
-ghost use Rattle.dir_walk.specs.Puts.{AddsNoHiddenEmission, HandsUpOnlyEntryAtPath, one_at_or_beneath_path};
-ghost use Rattle.dir_walk.specs.Refused.{IsWalkErrorWithinLimit, IsWalkErrorByTree, IsWalkErrorByWalkResult, IsErrorOfEnteredDirectory};
-ghost use Rattle.dir_walk.specs.Report.{count_components};
-ghost use Rattle.dir_walk.specs.Told.{IsWalkOverSources, walk_result_of_name_over_sources, walk_result_of_directory_over_sources};
-ghost use Rattle.dir_walk.specs.Unopened.{count_too_deep_in_walk, count_unlisted_in_walk};
 ghost use Rattle.dir_walk.specs.WalkSteps.{OpensAtMostEntered, StepWalksOverAnyWorktree, StepWalksOverSources, at_directory, at_name, CountsOpenedDirectories};
 
 use crate::close::{close_empty_directory, fold_directory_or_emit_held, outcome_of_unentered_path};
@@ -73,10 +60,12 @@ pub(crate) fn classify_name_asking_disk<W: Worktree, F: Find, M: Matcher>(
 
 /// Walks the name `name` in the directory at `place`, which is open already, and gives what the
 /// name hands up to that directory, as [`Handed`] says. `levels` more levels of directories may be
-/// entered below the directory. `blocked` is the current directory where deletion is asked for: no
-/// other entry may stand for it. `beneath` are the entries of the index beneath the directory.
+/// entered below the directory. `beneath` are the entries of the index beneath the directory.
+/// `blocked` is the current directory where deletion is asked for, if it lies in the worktree: if
+/// the walk enters it, neither it nor a directory above it is folded.
 ///
-/// The place is the directory's again when the name is done. It ends as [`walk_directory`] does.
+/// After Ok the place is the directory's again. The ends and the errors are those of
+/// [`walk_directory`].
 #[cycle(walk)]
 fn walk_name_in_directory<W: Worktree, F: Find, I: Interrupt, M: Matcher, D: Delegate>(
     alloc: Global,
@@ -100,27 +89,30 @@ fn walk_name_in_directory<W: Worktree, F: Find, I: Interrupt, M: Matcher, D: Del
         ≡ true }
     // The parts lie behind the same references as before.
     ensures same { KeepsPartReferences parts.old parts.new }
-    // Over any worktree: a refusal is about a path within the limit, or one level below it where
-    // that is too deep, and what caused it was counted. Of the worktree, the store and the
-    // interrupt nothing changes but counts. The delegate gets paths at or beneath this name, each
-    // at most once where it tells what it got, and none that the options hide. What is handed up is
-    // an entry at this path.
+    // Over any worktree it ends as Broken exactly where the delegate answered Break. A refusal is
+    // about a path of the worktree within the limit, or one level below it if TooDeep. A fault or
+    // an interrupt that caused it was counted. After Ok or Broken no listing failed and no
+    // interrupt came. Of the worktree, the store and the interrupt nothing changes but counts. What
+    // the delegate tells that it got is at or beneath this name, and the options hide none of it.
+    // What is handed up is an entry at this path. Both together have no path twice.
     ensures walks { StepWalksOverAnyWorktree W.Worktree F.Find I.Interrupt D.Delegate
         (walk_state_of_parts parts.old) (walk_state_of_parts parts.new)
         (setting_of_shared M.Matcher shared.now) levels (at_name place.old.path name.now) result }
-    // Where the worktree tells its tree and the store its objects, the rules are in step with both,
-    // and the delegate recurses as by default: without a fault, Ok gives all that is there, and an
-    // end before that a part of it. A refusal is for what is there, or because a fault hid that,
-    // unless it is for the interrupt, for a listing that failed, or for want of memory.
+    // Let the tree be told (with rules, the store too), the rules be in step, `blocked` be as that
+    // tree has it, and recursion be the default. Without a fault of the worktree, Ok gives exactly
+    // what is there, in any order, and none of it is to be refused. Any other end gives some of it.
+    // A refusal is for what is there, or a fault hid that, unless it is for the interrupt, for a
+    // listing, a rules file or a blob that failed, or for want of memory.
     ensures told { StepWalksOverSources W.Worktree F.Find D.Delegate
         (walk_state_of_parts parts.old) (walk_state_of_parts parts.new)
         (setting_of_shared M.Matcher shared.now) blocked.now levels
         (at_name place.old.path name.now) result }
     // Some number of directories was opened: the worktree and the walk counted so many, and the
-    // interrupt was asked before each. Where all is told as above, it is at most the number that
-    // the walk enters from here, and one more where a listing was refused or memory was. The 0 says
-    // that the place's own directory, which the caller opened, is not among them. The number bounds
-    // how often rules files are read.
+    // interrupt was asked before each. Told as above and without a fault, it is at most the number
+    // that the walk enters from here within the limit, and one more if a listing or memory was
+    // refused. The 0 says that the place's own directory, which the caller opened, is not among
+    // them. Where files are read for ignore rules alone, each takes at most one read. So does each
+    // directory from the root to the place's whose rules were not held, and a refusal.
     ensures opens { CountsOpenedDirectories W.Worktree I.Interrupt
         (walk_options_of shared.now.options) (components place.old.path) 0
         (walk_state_of_parts parts.old) (walk_state_of_parts parts.new) result
@@ -132,7 +124,7 @@ fn walk_name_in_directory<W: Worktree, F: Find, I: Interrupt, M: Matcher, D: Del
         ≡ false → parts.new.objects.now ≡ parts.old.objects.now }
     // The rules keep the setup that they were made with; where they were in step with what is told
     // of the tree and the store, they still are.
-    ensures rules { KeepsRulesInStep W.Worktree F.Find parts.old.worktree.now parts.new.worktree.now
+    ensures rules { KeepsRulesInStep W.Worktree F.Find parts.old.worktree.now
         parts.old.objects.now parts.old.excludes.now parts.new.excludes.now }
     // The place is the same when all is done. After a refusal or a break it is where the walk
     // stood, and the caller is not to go on with it.
@@ -231,7 +223,7 @@ pub(crate) fn walk_directory<W: Worktree, F: Find, I: Interrupt, M: Matcher, D: 
     ensures unmapped { maps_rules_files_to_blobs (setup_of_optional_stack parts.old.excludes.now)
         ≡ false → parts.new.objects.now ≡ parts.old.objects.now }
     // The rules that were handed in stay in step.
-    ensures rules { KeepsRulesInStep W.Worktree F.Find parts.old.worktree.now parts.new.worktree.now
+    ensures rules { KeepsRulesInStep W.Worktree F.Find parts.old.worktree.now
         parts.old.objects.now parts.old.excludes.now parts.new.excludes.now }
     // The place is the same when all is done.
     ensures stays { OnOk result (place.new ≡ place.old) }

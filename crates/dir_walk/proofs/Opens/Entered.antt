@@ -26,7 +26,7 @@ EntersSoFar w f d w0 w1 o0 rules d0 given blocked limit path taken opened =
     (made : Option StackSetup) (s : TreeAndObjects) → IsWalkOverSources given (w.told w0) (f.holds o0) rules blocked made s → CountNotIncreased (w.faults w0) (w.faults w1) → d.is_default d0 ≡ true → opened ≤ entered_by given made s limit path taken
 
 module _ {W F D : Type 0} {w : WorktreeOf W} {f : FindOf F} {dl : DelegateOf D} {w0 w1 w2 : W} {o0 o1 : F} {old mid : Option StackModel} {d0 d1 : D} (given : WalkSetting) (blocked : Option (List ℕ)) (limit : ℕ) (path : List ℕ) (names : List (List ℕ)) (i : ℕ) (q : List ℕ)
-    (inside : i < length names) (is : q ≡ get_or names i q) (tree : KeepsWorktree w w0 w1) (store : KeepsStoredObjects f o0 o1) (rules : KeepsRulesInStep w f w0 w1 o0 old mid) (delegate : KeepsDelegateRunning dl d0 d1) (more : w.faults w1 ≤ w.faults w2) where
+    (inside : i < length names) (is : q ≡ get_or names i q) (tree : KeepsWorktree w w0 w1) (store : KeepsStoredObjects f o0 o1) (rules : KeepsRulesInStep w f w0 o0 old mid) (delegate : KeepsDelegateRunning dl d0 d1) (more : w.faults w1 ≤ w.faults w2) where
   -- one name is walked after these
   pub enters-more : (m n : ℕ) → EntersSoFar w f dl w0 w1 o0 old d0 given blocked limit path (take i names) m → OpensAtMostWalkedEntered w f dl w1 w2 o1 mid d1 given blocked limit (λ made s. walk_result_of_name_over_sources given made s (path_joined_with_slash path q)) 0 n
       → EntersSoFar w f dl w0 w2 o0 old d0 given blocked limit path (take (i + 1) names) (m + n)

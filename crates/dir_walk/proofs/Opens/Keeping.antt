@@ -38,8 +38,8 @@ KeepsTree-then first second =
 pub AsksStore-then : {F : Type 0} {f : FindOf F} {a b c : F} → KeepsStoredObjects f a b → KeepsStoredObjects f b c → KeepsStoredObjects f a c
 AsksStore-then first second = record { holds = second.holds ∙ first.holds; faults = omega (arith, first.faults, second.faults) }
 
-pub KeepsRules-then : {W F : Type 0} {w : WorktreeOf W} {f : FindOf F} {a b c : W} {k l : F} {r s t : Option StackModel}
-    → w.told b ≡ w.told a → f.holds l ≡ f.holds k → KeepsRulesInStep w f a b k r s → KeepsRulesInStep w f b c l s t → KeepsRulesInStep w f a c k r t
+pub KeepsRules-then : {W F : Type 0} {w : WorktreeOf W} {f : FindOf F} {a b : W} {k l : F} {r s t : Option StackModel}
+    → w.told b ≡ w.told a → f.holds l ≡ f.holds k → KeepsRulesInStep w f a k r s → KeepsRulesInStep w f b l s t → KeepsRulesInStep w f a k r t
 KeepsRules-then tree holds first second =
     record {
       made = second.made ∙ first.made;
@@ -88,7 +88,7 @@ KeepsDelegate-same {D} {d} {a} = record { default = refl; given = Extends-same (
 pub KeepsDelegate-asked : {D : Type 0} {d : DelegateOf D} {a b : D} → d.is_default b ≡ d.is_default a → d.given b ≡ d.given a → d.breaks b ≡ d.breaks a → d.refusals a ≤ d.refusals b → KeepsDelegateRunning d a b
 KeepsDelegate-asked {D} {d} {a} {b} default given breaks refusals = record { default = default; given = Extends-same (d.given a) (d.given b) given; breaks = omega (arith, breaks); refusals = refusals }
 
-pub KeepsRules-same : {W F : Type 0} {w : WorktreeOf W} {f : FindOf F} {a b : W} {k : F} {r : Option StackModel} → KeepsRulesInStep w f a b k r r
+pub KeepsRules-same : {W F : Type 0} {w : WorktreeOf W} {f : FindOf F} {a : W} {k : F} {r : Option StackModel} → KeepsRulesInStep w f a k r r
 KeepsRules-same = record { made = refl; in_step = λ u told step. step }
 
 pub AsksStore-same : {F : Type 0} {f : FindOf F} {a : F} → KeepsStoredObjects f a a

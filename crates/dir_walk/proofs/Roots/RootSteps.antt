@@ -27,7 +27,7 @@ root-told {limit = limit} level told =
     }
 
 pub root-any : {W F I D : Type 0} {w : WorktreeOf W} {f : FindOf F} {i : InterruptOf I} {d : DelegateOf D} {before now : WalkState W F I D} {given : WalkSetting} {levels limit : ℕ} {path : List ℕ} {class : Class} {result : Result Handed Stop}
-    → levels + count_components path ≡ limit → KeepsRulesInStep w f before.worktree now.worktree before.objects before.rules now.rules → StepWalksOverAnyWorktree w f i d before now given levels (at_directory path class) result → WalksRootOverAnyWorktree w f i d before now given limit path result
+    → levels + count_components path ≡ limit → KeepsRulesInStep w f before.worktree before.objects before.rules now.rules → StepWalksOverAnyWorktree w f i d before now given levels (at_directory path class) result → WalksRootOverAnyWorktree w f i d before now given limit path result
 root-any {before = before} {given = given} {limit = limit} {path = path} {result = result} level rules walks =
     record {
       about = about-from (setup_of_optional_stack before.rules) given.root path limit result (walks.about limit level);

@@ -31,7 +31,7 @@ use Rattle.dir_walk.proofs.Refused.Refusals.{memory-only}
 pub record Before {W F : Type 0} (w : WorktreeOf W) (f : FindOf F) (w0 w1 : W) (o0 o1 : F) (old new : Option StackModel) : Type 0 where
   pub worktree : AsksWorktreeForRules w w0 w1
   pub store : KeepsStoredObjects f o0 o1
-  pub rules : KeepsRulesInStep w f w0 w1 o0 old new
+  pub rules : KeepsRulesInStep w f w0 o0 old new
 
 pub Before-asked : {W F : Type 0} {w : WorktreeOf W} {f : FindOf F} {w0 w1 : W} {o : F} {rules : Option StackModel} → KeepsTreeAndListCounts w w0 w1 → Before w f w0 w1 o o rules rules
 Before-asked asks =
@@ -41,7 +41,7 @@ Before-asked asks =
       rules = KeepsRules-same;
     }
 
-pub Before-classed : {W F : Type 0} {w : WorktreeOf W} {f : FindOf F} {w0 w1 : W} {o0 o1 : F} {r0 r1 : Option StackModel} → AsksWorktreeForRules w w0 w1 → KeepsStoredObjects f o0 o1 → KeepsRulesInStep w f w0 w1 o0 r0 r1 → Before w f w0 w1 o0 o1 r0 r1
+pub Before-classed : {W F : Type 0} {w : WorktreeOf W} {f : FindOf F} {w0 w1 : W} {o0 o1 : F} {r0 r1 : Option StackModel} → AsksWorktreeForRules w w0 w1 → KeepsStoredObjects f o0 o1 → KeepsRulesInStep w f w0 o0 r0 r1 → Before w f w0 w1 o0 o1 r0 r1
 Before-classed worktree store rules = record { worktree = worktree; store = store; rules = rules }
 
 -- what is told is told afterwards too

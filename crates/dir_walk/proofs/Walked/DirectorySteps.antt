@@ -43,7 +43,7 @@ GivenSoFar w f d before now given blocked levels path taken held blocks =
 
 module _ {W F I D : Type 0} {w : WorktreeOf W} {f : FindOf F} {d : DelegateOf D} {before now : WalkState W F I D} (mid : WalkState W F I D) {given : WalkSetting} {blocked : Option (List ℕ)} {levels : ℕ} {path : List ℕ} (class : Class) (names : List (List ℕ)) (i : ℕ) (q : List ℕ) {held : List Entry} {blocks : Bool}
     (has_names : (s : TreeAndObjects) → w.told before.worktree ≡ Some s.tree → HasNames given s.tree path names) (plain : ends_in_slash path ≡ false) (inside : i < length names) (is : q ≡ get_or names i q)
-    (tree : KeepsWorktree w before.worktree mid.worktree) (store : KeepsStoredObjects f before.objects mid.objects) (rules : KeepsRulesInStep w f before.worktree mid.worktree before.objects before.rules mid.rules) (delegate : KeepsDelegateRunning d before.delegate mid.delegate)
+    (tree : KeepsWorktree w before.worktree mid.worktree) (store : KeepsStoredObjects f before.objects mid.objects) (rules : KeepsRulesInStep w f before.worktree before.objects before.rules mid.rules) (delegate : KeepsDelegateRunning d before.delegate mid.delegate)
     (so_far : GivenSoFar w f d before mid given blocked levels path (take i names) held blocks) (later : w.faults mid.worktree ≤ w.faults now.worktree) where
   -- the walk ends at a name
   pub told-ended : (stop : Stop) → StepWalksOverSources w f d mid now given blocked levels (at_name path q) (Err stop) → StepWalksOverSources w f d before now given blocked levels (at_directory path class) (Err stop)

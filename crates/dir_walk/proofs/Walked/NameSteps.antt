@@ -47,24 +47,24 @@ told-entered w f d {before} {now} asked given {blocked} {levels} {directory} {na
       gives = λ made s stands quiet default limit level.
           let ev = evidence_from_setting_and_sources given made s in
           let first : CountNotIncreased (w.faults before.worktree) (w.faults asked.worktree) = omega (arith, quiet, later) in
-          let second : CountNotIncreased (w.faults asked.worktree) (w.faults now.worktree) = omega (arith, quiet, classed.keeps.faults) in
+          let second : CountNotIncreased (w.faults asked.worktree) (w.faults now.worktree) = omega (arith, quiet, classed.asking.keeps.faults) in
           let is : k ≡ class given.options ev p None (kind_on_disk_if_asked given s.tree p true) = rw stands.made_is at (classed.class s (telling stands) stands.in_step first) in
           let read : (asks_ignore_rules given.options ev p None (kind_on_disk_if_asked given s.tree p true) && ev.is_unread p) ≡ false = rw stands.made_is at (classed.read s (telling stands) stands.in_step first) in
-          let then = Stands-later given asked.rules classed.keeps.tree classed.store.holds classed.rules.made classed.rules.in_step stands in
+          let then = Stands-later given asked.rules classed.asking.keeps.tree classed.asking.store.holds classed.asking.rules.made classed.asking.rules.in_step stands in
           IfOk-weaker result _ _ (λ h gives. Gives-directory given made s p k is q at _ _ limit _ _ h read some (goes default) gives)
           (rw same_given at (told.gives made s then second (same_default ∙ default) limit (levels_is ∙ level)));
       part = λ made s stands quiet default.
           let ev = evidence_from_setting_and_sources given made s in
           let first : CountNotIncreased (w.faults before.worktree) (w.faults asked.worktree) = omega (arith, quiet, later) in
-          let second : CountNotIncreased (w.faults asked.worktree) (w.faults now.worktree) = omega (arith, quiet, classed.keeps.faults) in
+          let second : CountNotIncreased (w.faults asked.worktree) (w.faults now.worktree) = omega (arith, quiet, classed.asking.keeps.faults) in
           let is : k ≡ class given.options ev p None (kind_on_disk_if_asked given s.tree p true) = rw stands.made_is at (classed.class s (telling stands) stands.in_step first) in
-          let then = Stands-later given asked.rules classed.keeps.tree classed.store.holds classed.rules.made classed.rules.in_step stands in
+          let then = Stands-later given asked.rules classed.asking.keeps.tree classed.asking.store.holds classed.asking.rules.made classed.asking.rules.in_step stands in
           on_err_weaker result (λ part. part-directory given made s p k is q at _ _ _ _ some (goes default) part)
           (rw same_given at (told.part made s then second (same_default ∙ default)));
       refused = λ made s stands default limit level.
           let ev = evidence_from_setting_and_sources given made s in
           let exact = λ (quiet : CountNotIncreased (w.faults before.worktree) (w.faults asked.worktree)). (rw stands.made_is at (classed.class s (telling stands) stands.in_step quiet)) in
-          let then = Stands-later given asked.rules classed.keeps.tree classed.store.holds classed.rules.made classed.rules.in_step stands in
+          let then = Stands-later given asked.rules classed.asking.keeps.tree classed.asking.store.holds classed.asking.rules.made classed.asking.rules.in_step stands in
           let inside : Type 0 = CountIncreasedOrSaturated (w.faults asked.worktree) (w.faults now.worktree) in
           let failed : Type 0 = CountIncreasedOrSaturated (w.faults before.worktree) (w.faults now.worktree) in
           let same = ap (λ (b : Bool). look s.tree (root_joined_with_relative given.root p) b) some in
@@ -74,7 +74,7 @@ told-entered w f d {before} {now} asked given {blocked} {levels} {directory} {na
           let P : List ℕ → Error → Type 0 = λ x. IsWalkErrorByWalkResult given made s limit failed (walk_result_of_name_over_sources given made s x) in
           IfErr-weaker result (HoldsOfErrorIfRefused (IsErrorOfEnteredDirectory given made s limit inside p k)) (HoldsOfErrorIfRefused (P q))
           (refused-any (IsErrorOfEnteredDirectory given made s limit inside p k) (P q)
-          (λ e h. subst (λ (x : List ℕ). P x e) at (Refuses-directory given made s limit inside failed (walk_result_of_name_over_sources given made s p) p k e same within (λ rose. omega (arith, rose, classed.keeps.faults))
+          (λ e h. subst (λ (x : List ℕ). P x e) at (Refuses-directory given made s limit inside failed (walk_result_of_name_over_sources given made s p) p k e same within (λ rose. omega (arith, rose, classed.asking.keeps.faults))
           (λ why unlisted. indexed-unlisted _ _ given.options ev p (look_at_name given s.tree p) k why judged (goes default) unlisted) h)))
           (told.refused made s then (same_default ∙ default) limit (levels_is ∙ level));
     }
@@ -95,7 +95,7 @@ told-unclassed w f d {before} {now} given {directory = directory} {name = name} 
           let Asks : Type 0 = asks_ignore_rules given.options ev p None (kind_on_disk_if_asked given s.tree p true) ≡ true in
           let failed : Type 0 = CountIncreasedOrSaturated (w.faults before.worktree) (w.faults now.worktree) in
           let P : List ℕ → Type 0 = λ x. IsWalkErrorByWalkResult given made s limit failed (walk_result_of_name_over_sources given made s x) e in
-          subst P at (Refuses-class given made s limit failed Asks (walk_result_of_name_over_sources given made s p) p e normal (rw stands.made_is at classed.about) (rw stands.made_is at (classed.refused s (telling stands)))
+          subst P at (Refuses-class given made s limit failed Asks (walk_result_of_name_over_sources given made s p) p e normal (rw stands.made_is at classed.asking.about) (rw stands.made_is at (classed.asking.refused s (telling stands)))
           (either (λ quiet. inl (asked-quiet (w.faults before.worktree) (w.faults now.worktree) (λ k. asks_ignore_rules given.options ev p None k) (kind_on_disk_if_asked given s.tree p true) e quiet (rw stands.made_is at (classed.asked s stands.tree))))
           (λ rose. inr rose) (rose-or (w.faults before.worktree) (w.faults now.worktree)))
           (among-asked given made s p some));

@@ -19,10 +19,10 @@ loop-next-init g c =
     let first = c.in_ok-class.ensures in
     let path_is : c.in_ok-path.path ≡ [] = search rules in
     record {
-      keeps = first.keeps;
-      store = first.store;
-      unmapped = first.unmapped;
-      rules = first.rules;
+      keeps = first.asking.keeps;
+      store = first.asking.store;
+      unmapped = first.asking.unmapped;
+      rules = first.asking.rules;
       spelled_is = search rules;
       split = search rules;
       leads = λ s tells step quiet.

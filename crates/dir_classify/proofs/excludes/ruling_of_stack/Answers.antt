@@ -31,60 +31,58 @@ returns-clause-read g c = λ s told step.
     let tells = tells-given (g.W.Worktree.told c.args.worktree.now) (g.F.Find.holds c.args.objects.now) (setup_of_stack c.args.stack.now) s told in
     read-looked s (setup_of_stack c.args.stack.now) c.move_stack_to_path.new.stack c.args.rela_path.now c.requires.excludes looks.made (looks.in_step s tells step) looks.looked_up
 
-pub returns-in_err-move_stack_to_path-clause-reads : goal.returns-in_err-move_stack_to_path-clause-reads
-returns-in_err-move_stack_to_path-clause-reads g c =
-    let looks = c.in_err-move_stack_to_path.ensures.looks_up in
-    let p = err_from_is_err_and c.from_residual.result c.from_residual.ensures.1 in
-    rw (p.1, p.2)
-    (inr (record {
-      given = refl;
-      once = looks.platforms;
-      looked_up = tt;
-      on_way = looks.on_way c.requires.normal;
-      leaves = leaves-refused _ _ _ _ c.args.rela_path.now c.args.stack.now c.move_stack_to_path.new.stack c.in_err-move_stack_to_path.field-0.0 (looks.stopped c.requires.normal);
-      reads = λ alone. omega (arith, looks.reads alone);
-    }))
-
-pub returns-clause-unmapped : goal.returns-clause-unmapped
-returns-clause-unmapped g c = λ none. c.in_ok-move_stack_to_path.ensures.looks_up.store_untouched (nothing-mapped (setup_of_stack c.args.stack.now) none)
-
-pub returns-in_err-move_stack_to_path-clause-unmapped : goal.returns-in_err-move_stack_to_path-clause-unmapped
-returns-in_err-move_stack_to_path-clause-unmapped g c = λ none. c.in_err-move_stack_to_path.ensures.looks_up.store_untouched (nothing-mapped (setup_of_stack c.args.stack.now) none)
-
 pub returns-clause-by_mappings : goal.returns-clause-by_mappings
 returns-clause-by_mappings g c = λ none. c.in_ok-move_stack_to_path.ensures.looks_up.untouched none
 
 pub returns-in_err-move_stack_to_path-clause-by_mappings : goal.returns-in_err-move_stack_to_path-clause-by_mappings
 returns-in_err-move_stack_to_path-clause-by_mappings g c = λ none. c.in_err-move_stack_to_path.ensures.looks_up.untouched none
 
-pub returns-in_err-move_stack_to_path-clause-stopped : goal.returns-in_err-move_stack_to_path-clause-stopped
-returns-in_err-move_stack_to_path-clause-stopped g c =
+pub returns-clause-asking : goal.returns-clause-asking
+returns-clause-asking g c =
+    let looks = c.in_ok-move_stack_to_path.ensures.looks_up in
+    record {
+      about = tt;
+      refused = λ s told. tt;
+      stopped = tt;
+      cause = tt;
+      keeps = search rules;
+      store = c.in_ok-move_stack_to_path.ensures.leaves_store;
+      unmapped = λ none. looks.store_untouched (nothing-mapped (setup_of_stack c.args.stack.now) none);
+      rules = search rules;
+      reads = inr (record {
+        given = refl;
+        once = looks.platforms;
+        looked_up = looks.looked_up;
+        on_way = on-way-looked c.move_stack_to_path.new.stack c.args.rela_path.now looks.looked_up;
+        leaves = leaves-answered _ _ c.args.rela_path.now c.args.stack.now c.move_stack_to_path.new.stack looks.carried;
+        reads = λ alone. omega (arith, looks.reads alone);
+      });
+    }
+
+pub returns-in_err-move_stack_to_path-clause-asking : goal.returns-in_err-move_stack_to_path-clause-asking
+returns-in_err-move_stack_to_path-clause-asking g c =
     let looks = c.in_err-move_stack_to_path.ensures.looks_up in
     let p = err_from_is_err_and c.from_residual.result c.from_residual.ensures.1 in
+    let cause = looks.refused c.requires.normal in
     rw (p.1, p.2)
-    (stopped-access
-    (StopsAtRefusedDirectoryIfGiven (g.W.Worktree.told c.args.worktree.now) (g.F.Find.holds c.args.objects.now) (CountIncreasedOrSaturated (g.W.Worktree.faults c.args.worktree.now) (g.W.Worktree.faults c.move_stack_to_path.new.worktree))
-    (CountIncreasedOrSaturated (g.F.Find.faults c.args.objects.now) (g.F.Find.faults c.move_stack_to_path.new.objects)) c.args.rela_path.now (Some c.args.stack.now) (Some c.move_stack_to_path.new.stack))
-    c.in_err-move_stack_to_path.field-0.0 (looks.stopped c.requires.normal))
-
-pub returns-in_err-move_stack_to_path-clause-about : goal.returns-in_err-move_stack_to_path-clause-about
-returns-in_err-move_stack_to_path-clause-about g c =
-    let refused = c.in_err-move_stack_to_path.ensures.looks_up.refused c.requires.normal in
-    search rules
-
-pub returns-in_err-move_stack_to_path-clause-refused : goal.returns-in_err-move_stack_to_path-clause-refused
-returns-in_err-move_stack_to_path-clause-refused g c = λ s told.
-    let refused = c.in_err-move_stack_to_path.ensures.looks_up.refused c.requires.normal in
-    search rules
-
-pub returns-clause-reads : goal.returns-clause-reads
-returns-clause-reads g c =
-    let looks = c.in_ok-move_stack_to_path.ensures.looks_up in
-    inr (record {
-      given = refl;
-      once = looks.platforms;
-      looked_up = looks.looked_up;
-      on_way = on-way-looked c.move_stack_to_path.new.stack c.args.rela_path.now looks.looked_up;
-      leaves = leaves-answered _ _ c.args.rela_path.now c.args.stack.now c.move_stack_to_path.new.stack looks.carried;
-      reads = λ alone. omega (arith, looks.reads alone);
+    (record {
+      about = search rules;
+      refused = λ s told. search rules;
+      stopped = stopped-access
+          (StopsAtRefusedDirectoryIfGiven (g.W.Worktree.told c.args.worktree.now) (g.F.Find.holds c.args.objects.now) (CountIncreasedOrSaturated (g.W.Worktree.faults c.args.worktree.now) (g.W.Worktree.faults c.move_stack_to_path.new.worktree))
+          (CountIncreasedOrSaturated (g.F.Find.faults c.args.objects.now) (g.F.Find.faults c.move_stack_to_path.new.objects)) c.args.rela_path.now (Some c.args.stack.now) (Some c.move_stack_to_path.new.stack))
+          c.in_err-move_stack_to_path.field-0.0 (looks.stopped c.requires.normal);
+      cause = search rules;
+      keeps = search rules;
+      store = c.in_err-move_stack_to_path.ensures.leaves_store;
+      unmapped = λ none. looks.store_untouched (nothing-mapped (setup_of_stack c.args.stack.now) none);
+      rules = search rules;
+      reads = inr (record {
+        given = refl;
+        once = looks.platforms;
+        looked_up = tt;
+        on_way = looks.on_way c.requires.normal;
+        leaves = leaves-refused _ _ _ _ c.args.rela_path.now c.args.stack.now c.move_stack_to_path.new.stack c.in_err-move_stack_to_path.field-0.0 (looks.stopped c.requires.normal);
+        reads = λ alone. omega (arith, looks.reads alone);
+      });
     })

@@ -50,27 +50,29 @@ returns-in_err-ruling g c = λ ask_disk.
       read = λ s tells step quiet. tt;
       swallowed = λ s tells step. tt;
       unruled = λ s told quiet no. tt;
-      about = asked.about;
-      refused = asked.refused;
+      asking = record {
+        about = asked.asking.about;
+        refused = asked.asking.refused;
+        stopped = asked.asking.stopped;
+        cause = asked.asking.cause;
+        keeps = asked.asking.keeps;
+        store = asked.asking.store;
+        unmapped = asked.asking.unmapped;
+        rules = asked.asking.rules;
+        reads = at-most-refused (most_reads_to_classify_path o) path _ _ _ _ _ _ e asked.asking.reads;
+      };
       asked = λ s told.
-          asked-so _ _ (λ _. is_some o.for_deletion && (evidence_from_setting_and_sources given made s).is_ruled) (kind_on_disk_if_asked given s.tree path ask_disk) _ e asked.keeps.faults
-          (on-access-by made path _ (dot_git-asks o given made s on) e asked.about) asked.cause;
-      stopped = asked.stopped;
-      cause = asked.cause;
-      keeps = asked.keeps;
-      store = asked.store;
-      unmapped = asked.unmapped;
-      rules = asked.rules;
-      reads = at-most-refused (most_reads_to_classify_path o) path _ _ _ _ _ _ e asked.reads;
-      unsought = λ s tells step quiet no. at-most-refused 0 path _ _ _ _ _ _ e asked.reads;
+          asked-so _ _ (λ _. is_some o.for_deletion && (evidence_from_setting_and_sources given made s).is_ruled) (kind_on_disk_if_asked given s.tree path ask_disk) _ e asked.asking.keeps.faults
+          (on-access-by made path _ (dot_git-asks o given made s on) e asked.asking.about) asked.asking.cause;
+      unsought = λ s tells step quiet no. at-most-refused 0 path _ _ _ _ _ _ e asked.asking.reads;
       sought = tt;
-      early = on-access _ (at-most-refused 0 path _ _ _ _ _ _ e asked.reads) e;
+      early = on-access _ (at-most-refused 0 path _ _ _ _ _ _ e asked.asking.reads) e;
       spared = λ s never.
           let kept = asked.untouched (dot_git-none o given made s on (never None)) in
           record { same = kept.rules; store = kept.store; reads = read-not (most_reads_to_classify_path o) (ap g.W.Worktree.reads kept.worktree) };
       memory = λ s never.
           let off = dot_git-none o given made s on (never None) in
-          on-access-by made path ⊥ (λ some. absurd (let no = sym some ∙ off in cc no)) e asked.about;
+          on-access-by made path ⊥ (λ some. absurd (let no = sym some ∙ off in cc no)) e asked.asking.about;
       unasked = λ s told quiet no.
           let kept = asked.untouched (dot_git-none o given made s on no) in
           record { same = kept.rules; store = kept.store; reads = read-not (most_reads_to_classify_path o) (ap g.W.Worktree.reads kept.worktree) };
@@ -95,7 +97,7 @@ returns g c = λ ask_disk.
       read = λ s tells step quiet. dot_git-read o given made s path (asked.read s tells step);
       swallowed = λ s tells step. let ev = evidence_from_setting_and_sources given made s in
           classed-as-judged _ _ (question_about_dot_git o path c.args.disk_kind ask_disk) ev (kind_on_disk_if_asked given s.tree path ask_disk) result
-          (judged-unread _ _ (λ _ read. outcome_of_dot_git o read path c.args.disk_kind (ruling_of_dot_git o read path c.args.disk_kind)) ev (kind_on_disk_if_asked given s.tree path ask_disk) result asked.keeps.faults
+          (judged-unread _ _ (λ _ read. outcome_of_dot_git o read path c.args.disk_kind (ruling_of_dot_git o read path c.args.disk_kind)) ev (kind_on_disk_if_asked given s.tree path ask_disk) result asked.asking.keeps.faults
           (c.outcome_of_dot_git-2.ensures made s ∙ dot_git-asked o given made s path c.args.disk_kind c.in_ok-ruling.ruling c.is_dir-is_dir.result on c.is_dir-is_dir.ensures (asked.ruling s tells step)))
           (λ kind. dot_git-read o given made s path (asked.read s tells step))
           (λ kind no.
@@ -105,18 +107,20 @@ returns g c = λ ask_disk.
           c.outcome_of_dot_git-2.ensures made s
           ∙ ap (outcome_of_dot_git o (evidence_from_setting_and_sources given made s) path c.args.disk_kind) (asked.no_rules (dot_git-none o given made s on no))
           ∙ dot_git-unruled o (evidence_from_setting_and_sources given made s) path c.args.disk_kind no;
-      about = tt;
-      refused = λ s tells. tt;
+      asking = record {
+        about = tt;
+        refused = λ s tells. tt;
+        stopped = tt;
+        cause = tt;
+        keeps = asked.asking.keeps;
+        store = asked.asking.store;
+        unmapped = asked.asking.unmapped;
+        rules = asked.asking.rules;
+        reads = at-most (most_reads_to_classify_path o) path _ _ _ _ _ _ _ c.in_ok-ruling.ruling result (read-not (most_reads_to_classify_path o) refl) asked.asking.reads;
+      };
       asked = λ s told. tt;
-      stopped = tt;
-      cause = tt;
-      keeps = asked.keeps;
-      store = asked.store;
-      unmapped = asked.unmapped;
-      rules = asked.rules;
-      reads = at-most (most_reads_to_classify_path o) path _ _ _ _ _ _ _ c.in_ok-ruling.ruling result (read-not (most_reads_to_classify_path o) refl) asked.reads;
-      unsought = λ s tells step quiet no. at-most 0 path _ _ _ _ _ _ _ c.in_ok-ruling.ruling result (read-not 0 refl) asked.reads;
-      sought = λ no. at-most 0 path _ _ _ _ _ _ _ c.in_ok-ruling.ruling result (read-not 0 refl) asked.reads;
+      unsought = λ s tells step quiet no. at-most 0 path _ _ _ _ _ _ _ c.in_ok-ruling.ruling result (read-not 0 refl) asked.asking.reads;
+      sought = λ no. at-most 0 path _ _ _ _ _ _ _ c.in_ok-ruling.ruling result (read-not 0 refl) asked.asking.reads;
       early = tt;
       spared = λ s never.
           let kept = asked.untouched (dot_git-none o given made s on (never None)) in

@@ -78,38 +78,40 @@ returns g c = λ ask_disk.
     let then = c.in_ok-class-2.ensures in
     record {
       class = λ s tells step quiet.
-          then.class s (first.keeps.tree ∙ tells.tree_is) (quiet-second _ _ _ first.keeps.faults then.keeps.faults quiet) made
-          ∙ ap (λ (r : Ruling). outcome_of_unindexed_path o (evidence_from_setting_and_sources given made s) path kind r) (first.ruling s tells step (quiet-first _ _ _ first.keeps.faults then.keeps.faults quiet))
+          then.class s (first.asking.keeps.tree ∙ tells.tree_is) (quiet-second _ _ _ first.asking.keeps.faults then.keeps.faults quiet) made
+          ∙ ap (λ (r : Ruling). outcome_of_unindexed_path o (evidence_from_setting_and_sources given made s) path kind r) (first.ruling s tells step (quiet-first _ _ _ first.asking.keeps.faults then.keeps.faults quiet))
           ∙ unindexed-case o (evidence_from_setting_and_sources given made s) path kind none (indexed-as given made s path c.args.entry kind false c.requires.entry not_indexed);
       read = λ s tells step quiet. read-case given made s path kind none not_found (first.read s tells step);
       swallowed = λ s tells step. let od = kind_on_disk_if_asked given s.tree path ask_disk in
           classed-as-judged _ _ (question_about_known_kind o path kind ask_disk) (evidence_from_setting_and_sources given made s) od c.in_ok-class-2.class
           (judged-unindexed _ _ _ o (evidence_from_setting_and_sources given made s) path kind od c.in_ok-ruling.ruling c.in_ok-class-2.class none
-          (indexed-as given made s path c.args.entry kind false c.requires.entry not_indexed) (first.swallowed s tells step) (then.swallowed s (first.keeps.tree ∙ tells.tree_is) made od))
+          (indexed-as given made s path c.args.entry kind false c.requires.entry not_indexed) (first.swallowed s tells step) (then.swallowed s (first.asking.keeps.tree ∙ tells.tree_is) made od))
           (λ d. read-case given made s path kind none not_found (first.read s tells step))
           (λ d no.
           let kept = first.untouched (none-asked given made s path kind none not_found no) in
           record { same = kept.rules; store = kept.store; reads = read-then (most_reads_to_classify_path o) then.reads_most (ap g.W.Worktree.reads kept.worktree) });
       unruled = λ s told quiet no.
           let off = none-asked given made s path kind none not_found no in
-          then.class s (first.keeps.tree ∙ told) (quiet-second _ _ _ first.keeps.faults then.keeps.faults quiet) made
+          then.class s (first.asking.keeps.tree ∙ told) (quiet-second _ _ _ first.asking.keeps.faults then.keeps.faults quiet) made
           ∙ ap (λ (r : Ruling). outcome_of_unindexed_path o (evidence_from_setting_and_sources given made s) path kind r) (first.no_rules off ∙ ruling-none given made s path kind off)
           ∙ unindexed-case o (evidence_from_setting_and_sources given made s) path kind none (indexed-as given made s path c.args.entry kind false c.requires.entry not_indexed);
-      about = tt;
-      refused = λ s tells. tt;
+      asking = record {
+        about = tt;
+        refused = λ s tells. tt;
+        stopped = tt;
+        cause = tt;
+        keeps = asks-then g.W.Worktree c.args.worktree.now c.ruling_unless_worktree_root.new.worktree c.classify_unindexed_path.new.worktree first.asking.keeps then.keeps;
+        store = first.asking.store;
+        unmapped = first.asking.unmapped;
+        rules = record { made = first.asking.rules.made; in_step = first.asking.rules.in_step };
+        reads = at-most (most_reads_to_classify_path o) path _ _ _ _ _ _ _ c.in_ok-ruling.ruling c.in_ok-class-2.class then.reads_most first.asking.reads;
+      };
       asked = λ s told. tt;
-      stopped = tt;
-      cause = tt;
-      keeps = asks-then g.W.Worktree c.args.worktree.now c.ruling_unless_worktree_root.new.worktree c.classify_unindexed_path.new.worktree first.keeps then.keeps;
-      store = first.store;
-      unmapped = first.unmapped;
-      rules = record { made = first.rules.made; in_step = first.rules.in_step };
-      reads = at-most (most_reads_to_classify_path o) path _ _ _ _ _ _ _ c.in_ok-ruling.ruling c.in_ok-class-2.class then.reads_most first.reads;
       unsought = λ s tells step quiet no.
           let idle = idle-unindexed-sought o (evidence_from_setting_and_sources given made s) path kind c.in_ok-ruling.ruling none
-          (indexed-as given made s path c.args.entry kind false c.requires.entry not_indexed) (first.ruling s tells step (quiet-first _ _ _ first.keeps.faults then.keeps.faults quiet)) no in
-          at-most 0 path _ _ _ _ _ _ _ c.in_ok-ruling.ruling c.in_ok-class-2.class (read-not 0 (ap g.W.Worktree.reads (then.unasked idle))) first.reads;
-      sought = λ no. at-most 0 path _ _ _ _ _ _ _ c.in_ok-ruling.ruling c.in_ok-class-2.class (read-not 0 (ap g.W.Worktree.reads (then.sought no))) first.reads;
+          (indexed-as given made s path c.args.entry kind false c.requires.entry not_indexed) (first.ruling s tells step (quiet-first _ _ _ first.asking.keeps.faults then.keeps.faults quiet)) no in
+          at-most 0 path _ _ _ _ _ _ _ c.in_ok-ruling.ruling c.in_ok-class-2.class (read-not 0 (ap g.W.Worktree.reads (then.unasked idle))) first.asking.reads;
+      sought = λ no. at-most 0 path _ _ _ _ _ _ _ c.in_ok-ruling.ruling c.in_ok-class-2.class (read-not 0 (ap g.W.Worktree.reads (then.sought no))) first.asking.reads;
       early = tt;
       spared = λ s never.
           let kept = first.untouched (none-asked given made s path kind none not_found (never None)) in
@@ -156,21 +158,23 @@ returns-in_err-ruling g c = λ ask_disk.
       read = λ s tells step quiet. tt;
       swallowed = λ s tells step. tt;
       unruled = λ s told quiet no. tt;
-      about = first.about;
-      refused = first.refused;
+      asking = record {
+        about = first.asking.about;
+        refused = first.asking.refused;
+        stopped = first.asking.stopped;
+        cause = first.asking.cause;
+        keeps = first.asking.keeps;
+        store = first.asking.store;
+        unmapped = first.asking.unmapped;
+        rules = first.asking.rules;
+        reads = at-most-refused (most_reads_to_classify_path o) path _ _ _ _ _ _ e first.asking.reads;
+      };
       asked = λ s told.
-          asked-so _ _ (λ _. asks_rules_with_known_kind o (evidence_from_setting_and_sources given made s) path kind) (kind_on_disk_if_asked given s.tree path ask_disk) _ e first.keeps.faults
-          (OnAccess-weaker _ _ e (asks-unindexed given made s path kind none not_found) first.asked) first.cause;
-      stopped = first.stopped;
-      cause = first.cause;
-      keeps = first.keeps;
-      store = first.store;
-      unmapped = first.unmapped;
-      rules = first.rules;
-      reads = at-most-refused (most_reads_to_classify_path o) path _ _ _ _ _ _ e first.reads;
-      unsought = λ s tells step quiet no. at-most-refused 0 path _ _ _ _ _ _ e first.reads;
+          asked-so _ _ (λ _. asks_rules_with_known_kind o (evidence_from_setting_and_sources given made s) path kind) (kind_on_disk_if_asked given s.tree path ask_disk) _ e first.asking.keeps.faults
+          (OnAccess-weaker _ _ e (asks-unindexed given made s path kind none not_found) first.asked) first.asking.cause;
+      unsought = λ s tells step quiet no. at-most-refused 0 path _ _ _ _ _ _ e first.asking.reads;
       sought = tt;
-      early = on-access _ (at-most-refused 0 path _ _ _ _ _ _ e first.reads) e;
+      early = on-access _ (at-most-refused 0 path _ _ _ _ _ _ e first.asking.reads) e;
       spared = λ s never.
           let kept = first.untouched (none-asked given made s path kind none not_found (never None)) in
           record { same = kept.rules; store = kept.store; reads = read-not (most_reads_to_classify_path o) (ap g.W.Worktree.reads kept.worktree) };
@@ -203,23 +207,25 @@ returns-in_err-class-2 g c = λ ask_disk.
       read = search rules;
       swallowed = search rules;
       unruled = search rules;
-      about = search rules;
-      refused = search rules;
+      asking = record {
+        about = search rules;
+        refused = search rules;
+        stopped = search rules;
+        cause = search rules;
+        keeps = search rules;
+        store = search rules;
+        unmapped = search rules;
+        rules = search rules;
+        reads =
+            let p = err_from_is_err_and c.from_residual-in_err-class-2.result c.from_residual-in_err-class-2.ensures.1 in
+            rw (p.1, p.2) (at-most-stopped (most_reads_to_classify_path o) path _ _ _ _ _ _ _ c.in_ok-ruling.ruling _ then.reads_most first.asking.reads);
+      };
       asked = search rules;
-      stopped = search rules;
-      cause = search rules;
-      keeps = search rules;
-      store = search rules;
-      unmapped = search rules;
-      rules = search rules;
-      reads =
-          let p = err_from_is_err_and c.from_residual-in_err-class-2.result c.from_residual-in_err-class-2.ensures.1 in
-          rw (p.1, p.2) (at-most-stopped (most_reads_to_classify_path o) path _ _ _ _ _ _ _ c.in_ok-ruling.ruling _ then.reads_most first.reads);
       unsought = λ s tells step quiet no.
           let p = err_from_is_err_and c.from_residual-in_err-class-2.result c.from_residual-in_err-class-2.ensures.1 in
           let idle = idle-unindexed-sought o (evidence_from_setting_and_sources given made s) path kind c.in_ok-ruling.ruling none
-          (indexed-as given made s path c.args.entry kind false c.requires.entry not_indexed) (first.ruling s tells step (quiet-first _ _ _ first.keeps.faults then.keeps.faults quiet)) no in
-          rw (p.1, p.2) (at-most-stopped 0 path _ _ _ _ _ _ _ c.in_ok-ruling.ruling _ (read-not 0 (ap g.W.Worktree.reads (then.unasked idle))) first.reads);
+          (indexed-as given made s path c.args.entry kind false c.requires.entry not_indexed) (first.ruling s tells step (quiet-first _ _ _ first.asking.keeps.faults then.keeps.faults quiet)) no in
+          rw (p.1, p.2) (at-most-stopped 0 path _ _ _ _ _ _ _ c.in_ok-ruling.ruling _ (read-not 0 (ap g.W.Worktree.reads (then.unasked idle))) first.asking.reads);
       sought = search rules;
       early = search rules;
       spared = λ s never.

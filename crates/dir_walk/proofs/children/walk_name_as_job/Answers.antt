@@ -27,7 +27,7 @@ use Rattle.dir_walk.proofs.Walked.NameSteps.{told-deep, told-entered, told-uncla
 use Rattle.dir_walk.proofs.children.walk_name_as_job.Goals as goal
 
 pub returns-then-delegate_enters_directory-clause-rules : goal.returns-then-delegate_enters_directory-clause-rules
-returns-then-delegate_enters_directory-clause-rules g c = KeepsRules-then c.classify_name_asking_disk.ensures.keeps.tree c.classify_name_asking_disk.ensures.store.holds c.classify_name_asking_disk.ensures.rules (rw c.walk_as_job-handed.ensures.rules KeepsRules-same)
+returns-then-delegate_enters_directory-clause-rules g c = KeepsRules-then c.classify_name_asking_disk.ensures.asking.keeps.tree c.classify_name_asking_disk.ensures.asking.store.holds c.classify_name_asking_disk.ensures.asking.rules (rw c.walk_as_job-handed.ensures.rules KeepsRules-same)
 
 pub returns-then-delegate_enters_directory-clause-told : goal.returns-then-delegate_enters_directory-clause-told
 returns-then-delegate_enters_directory-clause-told g c =
@@ -47,11 +47,11 @@ returns-clause-told g c =
           let given = setting_of_shared g.M.Matcher a.shared.now in let ev = evidence_from_setting_and_sources given made s in let q = path_joined_with_slash a.place.now.path a.name.now in
           let p = c.push.new.self.path in let at = ap (λ (x : PlaceInWorktree). x.path) c.in_ok-cut.ensures.pushed in let k = c.in_ok-class.class in
           let asked : CountNotIncreased (w.faults a.parts.now.worktree.now) (w.faults c.classify_name_asking_disk.new.worktree) = omega (arith, quiet, c.outcome_of_unentered_path.ensures.worktree.faults) in
-          let here : CountNotIncreased (w.faults c.classify_name_asking_disk.new.worktree) (w.faults c.outcome_of_unentered_path.new.worktree) = omega (arith, quiet, c.classify_name_asking_disk.ensures.keeps.faults) in
+          let here : CountNotIncreased (w.faults c.classify_name_asking_disk.new.worktree) (w.faults c.outcome_of_unentered_path.new.worktree) = omega (arith, quiet, c.classify_name_asking_disk.ensures.asking.keeps.faults) in
           let is : k ≡ class o ev p None (kind_on_disk_if_asked given s.tree p true) = rw (c.path-path.ensures.path, stands.made_is) at (c.in_ok-class.ensures.class s (telling stands) stands.in_step asked) in
           let read : (asks_ignore_rules o ev p None (kind_on_disk_if_asked given s.tree p true) && ev.is_unread p) ≡ false = rw (c.path-path.ensures.path, stands.made_is) at (c.in_ok-class.ensures.read s (telling stands) stands.in_step asked) in
           let leaving : enters o k false ≡ false = sym (c.delegate_enters_directory.ensures.entered default) ∙ c.if-delegate_enters_directory.false in let z = c.in_ok-class-2.class in
-          let hides : z ≡ outcome_of_unentered_path o ev p k = c.in_ok-class-2.ensures.class made s (c.classify_name_asking_disk.ensures.keeps.tree ∙ stands.tree) here in
+          let hides : z ≡ outcome_of_unentered_path o ev p k = c.in_ok-class-2.ensures.class made s (c.classify_name_asking_disk.ensures.asking.keeps.tree ∙ stands.tree) here in
           IfOk-weaker c.hand_up_or_emit_leaf-handed.result _ _ (λ h closes. Gives-leaf given made s p k is q at _ _ limit _ _ h read leaving (Gives-put o limit ev p k z _ _ _ _ h hides closes))
           (rw (c.path-path.ensures.path, c.delegate_enters_directory.ensures.given) at c.hand_up_or_emit_leaf-handed.ensures.gives);
       part = λ made s stands quiet default.
@@ -59,10 +59,10 @@ returns-clause-told g c =
           let ev = evidence_from_setting_and_sources given made s in let q = path_joined_with_slash a.place.now.path a.name.now in let p = c.push.new.self.path in
           let at = ap (λ (x : PlaceInWorktree). x.path) c.in_ok-cut.ensures.pushed in let k = c.in_ok-class.class in
           let asked : CountNotIncreased (w.faults a.parts.now.worktree.now) (w.faults c.classify_name_asking_disk.new.worktree) = omega (arith, quiet, c.outcome_of_unentered_path.ensures.worktree.faults) in
-          let here : CountNotIncreased (w.faults c.classify_name_asking_disk.new.worktree) (w.faults c.outcome_of_unentered_path.new.worktree) = omega (arith, quiet, c.classify_name_asking_disk.ensures.keeps.faults) in
+          let here : CountNotIncreased (w.faults c.classify_name_asking_disk.new.worktree) (w.faults c.outcome_of_unentered_path.new.worktree) = omega (arith, quiet, c.classify_name_asking_disk.ensures.asking.keeps.faults) in
           let is : k ≡ class o ev p None (kind_on_disk_if_asked given s.tree p true) = rw (c.path-path.ensures.path, stands.made_is) at (c.in_ok-class.ensures.class s (telling stands) stands.in_step asked) in
           let leaving : enters o k false ≡ false = sym (c.delegate_enters_directory.ensures.entered default) ∙ c.if-delegate_enters_directory.false in let z = c.in_ok-class-2.class in
-          let hides : z ≡ outcome_of_unentered_path o ev p k = c.in_ok-class-2.ensures.class made s (c.classify_name_asking_disk.ensures.keeps.tree ∙ stands.tree) here in
+          let hides : z ≡ outcome_of_unentered_path o ev p k = c.in_ok-class-2.ensures.class made s (c.classify_name_asking_disk.ensures.asking.keeps.tree ∙ stands.tree) here in
           on_err_weaker c.hand_up_or_emit_leaf-handed.result (λ part. part-leaf given made s p k is q at _ _ _ _ leaving (part-put o ev p k z _ _ _ _ hides part))
           (rw (c.path-path.ensures.path, c.delegate_enters_directory.ensures.given) at c.hand_up_or_emit_leaf-handed.ensures.part);
       refused = λ made s stands default limit level. memory-only c.hand_up_or_emit_leaf-handed.result _ tt c.hand_up_or_emit_leaf-handed.ensures.memory;
@@ -75,12 +75,12 @@ returns-in_err-class-clause-walks g c =
           let a = c.args in let r = err_from_is_err_and c.from_residual-in_err-class.result c.from_residual-in_err-class.ensures.1 in
           let at = ap (λ (x : PlaceInWorktree). x.path) c.in_ok-cut.ensures.pushed in
           let near : count_components c.push.new.self.path ≤ limit + 1 = omega (arith, level, ap count_components at, depth_of-joined a.place.now.path a.name.now c.requires.name) in
-          rw (r.1, r.2) (IsAbout-class (setup_of_optional_stack a.parts.now.excludes.now) a.shared.now.worktree_root.now limit c.push.new.self.path _ c.path-path.ensures.normal near (rw c.path-path.ensures.path at c.in_err-class.ensures.about));
+          rw (r.1, r.2) (IsAbout-class (setup_of_optional_stack a.parts.now.excludes.now) a.shared.now.worktree_root.now limit c.push.new.self.path _ c.path-path.ensures.normal near (rw c.path-path.ensures.path at c.in_err-class.ensures.asking.about));
       found = λ s told.
           let a = c.args in let r = err_from_is_err_and c.from_residual-in_err-class.result c.from_residual-in_err-class.ensures.1 in
           let made = setup_of_optional_stack a.parts.now.excludes.now in
-          rw (r.1, r.2) (IsInTree-class a.shared.now.worktree_root.now (g.F.Find.holds a.parts.now.objects.now) s made c.push.new.self.path _ c.path-path.ensures.normal (rw c.path-path.ensures.path at c.in_err-class.ensures.about)
-          (λ known. rw c.path-path.ensures.path at (c.in_err-class.ensures.refused s (record { tree_is = told; objects_are = λ some. known }))));
+          rw (r.1, r.2) (IsInTree-class a.shared.now.worktree_root.now (g.F.Find.holds a.parts.now.objects.now) s made c.push.new.self.path _ c.path-path.ensures.normal (rw c.path-path.ensures.path at c.in_err-class.ensures.asking.about)
+          (λ known. rw c.path-path.ensures.path at (c.in_err-class.ensures.asking.refused s (record { tree_is = told; objects_are = λ some. known }))));
       caused = search rules;
       worktree = search rules;
       store = search rules;
@@ -131,12 +131,12 @@ pub returns-then-delegate_enters_directory-clause-walks : goal.returns-then-dele
 returns-then-delegate_enters_directory-clause-walks g c =
     let a = c.args in let at = ap (λ (x : PlaceInWorktree). x.path) c.in_ok-cut.ensures.pushed in
     any-entered (record { worktree = c.classify_name_asking_disk.new.worktree; objects = c.classify_name_asking_disk.new.objects; interrupt = a.parts.now.interrupt.now; delegate = c.delegate_enters_directory.new.delegate; rules = c.classify_name_asking_disk.new.excludes; outcome = a.parts.now.outcome.now })
-    (Before-classed c.classify_name_asking_disk.ensures.keeps c.classify_name_asking_disk.ensures.store c.classify_name_asking_disk.ensures.rules) c.delegate_enters_directory.ensures.default c.delegate_enters_directory.ensures.given c.delegate_enters_directory.ensures.breaks c.delegate_enters_directory.ensures.refusals at
+    (Before-classed c.classify_name_asking_disk.ensures.asking.keeps c.classify_name_asking_disk.ensures.asking.store c.classify_name_asking_disk.ensures.asking.rules) c.delegate_enters_directory.ensures.default c.delegate_enters_directory.ensures.given c.delegate_enters_directory.ensures.breaks c.delegate_enters_directory.ensures.refusals at
     (omega (arith, c.if-levels-eq0.false, ap count_components at, depth_of-joined a.place.now.path a.name.now c.requires.name)) c.walk_as_job-handed.ensures.job.walks
 
 pub returns-clause-walks : goal.returns-clause-walks
 returns-clause-walks g c =
-    any-leaf c.delegate_enters_directory.new.delegate c.hand_up_or_emit_leaf-handed.result (Before-then (Before-classed c.classify_name_asking_disk.ensures.keeps c.classify_name_asking_disk.ensures.store c.classify_name_asking_disk.ensures.rules) (Before-asked c.outcome_of_unentered_path.ensures.worktree))
+    any-leaf c.delegate_enters_directory.new.delegate c.hand_up_or_emit_leaf-handed.result (Before-then (Before-classed c.classify_name_asking_disk.ensures.asking.keeps c.classify_name_asking_disk.ensures.asking.store c.classify_name_asking_disk.ensures.asking.rules) (Before-asked c.outcome_of_unentered_path.ensures.worktree))
     c.delegate_enters_directory.ensures.default c.delegate_enters_directory.ensures.given c.delegate_enters_directory.ensures.breaks c.delegate_enters_directory.ensures.refusals c.hand_up_or_emit_leaf-handed.ensures.delegate c.hand_up_or_emit_leaf-handed.ensures.filtered c.hand_up_or_emit_leaf-handed.ensures.heeds
     (ap (λ (x : PlaceInWorktree). x.path) c.in_ok-cut.ensures.pushed) (rw c.path-path.ensures.path at c.hand_up_or_emit_leaf-handed.ensures.hands) c.hand_up_or_emit_leaf-handed.ensures.memory
 
@@ -147,7 +147,7 @@ returns-in_err-cut-clause-walks g c =
 pub returns-in_err-class-2-clause-walks : goal.returns-in_err-class-2-clause-walks
 returns-in_err-class-2-clause-walks g c =
     let r = err_from_is_err_and c.from_residual-in_err-class-2.result c.from_residual-in_err-class-2.ensures.1 in
-    rw (r.1, r.2) (any-memory (Before-then (Before-classed c.classify_name_asking_disk.ensures.keeps c.classify_name_asking_disk.ensures.store c.classify_name_asking_disk.ensures.rules) (Before-asked c.outcome_of_unentered_path.ensures.worktree)) c.delegate_enters_directory.ensures.default c.delegate_enters_directory.ensures.given c.delegate_enters_directory.ensures.breaks c.delegate_enters_directory.ensures.refusals)
+    rw (r.1, r.2) (any-memory (Before-then (Before-classed c.classify_name_asking_disk.ensures.asking.keeps c.classify_name_asking_disk.ensures.asking.store c.classify_name_asking_disk.ensures.asking.rules) (Before-asked c.outcome_of_unentered_path.ensures.worktree)) c.delegate_enters_directory.ensures.default c.delegate_enters_directory.ensures.given c.delegate_enters_directory.ensures.breaks c.delegate_enters_directory.ensures.refusals)
 
 pub returns-in_err-cut-clause-opens : goal.returns-in_err-cut-clause-opens
 returns-in_err-cut-clause-opens g c =
@@ -156,10 +156,10 @@ returns-in_err-cut-clause-opens g c =
 pub returns-in_err-class-clause-opens : goal.returns-in_err-class-clause-opens
 returns-in_err-class-clause-opens g c =
     let r = err_from_is_err_and c.from_residual-in_err-class.result c.from_residual-in_err-class.ensures.1 in
-    rw (r.1, r.2) (apart-none (λ made s stands quiet default. omega arith) c.classify_name_asking_disk.ensures.keeps.lists refl (omega (arith, shallow-class _ _ c.in_err-class.field-0.0 c.in_err-class.ensures.about)))
+    rw (r.1, r.2) (apart-none (λ made s stands quiet default. omega arith) c.classify_name_asking_disk.ensures.asking.keeps.lists refl (omega (arith, shallow-class _ _ c.in_err-class.field-0.0 c.in_err-class.ensures.asking.about)))
 
 pub returns-then-levels-eq0-clause-opens : goal.returns-then-levels-eq0-clause-opens
-returns-then-levels-eq0-clause-opens g c = apart-none (λ made s stands quiet default. omega arith) c.classify_name_asking_disk.ensures.keeps.lists refl c.too_deep_or_interrupted_error.ensures.asked
+returns-then-levels-eq0-clause-opens g c = apart-none (λ made s stands quiet default. omega arith) c.classify_name_asking_disk.ensures.asking.keeps.lists refl c.too_deep_or_interrupted_error.ensures.asked
 
 pub returns-then-delegate_enters_directory-clause-opens : goal.returns-then-delegate_enters_directory-clause-opens
 returns-then-delegate_enters_directory-clause-opens g c =
@@ -169,9 +169,9 @@ returns-then-delegate_enters_directory-clause-opens g c =
     apart-job
     (λ n below made s stands quiet default.
     let asked : CountNotIncreased (w.faults a.parts.now.worktree.now) (w.faults c.classify_name_asking_disk.new.worktree) = omega (arith, quiet, c.walk_as_job-handed.ensures.job.walks.worktree.faults) in
-    let here : CountNotIncreased (w.faults c.classify_name_asking_disk.new.worktree) (w.faults c.walk_as_job-handed.new.parts.worktree.now) = omega (arith, quiet, c.classify_name_asking_disk.ensures.keeps.faults) in
+    let here : CountNotIncreased (w.faults c.classify_name_asking_disk.new.worktree) (w.faults c.walk_as_job-handed.new.parts.worktree.now) = omega (arith, quiet, c.classify_name_asking_disk.ensures.asking.keeps.faults) in
     let is : k ≡ class o (evidence_from_setting_and_sources given made s) p None (kind_on_disk_if_asked given s.tree p true) = rw (c.path-path.ensures.path, stands.made_is) at (c.in_ok-class.ensures.class s (telling stands) stands.in_step asked) in
-    let now = Stands-later given c.classify_name_asking_disk.new.excludes c.classify_name_asking_disk.ensures.keeps.tree c.classify_name_asking_disk.ensures.store.holds c.classify_name_asking_disk.ensures.rules.made c.classify_name_asking_disk.ensures.rules.in_step stands in
+    let now = Stands-later given c.classify_name_asking_disk.new.excludes c.classify_name_asking_disk.ensures.asking.keeps.tree c.classify_name_asking_disk.ensures.asking.store.holds c.classify_name_asking_disk.ensures.asking.rules.made c.classify_name_asking_disk.ensures.asking.rules.in_step stands in
     let some : is_empty p ≡ false = ap is_empty path ∙ joined-some d a.name.now c.requires.name in
     let into : enters o k false ≡ true = sym (c.delegate_enters_directory.ensures.entered default) ∙ c.if-delegate_enters_directory.true in
     let most = below made s now here (c.delegate_enters_directory.ensures.default ∙ default) in
@@ -179,16 +179,16 @@ returns-then-delegate_enters_directory-clause-opens g c =
     let deeper : (a.levels - 1) + count_components p ≡ limit = omega (arith, c.if-levels-eq0.false, ap count_components path, depth_of-joined d a.name.now c.requires.name) in
     let same = ap {B = ℕ} (λ (l : ℕ). count_paths_within_depth l (walk_result_of_directory_over_sources given made s p k).entered) deeper in
     omega (arith, most, same, entered-directory given made s p k is limit q path some into))
-    c.walk_as_job-handed.ensures.job.opens (c.walk_as_job-handed.ensures.lists ∙ c.classify_name_asking_disk.ensures.keeps.lists)
+    c.walk_as_job-handed.ensures.job.opens (c.walk_as_job-handed.ensures.lists ∙ c.classify_name_asking_disk.ensures.asking.keeps.lists)
 
 pub returns-in_err-class-2-clause-opens : goal.returns-in_err-class-2-clause-opens
 returns-in_err-class-2-clause-opens g c =
     let r = err_from_is_err_and c.from_residual-in_err-class-2.result c.from_residual-in_err-class-2.ensures.1 in
-    rw (r.1, r.2) (apart-none (λ made s stands quiet default. omega arith) (c.outcome_of_unentered_path.ensures.worktree.lists ∙ c.classify_name_asking_disk.ensures.keeps.lists) refl (omega arith))
+    rw (r.1, r.2) (apart-none (λ made s stands quiet default. omega arith) (c.outcome_of_unentered_path.ensures.worktree.lists ∙ c.classify_name_asking_disk.ensures.asking.keeps.lists) refl (omega arith))
 
 pub returns-clause-opens : goal.returns-clause-opens
 returns-clause-opens g c =
-    apart-none (λ made s stands quiet default. omega arith) (c.outcome_of_unentered_path.ensures.worktree.lists ∙ c.classify_name_asking_disk.ensures.keeps.lists) c.hand_up_or_emit_leaf-handed.ensures.entered
+    apart-none (λ made s stands quiet default. omega arith) (c.outcome_of_unentered_path.ensures.worktree.lists ∙ c.classify_name_asking_disk.ensures.asking.keeps.lists) c.hand_up_or_emit_leaf-handed.ensures.entered
     (omega (arith, shallow-memory c.hand_up_or_emit_leaf-handed.result c.hand_up_or_emit_leaf-handed.ensures.memory))
 
 pub truncate_to_directory_if_ok-requires : goal.truncate_to_directory_if_ok-requires

@@ -28,7 +28,7 @@ invariant-loop-name g l =
       same : KeepsPartReferences l.fn.parts l.parts;
       worktree : KeepsWorktree w l.fn.parts.worktree.now l.parts.worktree.now;
       store : KeepsStoredObjects f l.fn.parts.objects.now l.parts.objects.now;
-      rules : KeepsRulesInStep w f l.fn.parts.worktree.now l.parts.worktree.now l.fn.parts.objects.now l.fn.parts.excludes.now l.parts.excludes.now;
+      rules : KeepsRulesInStep w f l.fn.parts.worktree.now l.fn.parts.objects.now l.fn.parts.excludes.now l.parts.excludes.now;
       interrupt : AsksInterruptPerRaise i l.fn.parts.interrupt.now l.parts.interrupt.now;
       opens : OpensDirectoriesMostlyOverForks w i l.fn.parts.worktree.now l.parts.worktree.now l.fn.parts.interrupt.now l.parts.interrupt.now l.fn.parts.outcome.now l.parts.outcome.now 1 0
           (EntersSoFar w f d l.fn.parts.worktree.now l.parts.worktree.now l.fn.parts.objects.now l.fn.parts.excludes.now l.fn.parts.delegate.now given l.blocked (l.levels + count_components l.fn.place.path) l.fn.place.path (take l.name-index l.name-items));

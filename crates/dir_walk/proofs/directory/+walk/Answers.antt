@@ -230,11 +230,11 @@ walk_name_in_directory-returns-clause-told g t c =
           let given = setting_of_shared g.M.Matcher a.shared.now in let ev = evidence_from_setting_and_sources given made s in let q = path_joined_with_slash a.place.now.path a.name.now in
           let p = c.push.new.self.path in let at = ap (λ (x : PlaceInWorktree). x.path) c.in_ok-cut.ensures.pushed in let k = c.in_ok-class.class in
           let asked : CountNotIncreased (w.faults a.parts.now.worktree.now) (w.faults c.classify_name_asking_disk.new.worktree) = omega (arith, quiet, c.outcome_of_unentered_path.ensures.worktree.faults) in
-          let here : CountNotIncreased (w.faults c.classify_name_asking_disk.new.worktree) (w.faults c.outcome_of_unentered_path.new.worktree) = omega (arith, quiet, c.classify_name_asking_disk.ensures.keeps.faults) in
+          let here : CountNotIncreased (w.faults c.classify_name_asking_disk.new.worktree) (w.faults c.outcome_of_unentered_path.new.worktree) = omega (arith, quiet, c.classify_name_asking_disk.ensures.asking.keeps.faults) in
           let is : k ≡ class o ev p None (kind_on_disk_if_asked given s.tree p true) = rw (c.path-path.ensures.path, stands.made_is) at (c.in_ok-class.ensures.class s (telling stands) stands.in_step asked) in
           let read : (asks_ignore_rules o ev p None (kind_on_disk_if_asked given s.tree p true) && ev.is_unread p) ≡ false = rw (c.path-path.ensures.path, stands.made_is) at (c.in_ok-class.ensures.read s (telling stands) stands.in_step asked) in
           let leaving : enters o k false ≡ false = sym (c.delegate_enters_directory.ensures.entered default) ∙ c.if-delegate_enters_directory.false in let z = c.in_ok-class-2.class in
-          let hides : z ≡ outcome_of_unentered_path o ev p k = c.in_ok-class-2.ensures.class made s (c.classify_name_asking_disk.ensures.keeps.tree ∙ stands.tree) here in
+          let hides : z ≡ outcome_of_unentered_path o ev p k = c.in_ok-class-2.ensures.class made s (c.classify_name_asking_disk.ensures.asking.keeps.tree ∙ stands.tree) here in
           IfOk-weaker c.hand_up_or_emit_leaf-handed.result _ _ (λ h closes. Gives-leaf given made s p k is q at _ _ limit _ _ h read leaving (Gives-put o limit ev p k z _ _ _ _ h hides closes))
           (rw (c.path-path.ensures.path, c.delegate_enters_directory.ensures.given) at c.hand_up_or_emit_leaf-handed.ensures.gives);
       part = λ made s stands quiet default.
@@ -242,10 +242,10 @@ walk_name_in_directory-returns-clause-told g t c =
           let ev = evidence_from_setting_and_sources given made s in let q = path_joined_with_slash a.place.now.path a.name.now in let p = c.push.new.self.path in
           let at = ap (λ (x : PlaceInWorktree). x.path) c.in_ok-cut.ensures.pushed in let k = c.in_ok-class.class in
           let asked : CountNotIncreased (w.faults a.parts.now.worktree.now) (w.faults c.classify_name_asking_disk.new.worktree) = omega (arith, quiet, c.outcome_of_unentered_path.ensures.worktree.faults) in
-          let here : CountNotIncreased (w.faults c.classify_name_asking_disk.new.worktree) (w.faults c.outcome_of_unentered_path.new.worktree) = omega (arith, quiet, c.classify_name_asking_disk.ensures.keeps.faults) in
+          let here : CountNotIncreased (w.faults c.classify_name_asking_disk.new.worktree) (w.faults c.outcome_of_unentered_path.new.worktree) = omega (arith, quiet, c.classify_name_asking_disk.ensures.asking.keeps.faults) in
           let is : k ≡ class o ev p None (kind_on_disk_if_asked given s.tree p true) = rw (c.path-path.ensures.path, stands.made_is) at (c.in_ok-class.ensures.class s (telling stands) stands.in_step asked) in
           let leaving : enters o k false ≡ false = sym (c.delegate_enters_directory.ensures.entered default) ∙ c.if-delegate_enters_directory.false in let z = c.in_ok-class-2.class in
-          let hides : z ≡ outcome_of_unentered_path o ev p k = c.in_ok-class-2.ensures.class made s (c.classify_name_asking_disk.ensures.keeps.tree ∙ stands.tree) here in
+          let hides : z ≡ outcome_of_unentered_path o ev p k = c.in_ok-class-2.ensures.class made s (c.classify_name_asking_disk.ensures.asking.keeps.tree ∙ stands.tree) here in
           on_err_weaker c.hand_up_or_emit_leaf-handed.result (λ part. part-leaf given made s p k is q at _ _ _ _ leaving (part-put o ev p k z _ _ _ _ hides part))
           (rw (c.path-path.ensures.path, c.delegate_enters_directory.ensures.given) at c.hand_up_or_emit_leaf-handed.ensures.part);
       refused = λ made s stands default limit level. memory-only c.hand_up_or_emit_leaf-handed.result _ tt c.hand_up_or_emit_leaf-handed.ensures.memory;
@@ -283,12 +283,12 @@ walk_name_in_directory-returns-in_err-class-clause-walks g t c =
           let a = c.args in let r = err_from_is_err_and c.from_residual-in_err-class.result c.from_residual-in_err-class.ensures.1 in
           let at = ap (λ (x : PlaceInWorktree). x.path) c.in_ok-cut.ensures.pushed in
           let near : count_components c.push.new.self.path ≤ limit + 1 = omega (arith, level, ap count_components at, depth_of-joined a.place.now.path a.name.now c.requires.name) in
-          rw (r.1, r.2) (IsAbout-class (setup_of_optional_stack a.parts.now.excludes.now) a.shared.now.worktree_root.now limit c.push.new.self.path _ c.path-path.ensures.normal near (rw c.path-path.ensures.path at c.in_err-class.ensures.about));
+          rw (r.1, r.2) (IsAbout-class (setup_of_optional_stack a.parts.now.excludes.now) a.shared.now.worktree_root.now limit c.push.new.self.path _ c.path-path.ensures.normal near (rw c.path-path.ensures.path at c.in_err-class.ensures.asking.about));
       found = λ s told.
           let a = c.args in let r = err_from_is_err_and c.from_residual-in_err-class.result c.from_residual-in_err-class.ensures.1 in
           let made = setup_of_optional_stack a.parts.now.excludes.now in
-          rw (r.1, r.2) (IsInTree-class a.shared.now.worktree_root.now (g.F.Find.holds a.parts.now.objects.now) s made c.push.new.self.path _ c.path-path.ensures.normal (rw c.path-path.ensures.path at c.in_err-class.ensures.about)
-          (λ known. rw c.path-path.ensures.path at (c.in_err-class.ensures.refused s (record { tree_is = told; objects_are = λ some. known }))));
+          rw (r.1, r.2) (IsInTree-class a.shared.now.worktree_root.now (g.F.Find.holds a.parts.now.objects.now) s made c.push.new.self.path _ c.path-path.ensures.normal (rw c.path-path.ensures.path at c.in_err-class.ensures.asking.about)
+          (λ known. rw c.path-path.ensures.path at (c.in_err-class.ensures.asking.refused s (record { tree_is = told; objects_are = λ some. known }))));
       caused = search rules;
       worktree = search rules;
       store = search rules;
@@ -339,12 +339,12 @@ pub walk_name_in_directory-returns-then-delegate_enters_directory-clause-walks :
 walk_name_in_directory-returns-then-delegate_enters_directory-clause-walks g t c =
     let a = c.args in let at = ap (λ (x : PlaceInWorktree). x.path) c.in_ok-cut.ensures.pushed in
     any-entered (record { worktree = c.classify_name_asking_disk.new.worktree; objects = c.classify_name_asking_disk.new.objects; interrupt = a.parts.now.interrupt.now; delegate = c.delegate_enters_directory.new.delegate; rules = c.classify_name_asking_disk.new.excludes; outcome = a.parts.now.outcome.now })
-    (Before-classed c.classify_name_asking_disk.ensures.keeps c.classify_name_asking_disk.ensures.store c.classify_name_asking_disk.ensures.rules) c.delegate_enters_directory.ensures.default c.delegate_enters_directory.ensures.given c.delegate_enters_directory.ensures.breaks c.delegate_enters_directory.ensures.refusals at
+    (Before-classed c.classify_name_asking_disk.ensures.asking.keeps c.classify_name_asking_disk.ensures.asking.store c.classify_name_asking_disk.ensures.asking.rules) c.delegate_enters_directory.ensures.default c.delegate_enters_directory.ensures.given c.delegate_enters_directory.ensures.breaks c.delegate_enters_directory.ensures.refusals at
     (omega (arith, c.if-levels-eq0.false, ap count_components at, depth_of-joined a.place.now.path a.name.now c.requires.name)) c.walk_directory-handed.ensures.walks
 
 pub walk_name_in_directory-returns-clause-walks : goal.walk_name_in_directory-returns-clause-walks
 walk_name_in_directory-returns-clause-walks g t c =
-    any-leaf c.delegate_enters_directory.new.delegate c.hand_up_or_emit_leaf-handed.result (Before-then (Before-classed c.classify_name_asking_disk.ensures.keeps c.classify_name_asking_disk.ensures.store c.classify_name_asking_disk.ensures.rules) (Before-asked c.outcome_of_unentered_path.ensures.worktree))
+    any-leaf c.delegate_enters_directory.new.delegate c.hand_up_or_emit_leaf-handed.result (Before-then (Before-classed c.classify_name_asking_disk.ensures.asking.keeps c.classify_name_asking_disk.ensures.asking.store c.classify_name_asking_disk.ensures.asking.rules) (Before-asked c.outcome_of_unentered_path.ensures.worktree))
     c.delegate_enters_directory.ensures.default c.delegate_enters_directory.ensures.given c.delegate_enters_directory.ensures.breaks c.delegate_enters_directory.ensures.refusals c.hand_up_or_emit_leaf-handed.ensures.delegate c.hand_up_or_emit_leaf-handed.ensures.filtered c.hand_up_or_emit_leaf-handed.ensures.heeds
     (ap (λ (x : PlaceInWorktree). x.path) c.in_ok-cut.ensures.pushed) (rw c.path-path.ensures.path at c.hand_up_or_emit_leaf-handed.ensures.hands) c.hand_up_or_emit_leaf-handed.ensures.memory
 
@@ -395,14 +395,14 @@ walk_name_in_directory-returns-in_err-cut-clause-opens g t c =
 pub walk_name_in_directory-returns-in_err-class-clause-opens : goal.walk_name_in_directory-returns-in_err-class-clause-opens
 walk_name_in_directory-returns-in_err-class-clause-opens g t c =
     let path = ap (λ (x : PlaceInWorktree). x.path) c.in_ok-cut.ensures.pushed in let r = err_from_is_err_and c.from_residual-in_err-class.result c.from_residual-in_err-class.ensures.1 in
-    rw (r.1, r.2) (opens-least (λ n none made s stands quiet default. omega (arith, none)) (shallow-class _ _ c.in_err-class.field-0.0 c.in_err-class.ensures.about)
-    (opens-class c.args.place.now.path c.args.name.now c.requires.name c.classify_name_asking_disk.ensures.keeps.lists (rw (c.path-path.ensures.path, path) at c.in_err-class.ensures.reads)))
+    rw (r.1, r.2) (opens-least (λ n none made s stands quiet default. omega (arith, none)) (shallow-class _ _ c.in_err-class.field-0.0 c.in_err-class.ensures.asking.about)
+    (opens-class c.args.place.now.path c.args.name.now c.requires.name c.classify_name_asking_disk.ensures.asking.keeps.lists (rw (c.path-path.ensures.path, path) at c.in_err-class.ensures.asking.reads)))
 
 pub walk_name_in_directory-returns-then-levels-eq0-clause-opens : goal.walk_name_in_directory-returns-then-levels-eq0-clause-opens
 walk_name_in_directory-returns-then-levels-eq0-clause-opens g t c =
     let path = ap (λ (x : PlaceInWorktree). x.path) c.in_ok-cut.ensures.pushed in
     opens-still (λ n none made s stands quiet default. omega (arith, none))
-    (opens-class c.args.place.now.path c.args.name.now c.requires.name c.classify_name_asking_disk.ensures.keeps.lists (rw (c.path-path.ensures.path, path) at c.in_ok-class.ensures.reads)) refl refl c.too_deep_or_interrupted_error.ensures.asked (λ on. refl)
+    (opens-class c.args.place.now.path c.args.name.now c.requires.name c.classify_name_asking_disk.ensures.asking.keeps.lists (rw (c.path-path.ensures.path, path) at c.in_ok-class.ensures.asking.reads)) refl refl c.too_deep_or_interrupted_error.ensures.asked (λ on. refl)
 
 pub walk_name_in_directory-returns-then-delegate_enters_directory-clause-opens : goal.walk_name_in_directory-returns-then-delegate_enters_directory-clause-opens
 walk_name_in_directory-returns-then-delegate_enters_directory-clause-opens g t c =
@@ -411,9 +411,9 @@ walk_name_in_directory-returns-then-delegate_enters_directory-clause-opens g t c
     opens-then
     (λ m n none below made s stands quiet default.
     let asked : CountNotIncreased (w.faults a.parts.now.worktree.now) (w.faults c.classify_name_asking_disk.new.worktree) = omega (arith, quiet, c.walk_directory-handed.ensures.walks.worktree.faults) in
-    let here : CountNotIncreased (w.faults c.classify_name_asking_disk.new.worktree) (w.faults c.walk_directory-handed.new.parts.worktree.now) = omega (arith, quiet, c.classify_name_asking_disk.ensures.keeps.faults) in
+    let here : CountNotIncreased (w.faults c.classify_name_asking_disk.new.worktree) (w.faults c.walk_directory-handed.new.parts.worktree.now) = omega (arith, quiet, c.classify_name_asking_disk.ensures.asking.keeps.faults) in
     let is : k ≡ class o (evidence_from_setting_and_sources given made s) p None (kind_on_disk_if_asked given s.tree p true) = rw (c.path-path.ensures.path, stands.made_is) at (c.in_ok-class.ensures.class s (telling stands) stands.in_step asked) in
-    let now = Stands-later given c.classify_name_asking_disk.new.excludes c.classify_name_asking_disk.ensures.keeps.tree c.classify_name_asking_disk.ensures.store.holds c.classify_name_asking_disk.ensures.rules.made c.classify_name_asking_disk.ensures.rules.in_step stands in
+    let now = Stands-later given c.classify_name_asking_disk.new.excludes c.classify_name_asking_disk.ensures.asking.keeps.tree c.classify_name_asking_disk.ensures.asking.store.holds c.classify_name_asking_disk.ensures.asking.rules.made c.classify_name_asking_disk.ensures.asking.rules.in_step stands in
     let some : is_empty p ≡ false = ap is_empty path ∙ joined-some d a.name.now c.requires.name in
     let into : enters o k false ≡ true = sym (c.delegate_enters_directory.ensures.entered default) ∙ c.if-delegate_enters_directory.true in
     let most = below made s now here (c.delegate_enters_directory.ensures.default ∙ default) in
@@ -421,8 +421,8 @@ walk_name_in_directory-returns-then-delegate_enters_directory-clause-opens g t c
     let deeper : (a.levels - 1) + count_components p ≡ limit = omega (arith, c.if-levels-eq0.false, ap count_components path, depth_of-joined d a.name.now c.requires.name) in
     let same = ap {B = ℕ} (λ (l : ℕ). count_paths_within_depth l (walk_result_of_directory_over_sources given made s p k).entered) deeper in
     omega (arith, none, most, same, entered-directory given made s p k is limit q path some into))
-    c.classify_name_asking_disk.ensures.rules.made (omega arith)
-    (opens-class d a.name.now c.requires.name c.classify_name_asking_disk.ensures.keeps.lists (rw (c.path-path.ensures.path, path) at c.in_ok-class.ensures.reads))
+    c.classify_name_asking_disk.ensures.asking.rules.made (omega arith)
+    (opens-class d a.name.now c.requires.name c.classify_name_asking_disk.ensures.asking.keeps.lists (rw (c.path-path.ensures.path, path) at c.in_ok-class.ensures.asking.reads))
     (opens-below d a.name.now p c.requires.name path c.walk_directory-handed.ensures.opens)
 
 pub walk_name_in_directory-returns-in_err-class-2-clause-opens : goal.walk_name_in_directory-returns-in_err-class-2-clause-opens
@@ -430,13 +430,13 @@ walk_name_in_directory-returns-in_err-class-2-clause-opens g t c =
     let path = ap (λ (x : PlaceInWorktree). x.path) c.in_ok-cut.ensures.pushed in let o = walk_options_of c.args.shared.now.options in
     let r = err_from_is_err_and c.from_residual-in_err-class-2.result c.from_residual-in_err-class-2.ensures.1 in
     rw (r.1, r.2) (opens-still (λ n none made s stands quiet default. omega (arith, none))
-    (opens-class c.args.place.now.path c.args.name.now c.requires.name c.classify_name_asking_disk.ensures.keeps.lists (rw (c.path-path.ensures.path, path) at c.in_ok-class.ensures.reads)) c.outcome_of_unentered_path.ensures.worktree.lists refl (omega arith) (λ on. c.outcome_of_unentered_path.ensures.reads (hides-none o on)))
+    (opens-class c.args.place.now.path c.args.name.now c.requires.name c.classify_name_asking_disk.ensures.asking.keeps.lists (rw (c.path-path.ensures.path, path) at c.in_ok-class.ensures.asking.reads)) c.outcome_of_unentered_path.ensures.worktree.lists refl (omega arith) (λ on. c.outcome_of_unentered_path.ensures.reads (hides-none o on)))
 
 pub walk_name_in_directory-returns-clause-opens : goal.walk_name_in_directory-returns-clause-opens
 walk_name_in_directory-returns-clause-opens g t c =
     let path = ap (λ (x : PlaceInWorktree). x.path) c.in_ok-cut.ensures.pushed in let o = walk_options_of c.args.shared.now.options in
     opens-still (λ n none made s stands quiet default. omega (arith, none))
-    (opens-class c.args.place.now.path c.args.name.now c.requires.name c.classify_name_asking_disk.ensures.keeps.lists (rw (c.path-path.ensures.path, path) at c.in_ok-class.ensures.reads)) c.outcome_of_unentered_path.ensures.worktree.lists c.hand_up_or_emit_leaf-handed.ensures.entered (omega (arith, shallow-memory c.hand_up_or_emit_leaf-handed.result c.hand_up_or_emit_leaf-handed.ensures.memory))
+    (opens-class c.args.place.now.path c.args.name.now c.requires.name c.classify_name_asking_disk.ensures.asking.keeps.lists (rw (c.path-path.ensures.path, path) at c.in_ok-class.ensures.asking.reads)) c.outcome_of_unentered_path.ensures.worktree.lists c.hand_up_or_emit_leaf-handed.ensures.entered (omega (arith, shallow-memory c.hand_up_or_emit_leaf-handed.result c.hand_up_or_emit_leaf-handed.ensures.memory))
     (λ on. c.outcome_of_unentered_path.ensures.reads (hides-none o on))
 
 pub walk_name_in_directory-returns-in_err-cut-clause-walks : goal.walk_name_in_directory-returns-in_err-cut-clause-walks
@@ -446,10 +446,10 @@ walk_name_in_directory-returns-in_err-cut-clause-walks g t c =
 pub walk_name_in_directory-returns-in_err-class-2-clause-walks : goal.walk_name_in_directory-returns-in_err-class-2-clause-walks
 walk_name_in_directory-returns-in_err-class-2-clause-walks g t c =
     let r = err_from_is_err_and c.from_residual-in_err-class-2.result c.from_residual-in_err-class-2.ensures.1 in
-    rw (r.1, r.2) (any-memory (Before-then (Before-classed c.classify_name_asking_disk.ensures.keeps c.classify_name_asking_disk.ensures.store c.classify_name_asking_disk.ensures.rules) (Before-asked c.outcome_of_unentered_path.ensures.worktree)) c.delegate_enters_directory.ensures.default c.delegate_enters_directory.ensures.given c.delegate_enters_directory.ensures.breaks c.delegate_enters_directory.ensures.refusals)
+    rw (r.1, r.2) (any-memory (Before-then (Before-classed c.classify_name_asking_disk.ensures.asking.keeps c.classify_name_asking_disk.ensures.asking.store c.classify_name_asking_disk.ensures.asking.rules) (Before-asked c.outcome_of_unentered_path.ensures.worktree)) c.delegate_enters_directory.ensures.default c.delegate_enters_directory.ensures.given c.delegate_enters_directory.ensures.breaks c.delegate_enters_directory.ensures.refusals)
 
 pub walk_name_in_directory-returns-then-delegate_enters_directory-clause-rules : goal.walk_name_in_directory-returns-then-delegate_enters_directory-clause-rules
-walk_name_in_directory-returns-then-delegate_enters_directory-clause-rules g t c = KeepsRules-then c.classify_name_asking_disk.ensures.keeps.tree c.classify_name_asking_disk.ensures.store.holds c.classify_name_asking_disk.ensures.rules c.walk_directory-handed.ensures.rules
+walk_name_in_directory-returns-then-delegate_enters_directory-clause-rules g t c = KeepsRules-then c.classify_name_asking_disk.ensures.asking.keeps.tree c.classify_name_asking_disk.ensures.asking.store.holds c.classify_name_asking_disk.ensures.asking.rules c.walk_directory-handed.ensures.rules
 
 pub walk_directory-returns-in_err-handed-clause-unmapped : goal.walk_directory-returns-in_err-handed-clause-unmapped
 walk_directory-returns-in_err-handed-clause-unmapped g t c = let kept = c.loop-name.invariant in unmapped-then c.args.parts.now.excludes.now c.loop-name.parts.excludes.now kept.rules.made kept.unmapped c.walk_name_in_directory.ensures.unmapped
@@ -461,19 +461,19 @@ pub walk_directory-returns-clause-unmapped : goal.walk_directory-returns-clause-
 walk_directory-returns-clause-unmapped g t c = c.loop-name.invariant.unmapped
 
 pub walk_name_in_directory-returns-then-delegate_enters_directory-clause-unmapped : goal.walk_name_in_directory-returns-then-delegate_enters_directory-clause-unmapped
-walk_name_in_directory-returns-then-delegate_enters_directory-clause-unmapped g t c = unmapped-then c.args.parts.now.excludes.now c.classify_name_asking_disk.new.excludes c.classify_name_asking_disk.ensures.rules.made c.classify_name_asking_disk.ensures.unmapped c.walk_directory-handed.ensures.unmapped
+walk_name_in_directory-returns-then-delegate_enters_directory-clause-unmapped g t c = unmapped-then c.args.parts.now.excludes.now c.classify_name_asking_disk.new.excludes c.classify_name_asking_disk.ensures.asking.rules.made c.classify_name_asking_disk.ensures.asking.unmapped c.walk_directory-handed.ensures.unmapped
 
 pub walk_name_in_directory-returns-in_err-class-clause-unmapped : goal.walk_name_in_directory-returns-in_err-class-clause-unmapped
-walk_name_in_directory-returns-in_err-class-clause-unmapped g t c = c.classify_name_asking_disk.ensures.unmapped
+walk_name_in_directory-returns-in_err-class-clause-unmapped g t c = c.classify_name_asking_disk.ensures.asking.unmapped
 
 pub walk_name_in_directory-returns-then-levels-eq0-clause-unmapped : goal.walk_name_in_directory-returns-then-levels-eq0-clause-unmapped
-walk_name_in_directory-returns-then-levels-eq0-clause-unmapped g t c = c.classify_name_asking_disk.ensures.unmapped
+walk_name_in_directory-returns-then-levels-eq0-clause-unmapped g t c = c.classify_name_asking_disk.ensures.asking.unmapped
 
 pub walk_name_in_directory-returns-in_err-class-2-clause-unmapped : goal.walk_name_in_directory-returns-in_err-class-2-clause-unmapped
-walk_name_in_directory-returns-in_err-class-2-clause-unmapped g t c = c.classify_name_asking_disk.ensures.unmapped
+walk_name_in_directory-returns-in_err-class-2-clause-unmapped g t c = c.classify_name_asking_disk.ensures.asking.unmapped
 
 pub walk_name_in_directory-returns-clause-unmapped : goal.walk_name_in_directory-returns-clause-unmapped
-walk_name_in_directory-returns-clause-unmapped g t c = c.classify_name_asking_disk.ensures.unmapped
+walk_name_in_directory-returns-clause-unmapped g t c = c.classify_name_asking_disk.ensures.asking.unmapped
 
 pub walk_name_in_directory-truncate_to_directory_if_ok-requires : goal.walk_name_in_directory-truncate_to_directory_if_ok-requires
 walk_name_in_directory-truncate_to_directory_if_ok-requires g t c =

@@ -37,7 +37,7 @@ invariant-walk_directory-loop-name g l =
       worktree : KeepsWorktree w l.fn.parts.worktree.now l.parts.worktree.now;
       store : KeepsStoredObjects f l.fn.parts.objects.now l.parts.objects.now;
       unmapped : maps_rules_files_to_blobs (setup_of_optional_stack l.fn.parts.excludes.now) ≡ false → l.parts.objects.now ≡ l.fn.parts.objects.now;
-      rules : KeepsRulesInStep w f l.fn.parts.worktree.now l.parts.worktree.now l.fn.parts.objects.now l.fn.parts.excludes.now l.parts.excludes.now;
+      rules : KeepsRulesInStep w f l.fn.parts.worktree.now l.fn.parts.objects.now l.fn.parts.excludes.now l.parts.excludes.now;
       interrupt : AsksInterruptPerRaise i l.fn.parts.interrupt.now l.parts.interrupt.now;
       opens : OpensBoundedDirectories w i l.fn.parts.worktree.now l.parts.worktree.now l.fn.parts.interrupt.now l.parts.interrupt.now l.fn.parts.outcome.now l.parts.outcome.now (walk_options_of l.shared.options) l.fn.parts.excludes.now l.parts.excludes.now (components l.fn.place.path) 1 0 0
           (EntersSoFar w f d l.fn.parts.worktree.now l.parts.worktree.now l.fn.parts.objects.now l.fn.parts.excludes.now l.fn.parts.delegate.now given l.blocked (l.levels + count_components l.fn.place.path) l.fn.place.path (take l.name-index l.name-items));
