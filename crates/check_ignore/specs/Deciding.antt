@@ -84,8 +84,8 @@ excludes (Some rule) = not rule.is_negative
 abbrev pub is_top_or_unexcluded_directory : AskedPath → Option FoundRule → Bool
 is_top_or_unexcluded_directory a rule = a.names_directory && (is_empty a.path || not (excludes rule))
 
-abbrev pub refuse_top_or_unexcluded_directory : AskedPath → Option FoundRule → Result (Option FoundRule) Stop
-refuse_top_or_unexcluded_directory a rule = if is_top_or_unexcluded_directory a rule then Err (stops.Slash a.text) else Ok rule
+abbrev pub refuse_top_or_unexcluded_if_asked_as_directory : AskedPath → Option FoundRule → Result (Option FoundRule) Stop
+refuse_top_or_unexcluded_if_asked_as_directory a rule = if is_top_or_unexcluded_directory a rule then Err (stops.Slash a.text) else Ok rule
 
 -- that no rule excludes all
 abbrev pub everything_error_if_rule_place_given : AskedPath → Option RulePlace → Result Bool Stop
@@ -101,7 +101,7 @@ unfoldable pub deciding_rule_of_untracked_path : Names → List ℕ → List Ind
 deciding_rule_of_untracked_path t root index outer c a = do
   some ← refuse_outer_rule_excluding_top outer c a
   rule ← look_up_deciding_rule t (made root index outer c.ignore_case) a (is_asked_as_or_is_directory t root a)
-  refuse_top_or_unexcluded_directory a (rule_as_written_if_outer outer rule)
+  refuse_top_or_unexcluded_if_asked_as_directory a (rule_as_written_if_outer outer rule)
 
 -- no rule decides about what the index has
 abbrev pub deciding_rule_unless_tracked : Names → List ℕ → List IndexEntry → OuterRules → Checking → AskedPath → Result (Option FoundRule) Stop

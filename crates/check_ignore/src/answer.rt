@@ -120,7 +120,7 @@ fn combined_answer_of_asked_paths<W: Worktree>(
 ///
 /// - `SparseIndex`: an entry of the index stands for all that is beneath a directory.
 /// - `Empty`: a path has no bytes.
-/// - Of the first path of which one holds: `SignatureAndPath`: it begins with a colon; `Elsewhere`:
+/// - Of the first path of which one holds: `Magic`: it begins with a colon; `Elsewhere`:
 ///   it is absolute, and does not begin with that of the top; `Prefix`: it and `prefix` have bytes
 ///   with a meaning of their own in a pattern; `Outside`: it leads out of the work tree; `Beyond`:
 ///   a symbolic link stands above it.

@@ -54,12 +54,12 @@ fn is_top_or_unexcluded_directory(asked: &AskedPath, rule: &Option<FoundRule>) -
 }
 
 /// The rule, unless they would.
-fn refuse_top_or_unexcluded_directory(
+fn refuse_top_or_unexcluded_if_asked_as_directory(
     alloc: Global,
     asked: &AskedPath,
     rule: Option<FoundRule>,
 ) -> Result<Option<FoundRule>, Stop>
-    ensures { AnswersUnlessOutOfMemory result (words.refuse_top_or_unexcluded_directory asked.now
+    ensures { AnswersUnlessOutOfMemory result (words.refuse_top_or_unexcluded_if_asked_as_directory asked.now
         rule) }
 {
     if is_top_or_unexcluded_directory(asked, &rule) {
@@ -130,7 +130,7 @@ fn deciding_rule_of_untracked_path<W: Worktree>(
         alloc, worktree, root, index, outer, folds, asked, is_dir,
     )?;
     let rule = rule_as_written_if_outer(alloc, outer, rule)?;
-    refuse_top_or_unexcluded_directory(alloc, asked, rule)
+    refuse_top_or_unexcluded_if_asked_as_directory(alloc, asked, rule)
 }
 
 /// The rule that decides about a path.

@@ -18,8 +18,8 @@ abbrev pub styled_line_with_end : Style → List ℕ → List ℕ
 styled_line_with_end style text = line style text ++ line_end_byte style.end
 
 -- each line of a report, with its end
-abbrev pub restyle_each_line : Style → List ℕ → List ℕ
-restyle_each_line style text = flat_map (styled_line_with_end style) (lines_without_terminators text)
+abbrev pub rewrite_report_lines_in_style : Style → List ℕ → List ℕ
+rewrite_report_lines_in_style style text = flat_map (styled_line_with_end style) (lines_without_terminators text)
 
 -- the text needs no change: words, line feeds and no colours
 abbrev are_uncolored_words_with_line_feeds : Wording → LineEnd → Bool → Bool
@@ -28,12 +28,12 @@ are_uncolored_words_with_line_feeds Words Nul is_colored = false
 are_uncolored_words_with_line_feeds Letters end is_colored = false
 
 -- words, line feeds, and no colours
-abbrev pub is_uncolored_words_with_line_feeds : Style → Bool
-is_uncolored_words_with_line_feeds style = are_uncolored_words_with_line_feeds style.wording style.end style.is_colored
+abbrev pub style_leaves_report_text_unchanged : Style → Bool
+style_leaves_report_text_unchanged style = are_uncolored_words_with_line_feeds style.wording style.end style.is_colored
 
 -- the text of a report as it is where the style is plain, else each of its lines in the style
 abbrev pub restyle_report_text : Style → List ℕ → List ℕ
-restyle_report_text style text = if is_uncolored_words_with_line_feeds style then text else restyle_each_line style text
+restyle_report_text style text = if style_leaves_report_text_unchanged style then text else rewrite_report_lines_in_style style text
 
 -- a path of a plan with its end
 abbrev pub path_with_line_end : LineEnd → List ℕ → List ℕ

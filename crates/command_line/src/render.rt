@@ -23,8 +23,12 @@ fn append_styled_line_with_end(
 }
 
 /// Each line of a report in a style.
-fn restyle_each_line(alloc: Global, style: Style, text: &[u8]) -> Result<Bytes, OutOfMemory>
-    ensures { IfOk result (λ out. out ≡ rendered.restyle_each_line style text.now) }
+fn rewrite_report_lines_in_style(
+    alloc: Global,
+    style: Style,
+    text: &[u8],
+) -> Result<Bytes, OutOfMemory>
+    ensures { IfOk result (λ out. out ≡ rendered.rewrite_report_lines_in_style style text.now) }
 {
     let mut out = Vec::new(alloc);
     for line in text.lines() {
@@ -34,8 +38,8 @@ fn restyle_each_line(alloc: Global, style: Style, text: &[u8]) -> Result<Bytes, 
 }
 
 /// Whether a report stays as it is: words, line feeds, and no colours.
-fn is_uncolored_words_with_line_feeds(style: Style) -> bool
-    ensures { result ≡ rendered.is_uncolored_words_with_line_feeds style }
+fn style_leaves_report_text_unchanged(style: Style) -> bool
+    ensures { result ≡ rendered.style_leaves_report_text_unchanged style }
 {
     match style.wording {
         Wording::Words => match style.end {
@@ -56,10 +60,10 @@ fn is_uncolored_words_with_line_feeds(style: Style) -> bool
 pub fn restyle_report_text(alloc: Global, style: Style, text: &[u8]) -> Result<Bytes, OutOfMemory>
     ensures { IfOk result (λ out. out ≡ rendered.restyle_report_text style text.now) }
 {
-    if is_uncolored_words_with_line_feeds(style) {
+    if style_leaves_report_text_unchanged(style) {
         return Bytes::from_slice(alloc, text);
     }
-    restyle_each_line(alloc, style, text)
+    rewrite_report_lines_in_style(alloc, style, text)
 }
 
 /// Adds a path and the end of its line.

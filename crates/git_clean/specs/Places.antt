@@ -31,8 +31,8 @@ abbrev pub holds_dot_git_or_is_submodule : CleaningInputs → List ℕ → Bool
 holds_dot_git_or_is_submodule s d = is_text_in_list d s.guarded || is_submodule_index_kind (kinds s.index d).kind
 
 -- the directory that ends before a byte of a path is
-abbrev pub keeps_all_in_directory_ending_at : CleaningInputs → List ℕ → ℕ → Bool
-keeps_all_in_directory_ending_at s path at = is_slash (slice_index path at) && holds_dot_git_or_is_submodule s (take at path)
+abbrev pub is_kept_directory_before_slash_at : CleaningInputs → List ℕ → ℕ → Bool
+is_kept_directory_before_slash_at s path at = is_slash (slice_index path at) && holds_dot_git_or_is_submodule s (take at path)
 
 -- so is a path beneath one
 abbrev pub lies_in_kept_directory : CleaningInputs → List ℕ → Bool

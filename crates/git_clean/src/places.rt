@@ -35,7 +35,7 @@ fn holds_dot_git_or_is_submodule(
 }
 
 /// Whether the directory that ends before a byte of a path is kept.
-fn keeps_all_in_directory_ending_at(
+fn is_kept_directory_before_slash_at(
     alloc: Global,
     scene: &Scene<'_>,
     path: &[u8],
@@ -43,7 +43,7 @@ fn keeps_all_in_directory_ending_at(
 ) -> Result<bool, OutOfMemory>
     requires { at < length path.now }
     ensures { IfOk result (λ kept. kept
-        ≡ words.keeps_all_in_directory_ending_at (scene_in_specification scene.now) path.now at) }
+        ≡ words.is_kept_directory_before_slash_at (scene_in_specification scene.now) path.now at) }
 {
     if path[at] != b'/' {
         return Ok(false);
@@ -62,7 +62,7 @@ pub fn lies_in_kept_directory(
 {
     let mut at = 0;
     while at < path.len() {
-        if keeps_all_in_directory_ending_at(alloc, scene, path, at)? {
+        if is_kept_directory_before_slash_at(alloc, scene, path, at)? {
             return Ok(true);
         }
         at += 1;

@@ -5,7 +5,7 @@ use Rattle.gitbase_core.specs.Path.{is_empty_or_root_path, is_beneath_directory,
 use Rattle.gitbase_core.specs.Steps.{and_then}
 use Rattle.gitbase_core.specs.declared.entry.IndexEntry.{IndexEntry}
 use Rattle.worktree_fs.specs.Tree.{Names}
-use Rattle.git_setup.specs.Present.{exists_in_work_tree, has_skip_worktree_flag, is_sparse_directory_entry, entry_without_skip_flag, refuse_present_sparse_entry, file_entry_unskipped_if_present, seen, append_entries_unskipped_if_present, lies_beneath_known_absent_directory, is_known_present_directory, presence_of_directory, known_or_found_presence_of_directory, known_or_found_presence_of_parent, exists_unless_directory_absent, entry_unskipped_if_present, skipped_entry_unskipped_if_present, require_sparse_directory_absent, entry_unskipped_or_refused_if_present, entries_unskipped_with_cached_looks}
+use Rattle.git_setup.specs.Present.{exists_in_work_tree, has_skip_worktree_flag, is_sparse_directory_entry, entry_without_skip_flag, refuse_sparse_entry_if_present, file_entry_unskipped_if_present, seen, append_entries_unskipped_if_present, lies_beneath_known_absent_directory, is_known_present_directory, presence_of_directory, known_or_found_presence_of_directory, known_or_found_presence_of_parent, exists_unless_directory_absent, entry_unskipped_if_present, skipped_entry_unskipped_if_present, require_sparse_directory_absent, entry_unskipped_or_refused_if_present, entries_unskipped_with_cached_looks}
 use Rattle.git_setup.specs.declared.error.GitRefusal.{GitRefusal}
 use Rattle.git_setup.specs.declared.present.Looked.{Looked}
 use Rattle.git_setup.specs.declared.present.Seen.{Seen}
@@ -61,7 +61,7 @@ module _ (t : Names) (root : List ℕ) where
   unfolding entry_unskipped_or_refused_if_present skipped_entry_unskipped_if_present require_sparse_directory_absent
   agrees looks last e known = go (is_sparse_directory_entry e)
     where
-      for_directory : (present : Bool) → Agrees (and_then (λ (now : IndexEntry). Ok (record { entry = now; last = last })) (refuse_present_sparse_entry e present)) (refuse_present_sparse_entry e present)
+      for_directory : (present : Bool) → Agrees (and_then (λ (now : IndexEntry). Ok (record { entry = now; last = last })) (refuse_sparse_entry_if_present e present)) (refuse_sparse_entry_if_present e present)
       for_directory true = refl
       for_directory false = (refl, known)
 
@@ -73,7 +73,7 @@ module _ (t : Names) (root : List ℕ) where
 
       go : (directory : Bool)
           → Agrees (if directory then require_sparse_directory_absent t root last e else if looks && has_skip_worktree_flag e then Ok (skipped_entry_unskipped_if_present t root last e) else Ok (record { entry = e; last = last }))
-          (if directory then refuse_present_sparse_entry e (exists_in_work_tree t root (without_trailing_slash e.path)) else Ok (file_entry_unskipped_if_present t root looks e))
+          (if directory then refuse_sparse_entry_if_present e (exists_in_work_tree t root (without_trailing_slash e.path)) else Ok (file_entry_unskipped_if_present t root looks e))
       go true = for_directory (exists_in_work_tree t root (without_trailing_slash e.path))
       go false = for_file looks (has_skip_worktree_flag e)
 

@@ -31,8 +31,8 @@ abbrev pub entry_without_skip_flag : IndexEntry → IndexEntry
 entry_without_skip_flag e = record e { flags = flags_of_assumed_and_skipped (entry_has_flag assume_valid_flag e) false }
 
 -- an entry that stands for a directory: what the directory holds is known only where nothing is in its place
-abbrev pub refuse_present_sparse_entry : IndexEntry → Bool → Result IndexEntry GitRefusal
-refuse_present_sparse_entry e present = if present then Err (errors.SparseDirectory e.path) else Ok e
+abbrev pub refuse_sparse_entry_if_present : IndexEntry → Bool → Result IndexEntry GitRefusal
+refuse_sparse_entry_if_present e present = if present then Err (errors.SparseDirectory e.path) else Ok e
 
 -- another entry is not skipped where something is in its place, if the work tree is one that git looks through for such
 abbrev pub file_entry_unskipped_if_present : Names → List ℕ → Bool → IndexEntry → IndexEntry
@@ -40,7 +40,7 @@ file_entry_unskipped_if_present t root looks e = if looks && has_skip_worktree_f
 
 abbrev pub seen : Names → List ℕ → Bool → IndexEntry → Result IndexEntry GitRefusal
 seen t root looks e =
-    if is_sparse_directory_entry e then refuse_present_sparse_entry e (exists_in_work_tree t root (without_trailing_slash e.path)) else Ok (file_entry_unskipped_if_present t root looks e)
+    if is_sparse_directory_entry e then refuse_sparse_entry_if_present e (exists_in_work_tree t root (without_trailing_slash e.path)) else Ok (file_entry_unskipped_if_present t root looks e)
 
 -- some entries behind others, each as it is seen in the work tree, or the first that is refused
 abbrev pub append_entries_unskipped_if_present : Names → List ℕ → Bool → List IndexEntry → List IndexEntry → Result (List IndexEntry) GitRefusal
@@ -82,7 +82,7 @@ skipped_entry_unskipped_if_present t root last e =
     record { entry = entry_unskipped_if_present e (exists_unless_directory_absent t root now e.path); last = now }
 
 unfoldable pub require_sparse_directory_absent : Names → List ℕ → Option Looked → IndexEntry → Result Seen GitRefusal
-require_sparse_directory_absent t root last e = and_then (λ now. Ok (record { entry = now; last = last })) (refuse_present_sparse_entry e (exists_in_work_tree t root (without_trailing_slash e.path)))
+require_sparse_directory_absent t root last e = and_then (λ now. Ok (record { entry = now; last = last })) (refuse_sparse_entry_if_present e (exists_in_work_tree t root (without_trailing_slash e.path)))
 
 unfoldable pub entry_unskipped_or_refused_if_present : Names → List ℕ → Bool → Option Looked → IndexEntry → Result Seen GitRefusal
 entry_unskipped_or_refused_if_present t root looks last e =

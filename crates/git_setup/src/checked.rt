@@ -245,10 +245,10 @@ fn check_ignore_setup_from_parts<W: Worktree>(
     })
 }
 
-/// What paths of the work tree at these places, which [`crate::places_here`] answers, are checked
-/// by: the rules outside the work tree, each by the name that git prints; the entries of the index,
-/// each as it is seen in the work tree, or none where it is left aside; and what the configuration
-/// says of how letters compare and of how paths are written.
+/// What paths of the work tree at these places, which [`crate::find_repository_places`] answers,
+/// are checked by: the rules outside the work tree, each by the name that git prints; the entries of
+/// the index, each as it is seen in the work tree, or none where it is left aside; and what the
+/// configuration says of how letters compare and of how paths are written.
 ///
 /// # Errors
 ///
@@ -259,9 +259,9 @@ fn check_ignore_setup_from_parts<W: Worktree>(
 /// - `Files`: a configuration is not read, as [`git_config_files::read_stack`] says.
 /// - `Boolean`: `core.ignoreCase`, `core.sparseCheckout`, `sparse.expectFilesOutsideOfPatterns` or
 ///   `core.quotePath` is no boolean.
-/// - `SparseDirectory`, `IndexEntry`: as [`crate::setup_here`] has them.
+/// - `SparseDirectory`, `IndexEntry`: as [`crate::find_and_read_setup`] has them.
 /// - `Files`: a rules file that the configuration names is not read, as
-///   [`git_config_files::rules_files`] says.
+///   [`git_config_files::read_rules_outside_work_tree`] says.
 ///
 /// Besides, wherever it comes:
 ///

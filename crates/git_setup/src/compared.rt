@@ -51,11 +51,11 @@ fn repository_places_of_top<W: Worktree>(
 }
 
 /// The work tree around the current directory, and where its repository lies; the first step of
-/// [`crate::setup_here`].
+/// [`crate::find_and_read_setup`].
 ///
 /// # Errors
 ///
-/// - `Elsewhere`, `RootAndSetupPaths`, `Foreign`, `Files`, `Fault`, `OutOfMemory`: as that call has
+/// - `Elsewhere`, `Places`, `Foreign`, `Files`, `Fault`, `OutOfMemory`: as that call has
 ///   them.
 #[tactic(auto, unfolding(crate::specs::Compared::find_repository_places))]
 pub fn find_repository_places<W: Worktree, O: Owners>(
@@ -172,10 +172,11 @@ fn comparison_setup_of_index_and_settings(
 /// - `IndexNode`, `IndexFile`: what stands in the place of the index is no file, or is outside the
 ///   grammar of one.
 /// - `Files`: a configuration is not read, as [`git_config_files::read_stack`] says.
-/// - `Boolean`: a value of `text_without_leading_star` or `sparse` is no boolean, or none that is
+/// - `Boolean`: a value of `core` or `sparse` is no boolean, or none that is
 ///   known.
 /// - `Elsewhere`: `core.fsmonitor` is set, so that a program tells which files changed.
-/// - `OutsideRoot`, `PathSpec`, `OutsidePath`, `Prefix`: as [`crate::setup_here`] has them.
+/// - `OutsideRoot`, `PathSpec`, `OutsidePath`, `Prefix`: as [`crate::find_and_read_setup`] has
+///   them.
 /// - `IndexEntry`: an entry breaks a rule of [`gitbase_core::State`].
 ///
 /// Besides, wherever it comes:

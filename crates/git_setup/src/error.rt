@@ -7,7 +7,7 @@ use thiserror::Error;
 use worktree_fs::ReadError;
 
 /// Why no setup is found for the current directory: the first refusal, in the order of the steps of
-/// [`crate::setup_here`].
+/// [`crate::find_and_read_setup`].
 #[derive(Debug, Drop, PartialEq, Eq, Error)]
 pub enum GitRefusal {
     /// This variable of the environment points git elsewhere.

@@ -282,11 +282,11 @@ fn read_setup_at_top<W: Worktree>(
 /// The first refusal, in this order:
 ///
 /// - `Elsewhere`: a variable of the environment points git elsewhere.
-/// - `RootAndSetupPaths`: there is no work tree, as [`search_limits_of_surroundings`] and
+/// - `Places`: there is no work tree, as [`search_limits_of_surroundings`] and
 ///   [`find_work_tree_top`] say.
 /// - `Foreign`, `Files`: it is another user's, or a configuration that would say so is not read, as
 ///   [`require_trusted_top`] says.
-/// - `RootAndSetupPaths`: its repository is not read here, as [`places_of_work_tree_top`] says.
+/// - `Places`: its repository is not read here, as [`places_of_work_tree_top`] says.
 /// - `IndexNode`, `IndexFile`: what stands in the place of the index is no file, or is outside the
 ///   grammar of one.
 /// - `Files`: a configuration is not read, as [`git_config_files::read_stack`] says.
@@ -296,7 +296,7 @@ fn read_setup_at_top<W: Worktree>(
 ///   something is in its place.
 /// - `IndexEntry`: an entry breaks a rule of [`gitbase_core::State`].
 /// - `Files`: a rules file that the configuration names is not read, as
-///   [`git_config_files::rules_files`] says.
+///   [`git_config_files::read_rules_outside_work_tree`] says.
 /// - `OutsideRoot`: the current directory is not in the work tree, and paths are asked for, or the
 ///   directory is meant where none are.
 /// - `PathSpec`, `OutsidePath`, `Prefix`: the first path that is no path spec, leads out of the

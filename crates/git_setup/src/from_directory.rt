@@ -84,9 +84,9 @@ fn comparison_setup_with_parsed_pathspecs(
 
 /// What the work tree at these places and its index are compared by, as
 /// [`read_comparison_setup`](crate::read_comparison_setup) reads it: but each entry of the index is
-/// as it is seen in the work tree, as [`crate::setup_here`] has it; with each path spec by itself,
-/// and the current directory from the top. Where `prefers` says so, that directory is meant if
-/// there are no path specs, and if each excludes.
+/// as it is seen in the work tree, as [`crate::find_and_read_setup`] has it; with each path spec by
+/// itself, and the current directory from the top. Where `prefers` says so, that directory is meant
+/// if there are no path specs, and if each excludes.
 ///
 /// # Errors
 ///
@@ -97,7 +97,8 @@ fn comparison_setup_with_parsed_pathspecs(
 /// - `SparseDirectory`: an entry of the index stands for all that is beneath a directory, and
 ///   something is in its place.
 /// - `IndexEntry`: an entry breaks a rule of [`gitbase_core::State`].
-/// - `OutsideRoot`, `PathSpec`, `OutsidePath`, `Prefix`: as [`crate::setup_here`] has them.
+/// - `OutsideRoot`, `PathSpec`, `OutsidePath`, `Prefix`: as [`crate::find_and_read_setup`] has
+///   them.
 ///
 /// Besides, wherever it comes:
 ///

@@ -67,8 +67,11 @@ fn path_without_trailing_slash(path: &[u8]) -> &[u8]
 }
 
 /// An entry that stands for a directory, by whether something is in its place.
-fn refuse_present_sparse_entry(entry: IndexEntry, present: bool) -> Result<IndexEntry, GitRefusal>
-    ensures { result ≡ words.refuse_present_sparse_entry entry present }
+fn refuse_sparse_entry_if_present(
+    entry: IndexEntry,
+    present: bool,
+) -> Result<IndexEntry, GitRefusal>
+    ensures { result ≡ words.refuse_sparse_entry_if_present entry present }
 {
     if present {
         return Err(GitRefusal::SparseDirectory { path: entry.path });
@@ -230,7 +233,7 @@ fn require_sparse_directory_absent<W: Worktree>(
         root,
         path_without_trailing_slash(entry.path.as_bytes()),
     )?;
-    let entry = refuse_present_sparse_entry(entry, present)?;
+    let entry = refuse_sparse_entry_if_present(entry, present)?;
     Ok(Seen { entry, last })
 }
 

@@ -145,7 +145,7 @@ pub fn stat_and_mode_settings_unless_fsmonitor(
     read_stat_and_mode_settings(alloc, config)
 }
 
-/// Whether a key of `text_without_leading_star` has a value.
+/// Whether a key of `core` has a value.
 fn has_core_key(config: &File, key: &[u8]) -> bool
     ensures { result ≡ words.has_core_key key.now config.now.sections }
 {

@@ -135,8 +135,8 @@ shown_entries_after_path_or_unsupported s root o w l named specs shown last (e �
     else and_then (λ (change : PathChange). shown_entries_after_path_or_unsupported s root o w l named specs (shown ++ entry_signs_by_deduplication w l e change) (last_listed_path_after_entry last w l e change) entries details)
     (change_of_entry s root o w l named specs e d)
 
-abbrev pub shown_entries_by_query : TreeAndStats → ChangeQuery → List IndexEntry → List Detail → Result (List EntryAsKeptGoneOrModified) Unsupported
-shown_entries_by_query s q entries details = shown_entries_after_path_or_unsupported s q.root.now q.comparison.now q.standings q.listing.now q.named.now q.specs.now [] None entries details
+abbrev pub entries_as_kept_gone_or_modified : TreeAndStats → ChangeQuery → List IndexEntry → List Detail → Result (List EntryAsKeptGoneOrModified) Unsupported
+entries_as_kept_gone_or_modified s q entries details = shown_entries_after_path_or_unsupported s q.root.now q.comparison.now q.standings q.listing.now q.named.now q.specs.now [] None entries details
 
 -- what is shown of an entry is added, or the form that is not answered is refused; want of memory stands apart
 abbrev pub AddsSignsUnlessUnsupported : Standings → Listing → IndexEntry → Result PathChange Unsupported → List EntryAsKeptGoneOrModified → List EntryAsKeptGoneOrModified → Result PathChange ChangedError → Type 0
@@ -150,14 +150,14 @@ AddsSignsUnlessUnsupported w l e change old now (Err errors.OutOfMemory) = Unit 
 abbrev pub shown_line_if_specs_match : Listing → List ℕ → List PathSpec → EntryAsKeptGoneOrModified → List ℕ
 shown_line_if_specs_match l prefix specs shown = if do_specs_match_index_entry specs shown.entry then line_of_shown_entry l prefix shown else []
 
-abbrev pub place_of_shown_entry : EntryAsKeptGoneOrModified → PathWithDirectoryFlag
-place_of_shown_entry shown = place_of_index_entry shown.entry
+abbrev pub path_with_directory_flag_of_shown_entry : EntryAsKeptGoneOrModified → PathWithDirectoryFlag
+path_with_directory_flag_of_shown_entry shown = place_of_index_entry shown.entry
 
 abbrev pub text_of_shown_entries : Listing → List ℕ → List PathSpec → List EntryAsKeptGoneOrModified → List ℕ
 text_of_shown_entries l prefix specs shown = flat_map (shown_line_if_specs_match l prefix specs) shown
 
 abbrev pub unmatched_specs_text_for_shown : Listing → List NamedSpec → List EntryAsKeptGoneOrModified → List ℕ
-unmatched_specs_text_for_shown l named shown = if l.error_unmatch then unmatched_specs_message named (map place_of_shown_entry shown) else []
+unmatched_specs_text_for_shown l named shown = if l.error_unmatch then unmatched_specs_message named (map path_with_directory_flag_of_shown_entry shown) else []
 
 unfoldable pub output_and_errors_of_shown : Listing → List ℕ → List NamedSpec → List PathSpec → List EntryAsKeptGoneOrModified → Listed
 output_and_errors_of_shown l prefix named specs shown = record { out = text_of_shown_entries l prefix specs shown; err = unmatched_specs_text_for_shown l named shown }

@@ -168,7 +168,7 @@ fn last_listed_path_after_entry<'a>(
 }
 
 /// What is shown of entries, in their order.
-fn shown_entries_by_change<'a, W: Worktree, S: Stats>(
+fn read_entries_as_kept_gone_or_modified<'a, W: Worktree, S: Stats>(
     alloc: Global,
     worktree: &mut W,
     stats: &mut S,
@@ -177,11 +177,11 @@ fn shown_entries_by_change<'a, W: Worktree, S: Stats>(
     details: &[Detail],
 ) -> Result<Vec<Shown<'a>>, ChangedError>
     ensures gives { (o : TreeAndStats) → Tells (W.told worktree.old) (S.told stats.old) o
-        → IfOk result (λ shown. words.shown_entries_by_query o query.now entries.now details.now
+        → IfOk result (λ shown. words.entries_as_kept_gone_or_modified o query.now entries.now details.now
         ≡ Ok shown.items) }
     ensures refused { (o : TreeAndStats) → Tells (W.told worktree.old) (S.told stats.old) o
         → IfErr result (refusals.RefusesUnsupportedAsDefined
-        (words.shown_entries_by_query o query.now entries.now details.now)) }
+        (words.entries_as_kept_gone_or_modified o query.now entries.now details.now)) }
     ensures cause { IsErrOf result fault
         → CountsFaultInEither W.Worktree S.Stats worktree.old worktree.new stats.old stats.new }
     ensures unfaulted { refusals.HoldsUnlessFault result
@@ -271,8 +271,8 @@ fn text_of_shown_entries(
 }
 
 /// The path of an entry, and whether it is that of a directory.
-fn place_of_shown_entry<'a>(shown: &Shown<'a>) -> Place<'a>
-    ensures { result ≡ words.place_of_shown_entry shown.now }
+fn path_with_directory_flag_of_shown_entry<'a>(shown: &Shown<'a>) -> Place<'a>
+    ensures { result ≡ words.path_with_directory_flag_of_shown_entry shown.now }
 {
     place_of_index_entry(shown.entry())
 }
@@ -282,11 +282,11 @@ fn places_of_shown_entries<'a>(
     alloc: Global,
     shown: &[Shown<'a>],
 ) -> Result<Vec<Place<'a>>, OutOfMemory>
-    ensures { IfOk result (λ places. places.items ≡ map words.place_of_shown_entry shown.now) }
+    ensures { IfOk result (λ places. places.items ≡ map words.path_with_directory_flag_of_shown_entry shown.now) }
 {
     let mut places = Vec::new(alloc);
     for one in shown {
-        places.push(place_of_shown_entry(one))?;
+        places.push(path_with_directory_flag_of_shown_entry(one))?;
     }
     Ok(places)
 }
@@ -374,7 +374,9 @@ pub fn list_deleted_and_modified<W: Worktree, S: Stats>(
     if has_sparse_directory_mode(entries) {
         return Err(ChangedError::Unsupported(Unsupported::SparseIndex));
     }
-    let shown = shown_entries_by_change(alloc, worktree, stats, query, entries, details)?;
+    let shown = read_entries_as_kept_gone_or_modified(
+        alloc, worktree, stats, query, entries, details,
+    )?;
     Ok(output_and_errors_of_shown(
         alloc,
         query.listing,

@@ -6,7 +6,7 @@ ghost use Rattle.module_plan.specs.Lines.{word_of_step_kind, tab_and_escaped_byt
 use crate::step::{ModulePlan, Skipped, Step, StepKind, Why};
 use gitbase_core::{Bytes, OutOfMemory};
 use std::alloc::Global;
-use worktree_report::{append_path_escaped, append_path_escaped_in_word};
+use worktree_report::{append_path_escaped, append_path_hex_escaped};
 
 fn word_of_step_kind(kind: &StepKind) -> &'static [u8]
     ensures { result.now ≡ word_of_step_kind kind.now }
@@ -32,7 +32,7 @@ fn append_tab_and_escaped_name(text: &mut Vec<u8>, name: &[u8]) -> Result<(), Ou
     ensures { OnOk result (text.new.items ≡ text.old.items ++ tab_and_escaped_name name.now) }
 {
     text.push(b'\t')?;
-    append_path_escaped_in_word(text, name)
+    append_path_hex_escaped(text, name)
 }
 
 /// Adds the command, where one is to be run.

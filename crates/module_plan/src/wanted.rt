@@ -94,7 +94,7 @@ fn checked_path_of_submodule(
         modules.now.sections)) }
 {
     match modules.path(alloc, name) {
-        Ok(path) => require_safe_submodule_path(alloc, path),
+        Ok(path) => normalized_submodule_path_if_safe(alloc, path),
         Err(path::Error::Missing { .. }) => Err(Stop::LeaveOut(Why::BadPath)),
         Err(path::Error::Absolute { .. }) => Err(Stop::LeaveOut(Why::BadPath)),
         Err(path::Error::OutsideOfWorktree { .. }) => Err(Stop::LeaveOut(Why::BadPath)),
@@ -103,7 +103,7 @@ fn checked_path_of_submodule(
 }
 
 /// Where a path leads, if a submodule may stand there.
-fn require_safe_submodule_path(alloc: Global, path: &[u8]) -> Result<PathText, Stop>
+fn normalized_submodule_path_if_safe(alloc: Global, path: &[u8]) -> Result<PathText, Stop>
     ensures { IsResultUnlessMemory result (wanted.submodule_path_or_why (Ok path.now)) }
 {
     let Some(path) = PathText::from_bytes(alloc, path)?.normalize(alloc)? else {

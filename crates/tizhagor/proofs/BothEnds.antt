@@ -375,7 +375,7 @@ module _ {W I O D S E : Type 0} (w : WorktreeOf W) (i : InterruptOf I) (o : Owne
       ]
 
   pub refused : (answer : Result Reply HereRefusal) → AnswersWordsOfAnyCommand w i o d w0 w1 i0 i1 o0 o1 d0 d1 place words answer → EndsWithStatusAndStreams s e s0 s1 e0 e1 first answer status
-      → (t : Names) (owned : OwnershipByPath) (refusal : HereRefusal) → w.told w0 ≡ Some t → o.told o0 ≡ Some owned → output.IsWorkTreeNotFoundForWords t owned place words refusal
+      → (t : Names) (owned : OwnershipByPath) (refusal : HereRefusal) → w.told w0 ≡ Some t → o.told o0 ≡ Some owned → output.RefusesWordsBeforeSetupIsFound t owned place words refusal
       → CountNotIncreased (w.faults w0) (w.faults w1) → CountNotIncreased (o.faults o0) (o.faults o1) → SaysRefusalOrMemoryLine e e0 e1 first refusal status
   refused answer any ends t owned refusal tree owns known quiet owners_quiet =
       elim any [

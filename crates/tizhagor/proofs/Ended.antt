@@ -116,7 +116,7 @@ module _ {W I O S E : Type 0} (w : WorktreeOf W) (i : InterruptOf I) (o : Owners
       ]
 
   answer_none : (answer : Result Reply HereRefusal) → AnswersWordsWithoutStats w i o w0 w1 i0 i1 o0 o1 place words answer → (t : Names) (owned : OwnershipByPath) (e : HereRefusal)
-      → w.told w0 ≡ Some t → o.told o0 ≡ Some owned → output.IsWorkTreeNotFoundForWords t owned place words e → CountNotIncreased (w.faults w0) (w.faults w1) → CountNotIncreased (o.faults o0) (o.faults o1)
+      → w.told w0 ≡ Some t → o.told o0 ≡ Some owned → output.RefusesWordsBeforeSetupIsFound t owned place words e → CountNotIncreased (w.faults w0) (w.faults w1) → CountNotIncreased (o.faults o0) (o.faults o1)
       → IsRefusedAs e answer
   answer_none answer a t owned e told tells known quiet owners_quiet =
       elim a [
@@ -134,7 +134,7 @@ module _ {W I O S E : Type 0} (w : WorktreeOf W) (i : InterruptOf I) (o : Owners
       ]
 
   pub refused : (answer : Result Reply HereRefusal) → AnswersWordsWithoutStats w i o w0 w1 i0 i1 o0 o1 place words answer → EndsWithStatusAndStreams s e s0 s1 e0 e1 first answer status
-      → (t : Names) (owned : OwnershipByPath) (refusal : HereRefusal) → w.told w0 ≡ Some t → o.told o0 ≡ Some owned → output.IsWorkTreeNotFoundForWords t owned place words refusal
+      → (t : Names) (owned : OwnershipByPath) (refusal : HereRefusal) → w.told w0 ≡ Some t → o.told o0 ≡ Some owned → output.RefusesWordsBeforeSetupIsFound t owned place words refusal
       → CountNotIncreased (w.faults w0) (w.faults w1) → CountNotIncreased (o.faults o0) (o.faults o1) → SaysRefusalOrMemoryLine e e0 e1 first refusal status
   refused answer a ends t owned refusal told tells known quiet owners_quiet =
       told_refused refusal answer (answer_none answer a t owned refusal told tells known quiet owners_quiet) ends

@@ -101,11 +101,11 @@ found_checked_for_clean t owned current variables directory wants asked =
 -- ---- what is named by it
 
 -- repositories too, by how often `-f` stands; and the configuration says how bytes above 0x7f are written
-abbrev pub clean_options_with_configuration : Cleaning → Bool → Bool → Cleaning
-clean_options_with_configuration cleaning repositories quote_path = record cleaning { repositories = repositories; quote_path = quote_path }
+abbrev pub clean_options_with_repositories_and_quoting : Cleaning → Bool → Bool → Cleaning
+clean_options_with_repositories_and_quoting cleaning repositories quote_path = record cleaning { repositories = repositories; quote_path = quote_path }
 
 abbrev pub clean_options_for_found : CleanAsked → Found → Cleaning
-clean_options_for_found wants here = clean_options_with_configuration (clean_options_of_request wants) (is_force_given_twice_counting_config wants.force (has_require_force_false here)) here.quote_path
+clean_options_for_found wants here = clean_options_with_repositories_and_quoting (clean_options_of_request wants) (is_force_given_twice_counting_config wants.force (has_require_force_false here)) here.quote_path
 
 -- the setup with the patterns before all other rules, and the whole of the work tree to look at
 abbrev pub whole_tree_setup_with_rules : List ℕ → Setup → Setup

@@ -127,7 +127,7 @@ IsWorkTreeNotFoundForTask t owned place directory e (both_of word stat asked) = 
 IsWorkTreeNotFoundForTask t owned place directory e (offer_of text) = ⊥
 
 -- No word is wrong, and no root and no setup is found for what they ask for.
-pub record IsWorkTreeNotFoundForWords (t : Names) (owned : OwnershipByPath) (place : CallEnvironment) (words : List (List ℕ)) (e : HereRefusal) : Type 0 where
+pub record RefusesWordsBeforeSetupIsFound (t : Names) (owned : OwnershipByPath) (place : CallEnvironment) (words : List (List ℕ)) (e : HereRefusal) : Type 0 where
   pub directory : Option (List ℕ)
   pub command : Command
   pub words_are : parse_request_words words ≡ asks directory command

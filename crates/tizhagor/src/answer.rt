@@ -32,7 +32,7 @@ use crate::found::request_with_call_options;
 use crate::refusal::HereRefusal;
 use crate::reply::{Reply, plain_reply_or_here_refusal};
 use crate::texts::find_setup_and_make_call_text;
-use crate::written::{Writing, result_with_formatted_text};
+use crate::written::{Writing, format_text_of_answer};
 use command_line::{
     CheckAsked, CleanAsked, Command, Comparing, FilesAsked, Topic, help_text_of_topic,
     parse_request_words, style_for_output, version_line,
@@ -78,7 +78,7 @@ fn find_setup_and_make_call_bytes<W: CountsFaults, O: Owners, I: Interrupt>(
     let answer = find_setup_and_make_call_text(
         alloc, worktree, owners, interrupt, here, call, &asked,
     );
-    result_with_formatted_text(alloc, writing, answer)
+    format_text_of_answer(alloc, writing, answer)
 }
 
 /// What is said of a call, or why nothing is.
@@ -308,7 +308,7 @@ fn parse_and_answer_words<W: CountsFaults, O: Owners, D: Stats, I: Interrupt>(
 /// The words are `[-C DIR] report|plan|modules|state|ls-files|clean|diff-files|check-ignore
 /// [OPTION..] [--] [PATH..]`, `--help` or `--version`, as [`parse_request_words`] reads them. The
 /// work tree is the one around the directory, and the setup the one that its repository gives, as
-/// [`git_setup::setup_here`] finds them.
+/// [`git_setup::find_and_read_setup`] finds them.
 ///
 /// | status | where |
 /// |---|---|
@@ -399,7 +399,7 @@ pub fn answer_words_to_streams<W: NamesFault, O: Owners, D: Stats, I: Interrupt,
     // And the other way: where no work tree and no setup is found over them, and no fault was
     // counted, the line says why, or that memory was wanted, with its status.
     ensures refused { (t : Names) (owned : OwnershipByPath) (e : HereRefusal) → W.told worktree.old
-        ≡ Some t → O.told owners.old ≡ Some owned → output.IsWorkTreeNotFoundForWords t owned
+        ≡ Some t → O.told owners.old ≡ Some owned → output.RefusesWordsBeforeSetupIsFound t owned
         (answers.call_environment_of_called called.now) called.now.words.now e
         → CountNotIncreased (W.faults worktree.old) (W.faults worktree.new) → CountNotIncreased
         (O.faults owners.old) (O.faults owners.new) → SaysRefusalOrMemoryLine E.Sink err.old err.new

@@ -9,7 +9,7 @@ ghost use Rattle.tizhagor.specs.TreeWords as tree;
 use crate::both::join_replies;
 use crate::compare::{ChangeLines, answer_diff_files_or_state_lines};
 use crate::directory::Here;
-use crate::quiet_report::answer_report_without_faults;
+use crate::quiet_report::answer_report_unless_worktree_failed;
 use crate::refusal::HereRefusal;
 use crate::reply::Reply;
 use crate::written::Writing;
@@ -37,7 +37,7 @@ fn put_states_before_report(
 ///
 /// # Errors
 ///
-/// As [`answer_report_without_faults`] says of the report, and then as
+/// As [`answer_report_unless_worktree_failed`] says of the report, and then as
 /// [`answer_diff_files_or_state_lines`] says; or `Program(OutOfMemory)`.
 pub fn answer_state_by_stat<W: CountsFaults, O: Owners, D: Stats, I: Interrupt>(
     alloc: Global,
@@ -57,7 +57,7 @@ pub fn answer_state_by_stat<W: CountsFaults, O: Owners, D: Stats, I: Interrupt>(
         here.now.variables.now here.now.directory.now asked.now (ChangeLines.States writing))
         result }
 {
-    let report = answer_report_without_faults(
+    let report = answer_report_unless_worktree_failed(
         alloc, worktree, owners, interrupt, here, asked, writing,
     )?;
     let lines = ChangeLines::States(writing);

@@ -182,8 +182,8 @@ fn check_ignore_paths_if_options_valid<W: Worktree>(
 /// # Errors
 ///
 /// - `Absent`, `NotADirectory`: the directory that `-C` names is none.
-/// - `Git`: there is no work tree, or what is read of it is refused, as [`git_setup::places_here`]
-///   and [`read_check_ignore_setup`] say.
+/// - `Git`: there is no work tree, or what is read of it is refused, as
+///   [`git_setup::find_repository_places`] and [`read_check_ignore_setup`] say.
 /// - `Unchecked`: there are no such words, as [`first_option_error`] says, or nothing is answered,
 ///   as [`check_paths_or_stdin`] says.
 /// - `Program(Fault)`: the worktree or the owners failed, and counted it.

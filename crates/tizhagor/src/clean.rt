@@ -79,12 +79,12 @@ fn find_setup_checked_for_clean<W: Worktree, O: Owners>(
 }
 
 /// The cleaning, with what the configuration says of repositories and of how paths are written.
-fn clean_options_with_configuration(
+fn clean_options_with_repositories_and_quoting(
     cleaning: &Cleaning,
     repositories: bool,
     quote_path: bool,
 ) -> Cleaning
-    ensures { result ≡ words.clean_options_with_configuration cleaning.now repositories quote_path }
+    ensures { result ≡ words.clean_options_with_repositories_and_quoting cleaning.now repositories quote_path }
 {
     let mut cleaning = *cleaning;
     cleaning.repositories = repositories;
@@ -127,7 +127,7 @@ fn clean_dry_run_of_found<W: CountsFaults, I: Interrupt>(
     let repositories = wants
         .force
         .is_force_given_twice_counting_config(is_require_force_false(read_require_force(&config)));
-    let cleaning = clean_options_with_configuration(
+    let cleaning = clean_options_with_repositories_and_quoting(
         &clean_options_of_request(wants),
         repositories,
         quote_path,

@@ -154,7 +154,7 @@ fn needs_no_work_tree(command: &Command) -> bool {
 }
 
 /// Whether a directory is said by its whole path.
-fn is_absolute_directory(directory: &Option<Bytes>) -> bool {
+fn is_absolute_directory_given(directory: &Option<Bytes>) -> bool {
     match directory {
         Some(path) => path.as_bytes().starts_with(b"/"),
         None => false,
@@ -166,7 +166,7 @@ fn is_absolute_directory(directory: &Option<Bytes>) -> bool {
 fn need_no_current_directory(alloc: Global, words: &[Bytes]) -> bool {
     match parse_request_words(alloc, words) {
         Ok(request) => needs_no_work_tree(&request.command)
-            | is_absolute_directory(&request.directory),
+            | is_absolute_directory_given(&request.directory),
         Err(_) => true,
     }
 }

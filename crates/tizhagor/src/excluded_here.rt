@@ -147,8 +147,8 @@ fn list_ignored_index_of_found<W: Worktree>(
 /// # Errors
 ///
 /// - `Absent`, `NotADirectory`: the directory that `-C` names is none.
-/// - `Git`: there is no work tree, or what is read of it is refused, as [`git_setup::setup_here`]
-///   says.
+/// - `Git`: there is no work tree, or what is read of it is refused, as
+///   [`git_setup::find_and_read_setup`] says.
 /// - `ExcludeFile`: a file of rules that is named is not read.
 /// - `Listing`: there is no such listing, as [`refusal_if_no_rules_or_sparse`] says, or a rules
 ///   file is not read, as [`list_ignored_index_entries`] says.

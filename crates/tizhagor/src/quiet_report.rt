@@ -58,7 +58,7 @@ fn report_bytes_of_found<W: CountsFaults, I: Interrupt>(
 /// As [`find_work_tree_around_asked_directory`] says; `Program` has the refusal of the report,
 /// `Fault` also for a fault with which the walk goes on, and where the count of faults stands at
 /// its last value.
-pub fn answer_report_without_faults<W: CountsFaults, O: Owners, I: Interrupt>(
+pub fn answer_report_unless_worktree_failed<W: CountsFaults, O: Owners, I: Interrupt>(
     alloc: Global,
     worktree: &mut W,
     owners: &mut O,

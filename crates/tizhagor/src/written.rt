@@ -35,7 +35,7 @@ pub fn text_formatted_for_output(
 }
 
 /// An answer with its text as it is written.
-pub fn result_with_formatted_text(
+pub fn format_text_of_answer(
     alloc: Global,
     writing: Writing,
     answer: Result<Bytes, HereRefusal>,

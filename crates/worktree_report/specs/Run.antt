@@ -79,7 +79,7 @@ pub record RefusesWalkAtPlaces (made : Setup → Setup) (composes : Bool) (t : N
 
 -- The word and the path are about what is handed in. Where the tree is told the setup is the one that was read in it, so
 -- that the traversal root, the rules and the limit are its own.
-pub record IsWalkRefusalAboutPlaces (made : Setup → Setup) (composes : Bool) (told : Option Names) (places : RootAndSetupPaths) (word : WalkWord) (path : List ℕ) : Type 0 where
+pub record IsWalkRefusalAboutInputAtPlaces (made : Setup → Setup) (composes : Bool) (told : Option Names) (places : RootAndSetupPaths) (word : WalkWord) (path : List ℕ) : Type 0 where
   pub setup : Setup
   pub read : (t : Names) → told ≡ Some t → setup_of_file_looked_at (look t places.setup true) ≡ Ok setup
   pub about : IsWordAndPathAboutInput composes told places.root (made setup) word path
@@ -110,7 +110,7 @@ pub record RefusesOnlyWithCauses {W I : Type 0} (w : WorktreeOf W) (i : Interrup
   pub walk : (t : Names) → w.told w0 ≡ Some t → CountNotIncreased (w.faults w0) (w.faults w1)
       → (word : WalkWord) (path : List ℕ) → IsErrOf answer (refusals.Walk word path) → RefusesWalkAtPlaces made (w.precomposes w0) t places word path
   pub about : (word : WalkWord) (path : List ℕ) → IsErrOf answer (refusals.Walk word path)
-      → IsWalkRefusalAboutPlaces made (w.precomposes w0) (w.told w0) places word path
+      → IsWalkRefusalAboutInputAtPlaces made (w.precomposes w0) (w.told w0) places word path
   pub cause : IsErrOf answer refusals.Fault → CountIncreasedOrSaturated (w.faults w0) (w.faults w1)
   -- Nothing was walked yet, or all that tells of submodules is in its grammar.
   pub fault_late : IsErrOf answer refusals.Fault → FailsBeforeWalk w w0 w1 i0 i1 made places ⊎ ((t : Names) → w.told w0 ≡ Some t → AreSubmodulesKnownAtPlaces made t places)

@@ -37,11 +37,11 @@ abbrev pub parse_single_setting_line : WordAndRest → Option SetupLine
 parse_single_setting_line fields = if is_valid_setting_allowed_once fields then Some (Sets (record { name = fields.word; value = fields.rest })) else None
 
 -- a directory that is a worktree of its own, by its escaped path relative to the worktree root
-abbrev pub worktree_line_if_relative : List ℕ → Option SetupLine
-worktree_line_if_relative path = if is_absolute path then None else Some (SetsApart path)
+abbrev pub parse_worktree_path_if_relative : List ℕ → Option SetupLine
+parse_worktree_path_if_relative path = if is_absolute path then None else Some (SetsApart path)
 
 abbrev pub parse_worktree_line : List ℕ → Option SetupLine
-parse_worktree_line rest = option_and_then worktree_line_if_relative (unescape_path rest)
+parse_worktree_line rest = option_and_then parse_worktree_path_if_relative (unescape_path rest)
 
 abbrev pub parse_spec_line : List ℕ → Option SetupLine
 parse_spec_line text = if is_valid_spec text then Some (Specifies text) else None

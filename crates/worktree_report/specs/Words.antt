@@ -22,13 +22,13 @@ parse_digits_behind_number n [] = Some n
 parse_digits_behind_number n (b ∷ bytes) = option_and_then (λ (digit : ℕ). parse_digits_behind_number (10 * n + digit) bytes) (parse_decimal_digit b)
 
 -- up to a hundred thousand
-abbrev pub number_up_to_file_limit : ℕ → Option ℕ
-number_up_to_file_limit n = if nat_le n 100000 then Some n else None
+abbrev pub number_if_within_file_count_limit : ℕ → Option ℕ
+number_if_within_file_count_limit n = if nat_le n 100000 then Some n else None
 
 -- a decimal number from 1 to 100000, without zeros in front
 abbrev pub parse_file_count : List ℕ → Option ℕ
 parse_file_count [] = None
-parse_file_count (b ∷ bytes) = if b == 48 then None else option_and_then number_up_to_file_limit (parse_digits_behind_number 0 (b ∷ bytes))
+parse_file_count (b ∷ bytes) = if b == 48 then None else option_and_then number_if_within_file_count_limit (parse_digits_behind_number 0 (b ∷ bytes))
 
 -- ---- what is asked for
 

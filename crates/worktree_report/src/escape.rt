@@ -91,7 +91,7 @@ pub fn append_path_escaped(text: &mut Vec<u8>, path: &[u8]) -> Result<(), OutOfM
 /// # Errors
 ///
 /// Memory was refused.
-pub fn append_path_escaped_in_word(text: &mut Vec<u8>, path: &[u8]) -> Result<(), OutOfMemory>
+pub fn append_path_hex_escaped(text: &mut Vec<u8>, path: &[u8]) -> Result<(), OutOfMemory>
     ensures { OnOk result (text.new.items ≡ text.old.items ++ path_escaped_in_word path.now) }
 {
     for byte in path {

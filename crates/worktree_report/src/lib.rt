@@ -29,7 +29,7 @@ pub use by_setup::worktree_report;
 pub use converted::{exit_status_of_report_error, refusal_of_report_error};
 pub use dir_walk::Strategy;
 pub use error::ReportError;
-pub use escape::{append_path_escaped, append_path_escaped_in_word};
+pub use escape::{append_path_escaped, append_path_hex_escaped};
 pub use facts::{Activity, Facts};
 pub use fault_count::{CountsFaults, has_failed_since};
 pub use lines::report_bytes;

@@ -4,7 +4,7 @@ ghost use Rattle.worktree_report.specs.Lines.{word_of_status, word_of_kind, word
 ghost use Rattle.worktree_report.specs.Submodules.{report_entry_of_parts};
 
 use crate::below::join_first_components;
-use crate::escape::{append_path_escaped, append_path_escaped_in_word};
+use crate::escape::{append_path_escaped, append_path_hex_escaped};
 use crate::facts::{Activity, Facts};
 use crate::report::{Report, ReportEntry};
 use crate::setup::SetupOptions;
@@ -101,7 +101,7 @@ fn append_submodule_word(text: &mut Vec<u8>, facts: &Option<Facts>) -> Result<()
         return Ok(());
     };
     text.extend_from_slice(word_of_activity(&facts.active))?;
-    append_path_escaped_in_word(text, facts.name.as_bytes())
+    append_path_hex_escaped(text, facts.name.as_bytes())
 }
 
 /// Adds a space and that word, where it is asked for.
@@ -142,7 +142,7 @@ fn append_rule_group(
         RuleGroup::Overrides => text.extend_from_slice(b"overrides")?,
         RuleGroup::Directory { depth } => {
             let file = gitignore_above_path(alloc, path, depth)?;
-            append_path_escaped_in_word(text, file.as_bytes())?;
+            append_path_hex_escaped(text, file.as_bytes())?;
         }
         RuleGroup::Globals => text.extend_from_slice(b"globals")?,
     }

@@ -17,7 +17,7 @@ use worktree_fs::Sink;
 /// | 0 | the text was written whole |
 /// | 7 | `out` refused bytes, and counted it; a front of the text was written; or this is the refusal that is handed in |
 /// | 8 | want of memory, also of that for the line |
-/// | another | that of the refusal, by [`RulesRefusal`] |
+/// | another | that of the refusal, by [`Refusal`] |
 ///
 /// A refusal of `err` changes no byte of `out`, and no status but to 8, as want of memory is free.
 pub fn write_answer<S: Sink, E: Sink>(

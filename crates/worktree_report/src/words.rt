@@ -3,7 +3,7 @@ ghost use Rattle.std.specs.Prelude.{◌≡◌, ◌==◌, not, option_map, option
 ghost use Rattle.std.specs.List.{slice_split, list_all, list_any};
 ghost use Rattle.worktree_fs.specs.Tree.{is_absolute};
 ghost use Rattle.worktree_fs.specs.Paths.{is_dot_or_dot_dot};
-ghost use Rattle.worktree_report.specs.Words.{is_absolute_without_dots, is_absolute_without_dots_or_nul, parse_digits_behind_number, number_up_to_file_limit, parse_file_count, words_behind_first_word, words_behind_composed, parse_generate_words, parse_root_and_setup_words, parse_places_of_command, parse_command_words};
+ghost use Rattle.worktree_report.specs.Words.{is_absolute_without_dots, is_absolute_without_dots_or_nul, parse_digits_behind_number, number_if_within_file_count_limit, parse_file_count, words_behind_first_word, words_behind_composed, parse_generate_words, parse_root_and_setup_words, parse_places_of_command, parse_command_words};
 ghost use Rattle.worktree_report.specs.Named.{command_of_borrowed, places_of_borrowed};
 
 use crate::setup::depth::parse_decimal_digit;
@@ -75,7 +75,7 @@ pub fn is_absolute_without_dots_or_nul(path: &[u8]) -> bool
 
 /// The number that digits write, up to the limit. None where a byte is no digit.
 fn parse_number_up_to_limit(digits: &[u8]) -> Option<usize>
-    ensures { result ≡ option_and_then number_up_to_file_limit (parse_digits_behind_number 0
+    ensures { result ≡ option_and_then number_if_within_file_count_limit (parse_digits_behind_number 0
         digits.now) }
 {
     let mut number = 0;

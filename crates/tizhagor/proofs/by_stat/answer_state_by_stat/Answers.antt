@@ -16,8 +16,8 @@ returns-in_err-report g c =
 pub returns : goal.returns
 returns g c =
     inr (record {
-      middle = c.answer_report_without_faults.new.worktree;
-      owners = c.answer_report_without_faults.new.owners;
+      middle = c.answer_report_unless_worktree_failed.new.worktree;
+      owners = c.answer_report_unless_worktree_failed.new.owners;
       first = c.in_ok-report.report;
       second = c.answer_diff_files_or_state_lines-states.result;
       walks = c.in_ok-report.ensures;

@@ -1,6 +1,6 @@
 use Rattle.std.specs.Prelude.{drop, option_copied}
 use Rattle.ls_files.proofs.Along.{IsAlong}
-use Rattle.ls_files.proofs.changed.shown_entries_by_change.Given as goal
+use Rattle.ls_files.proofs.changed.read_entries_as_kept_gone_or_modified.Given as goal
 
 abbrev pub invariant-loop-entry : goal.invariant-loop-entry
 invariant-loop-entry g l =

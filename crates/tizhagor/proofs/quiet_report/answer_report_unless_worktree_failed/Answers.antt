@@ -6,7 +6,7 @@ use Rattle.tizhagor.specs.TreeWords.{HoldsOfReplyByMaking, report_of}
 use Rattle.tizhagor.specs.QuietReport.{ReportsWithoutHiddenFault}
 use Rattle.tizhagor.specs.Replies.{plain_reply}
 use Rattle.tizhagor.proofs.Here.{by_word, replies_text}
-use Rattle.tizhagor.proofs.quiet_report.answer_report_without_faults.Goals as goal
+use Rattle.tizhagor.proofs.quiet_report.answer_report_unless_worktree_failed.Goals as goal
 
 pub returns : goal.returns
 returns g c =
