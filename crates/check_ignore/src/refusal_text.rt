@@ -6,6 +6,10 @@ use crate::stop::Stop;
 use gitbase_core::{Bytes, OutOfMemory};
 use std::alloc::Global;
 
+/// That a path spec is empty, in git's words.
+const EMPTY_PATHSPEC: &[u8] = b"empty string is not a valid pathspec. \
+    please use . instead if you meant to match all paths";
+
 /// A text between two others.
 fn concatenate_three(
     alloc: Global,
@@ -22,8 +26,8 @@ fn concatenate_three(
 }
 
 /// What is told of a path that leads out of the work tree at `root`.
-fn outside(alloc: Global, root: &[u8], text: &[u8]) -> Result<Bytes, OutOfMemory>
-    ensures { IfOk result (λ told. told ≡ words.outside root.now text.now) }
+fn outside_repository_text(alloc: Global, root: &[u8], text: &[u8]) -> Result<Bytes, OutOfMemory>
+    ensures { IfOk result (λ told. told ≡ words.outside_repository_text root.now text.now) }
 {
     let mut told = concatenate_three(alloc, text, b": '", text)?;
     told.extend(alloc, b"' is outside repository at '")?;
@@ -93,12 +97,8 @@ pub fn told(alloc: Global, root: &[u8], stop: &Stop) -> Result<Bytes, OutOfMemor
 {
     match stop {
         Stop::BadQuotes => Bytes::from_slice(alloc, b"line is badly quoted"),
-        Stop::Empty => Bytes::from_slice(
-            alloc,
-            b"empty string is not a valid pathspec. \
-            please use . instead if you meant to match all paths",
-        ),
-        Stop::Outside { text } => outside(alloc, root, text.as_bytes()),
+        Stop::Empty => Bytes::from_slice(alloc, EMPTY_PATHSPEC),
+        Stop::Outside { text } => outside_repository_text(alloc, root, text.as_bytes()),
         Stop::Beyond { text } => concatenate_three(
             alloc,
             b"pathspec '",

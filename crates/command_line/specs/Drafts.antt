@@ -127,19 +127,19 @@ default_draft =
     }
 
 -- options with one of them turned on or off
-abbrev pub turned : Switch → Bool → SetupOptions → SetupOptions
-turned switches.Tracked on options = record options { emit_tracked = on }
-turned switches.Pruned on options = record options { emit_pruned = on }
-turned switches.EmptyDirectories on options = record options { emit_empty_directories = on }
-turned switches.Origins on options = record options { origins = on }
-turned switches.Submodules on options = record options { submodules = on }
-turned switches.Outcome on options = record options { print_outcome = on }
-turned switches.Excludes on options = record options { excludes = on }
-turned switches.Precious on options = record options { precious = on }
-turned switches.StrictParents on options = record options { strict_parents = on }
-turned switches.RecurseRepositories on options = record options { recurse_repositories = on }
-turned switches.BareRepositories on options = record options { classify_untracked_bare_repositories = on }
-turned switches.LinksAsDirectories on options = record options { symlinks_to_directories_are_ignored_like_directories = on }
+abbrev pub with_switch_turned : Switch → Bool → SetupOptions → SetupOptions
+with_switch_turned switches.Tracked on options = record options { emit_tracked = on }
+with_switch_turned switches.Pruned on options = record options { emit_pruned = on }
+with_switch_turned switches.EmptyDirectories on options = record options { emit_empty_directories = on }
+with_switch_turned switches.Origins on options = record options { origins = on }
+with_switch_turned switches.Submodules on options = record options { submodules = on }
+with_switch_turned switches.Outcome on options = record options { print_outcome = on }
+with_switch_turned switches.Excludes on options = record options { excludes = on }
+with_switch_turned switches.Precious on options = record options { precious = on }
+with_switch_turned switches.StrictParents on options = record options { strict_parents = on }
+with_switch_turned switches.RecurseRepositories on options = record options { recurse_repositories = on }
+with_switch_turned switches.BareRepositories on options = record options { classify_untracked_bare_repositories = on }
+with_switch_turned switches.LinksAsDirectories on options = record options { symlinks_to_directories_are_ignored_like_directories = on }
 
 -- a listing with one choice made or dropped; what changed is told beside it
 abbrev pub ls_files_options_with_choice : Choice → Bool → Listing → Listing
@@ -186,7 +186,7 @@ with_output_form form draft = record draft { form = form }
 
 -- one of what is reported is turned on or off
 abbrev pub with_report_switch : Switch → Bool → Draft → Draft
-with_report_switch switch on draft = with_setup_options (turned switch on draft.options) draft
+with_report_switch switch on draft = with_setup_options (with_switch_turned switch on draft.options) draft
 
 -- untracked paths are reported in this mode
 abbrev pub with_untracked_emission_mode : EmissionMode → Draft → Draft

@@ -86,7 +86,7 @@ given_depth_or_deepest_by_verb verbs.Compare depth = 1000
 given_depth_or_deepest_by_verb verbs.Check depth = 1000
 
 -- what the words of a command ask of a work tree
-abbrev work_tree_request_of_draft : Verb → Draft → List (List ℕ) → WorkTreeRequest
+abbrev pub work_tree_request_of_draft : Verb → Draft → List (List ℕ) → WorkTreeRequest
 work_tree_request_of_draft verb draft paths = record { options = draft.options; paths = paths; depth = given_depth_or_deepest_by_verb verb draft.depth; prefers_current = prefers_current_directory verb }
 
 -- a path spec asks for directories too: git-clean(1), "-d"
@@ -100,7 +100,7 @@ ls_files_or_changed_command None want listing rules = files want listing rules
 ls_files_or_changed_command (Some standings) want listing rules = changed want listing rules standings
 
 -- the command of a verb, where its words are right
-abbrev command_of_verb_and_draft : Verb → Draft → List (List ℕ) → RulesGiven → Command
+abbrev pub command_of_verb_and_draft : Verb → Draft → List (List ℕ) → RulesGiven → Command
 command_of_verb_and_draft verbs.Report draft paths rules = report (work_tree_request_of_draft verbs.Report draft paths) draft.form
 command_of_verb_and_draft verbs.Plan draft paths rules = plan (work_tree_request_of_draft verbs.Plan draft paths) draft.what draft.finding draft.form
 command_of_verb_and_draft verbs.Modules draft paths rules = modules (work_tree_request_of_draft verbs.Modules draft paths)

@@ -36,42 +36,42 @@ use Rattle.command_line.specs.Options.{option_of_name, option_of_letter, command
 use Rattle.command_line.specs.Verbs.{needs_double_dash_before_paths, takes_paths}
 
 -- something more is said, and the next word may be anything
-abbrev pub step_with_draft_then_any_word : Draft → Step
-step_with_draft_then_any_word draft = Said draft nexts.Any
+abbrev pub step_with_draft : Draft → Step
+step_with_draft draft = Said draft nexts.Any
 
 -- this is told of submodules
 abbrev pub step_setting_ignore_submodules : Ignoring → Draft → Step
-step_setting_ignore_submodules ignoring draft = step_with_draft_then_any_word (with_diff_files_choice (compare_choices.Ignores ignoring) true draft)
+step_setting_ignore_submodules ignoring draft = step_with_draft (with_diff_files_choice (compare_choices.Ignores ignoring) true draft)
 
 -- an option without a value
 abbrev pub step_of_option_without_value : Opt → Draft → Step
-step_of_option_without_value (opts.With switch) draft = step_with_draft_then_any_word (with_report_switch switch true draft)
-step_of_option_without_value (opts.Without switch) draft = step_with_draft_then_any_word (with_report_switch switch false draft)
-step_of_option_without_value opts.Untracked draft = step_with_draft_then_any_word (with_untracked_emission_mode Matching draft)
-step_of_option_without_value opts.Ignored draft = step_with_draft_then_any_word (with_ignored_emission_mode (Some Matching) draft)
+step_of_option_without_value (opts.With switch) draft = step_with_draft (with_report_switch switch true draft)
+step_of_option_without_value (opts.Without switch) draft = step_with_draft (with_report_switch switch false draft)
+step_of_option_without_value opts.Untracked draft = step_with_draft (with_untracked_emission_mode Matching draft)
+step_of_option_without_value opts.Ignored draft = step_with_draft (with_ignored_emission_mode (Some Matching) draft)
 step_of_option_without_value opts.Collapsed draft = is_wrong wrongs.NoValue
 step_of_option_without_value opts.Deletion draft = is_wrong wrongs.NoValue
 step_of_option_without_value opts.Permissions draft = is_wrong wrongs.NoValue
 step_of_option_without_value opts.Strategy draft = is_wrong wrongs.NoValue
 step_of_option_without_value opts.Depth draft = Said draft nexts.Depth
-step_of_option_without_value opts.IgnoredToo draft = step_with_draft_then_any_word (with_removal_scope whats.UntrackedAndIgnored draft)
-step_of_option_without_value opts.IgnoredAlone draft = step_with_draft_then_any_word (with_removal_scope whats.IgnoredOnly draft)
-step_of_option_without_value opts.NonBare draft = step_with_draft_then_any_word (with_repository_finding findings.NonBare draft)
-step_of_option_without_value opts.ByStat draft = step_with_draft_then_any_word (with_stat_comparison draft)
-step_of_option_without_value opts.Nul draft = step_with_draft_then_any_word (with_line_end Nul draft)
-step_of_option_without_value opts.Plain draft = step_with_draft_then_any_word (with_line_wording Letters draft)
-step_of_option_without_value opts.Color draft = step_with_draft_then_any_word (with_color_choice Always draft)
-step_of_option_without_value opts.NoColor draft = step_with_draft_then_any_word (with_color_choice Never draft)
-step_of_option_without_value opts.Help draft = step_with_draft_then_any_word (with_help_requested draft)
-step_of_option_without_value (opts.Chooses choice) draft = step_with_draft_then_any_word (with_ls_files_choice choice true draft)
-step_of_option_without_value (opts.Drops choice) draft = step_with_draft_then_any_word (with_ls_files_choice choice false draft)
-step_of_option_without_value (opts.Cleans choice is_on) draft = step_with_draft_then_any_word (with_clean_choice choice is_on draft)
-step_of_option_without_value (opts.Forces is_on) draft = step_with_draft_then_any_word (with_force_added_or_dropped is_on draft)
+step_of_option_without_value opts.IgnoredToo draft = step_with_draft (with_removal_scope whats.UntrackedAndIgnored draft)
+step_of_option_without_value opts.IgnoredAlone draft = step_with_draft (with_removal_scope whats.IgnoredOnly draft)
+step_of_option_without_value opts.NonBare draft = step_with_draft (with_repository_finding findings.NonBare draft)
+step_of_option_without_value opts.ByStat draft = step_with_draft (with_stat_comparison draft)
+step_of_option_without_value opts.Nul draft = step_with_draft (with_line_end Nul draft)
+step_of_option_without_value opts.Plain draft = step_with_draft (with_line_wording Letters draft)
+step_of_option_without_value opts.Color draft = step_with_draft (with_color_choice Always draft)
+step_of_option_without_value opts.NoColor draft = step_with_draft (with_color_choice Never draft)
+step_of_option_without_value opts.Help draft = step_with_draft (with_help_requested draft)
+step_of_option_without_value (opts.Chooses choice) draft = step_with_draft (with_ls_files_choice choice true draft)
+step_of_option_without_value (opts.Drops choice) draft = step_with_draft (with_ls_files_choice choice false draft)
+step_of_option_without_value (opts.Cleans choice is_on) draft = step_with_draft (with_clean_choice choice is_on draft)
+step_of_option_without_value (opts.Forces is_on) draft = step_with_draft (with_force_added_or_dropped is_on draft)
 step_of_option_without_value opts.Pattern draft = Said draft nexts.Pattern
 step_of_option_without_value opts.ExcludeFrom draft = Said draft nexts.File
 step_of_option_without_value opts.Standard draft = Rules (with_ls_files_choice choices.ExcludesStandard true draft) rulings.Standard
-step_of_option_without_value (opts.Compares choice is_on) draft = step_with_draft_then_any_word (with_diff_files_choice choice is_on draft)
-step_of_option_without_value (opts.Checks choice is_on) draft = step_with_draft_then_any_word (with_check_ignore_choice choice is_on draft)
+step_of_option_without_value (opts.Compares choice is_on) draft = step_with_draft (with_diff_files_choice choice is_on draft)
+step_of_option_without_value (opts.Checks choice is_on) draft = step_with_draft (with_check_ignore_choice choice is_on draft)
 step_of_option_without_value opts.RulesFile draft = is_wrong wrongs.Left
 step_of_option_without_value opts.Submodules draft = step_setting_ignore_submodules ignorings.All draft
 step_of_option_without_value opts.Left draft = is_wrong wrongs.Left
@@ -80,7 +80,7 @@ step_of_option_without_value opts.Left draft = is_wrong wrongs.Left
 
 -- untracked paths in a mode, where the value names one
 abbrev step_of_optional_untracked_mode : Option EmissionMode → Draft → Step
-step_of_optional_untracked_mode (Some mode) draft = step_with_draft_then_any_word (with_untracked_emission_mode mode draft)
+step_of_optional_untracked_mode (Some mode) draft = step_with_draft (with_untracked_emission_mode mode draft)
 step_of_optional_untracked_mode None draft = is_wrong wrongs.UnknownValue
 
 -- the step of `-u`, or of its long name, with a value
@@ -89,56 +89,56 @@ step_of_untracked_value value draft = step_of_optional_untracked_mode (parse_emi
 
 -- ignored paths in a mode, where the value names one
 abbrev step_of_optional_ignored_mode : Option EmissionMode → Draft → Step
-step_of_optional_ignored_mode (Some mode) draft = step_with_draft_then_any_word (with_ignored_emission_mode (Some mode) draft)
+step_of_optional_ignored_mode (Some mode) draft = step_with_draft (with_ignored_emission_mode (Some mode) draft)
 step_of_optional_ignored_mode None draft = is_wrong wrongs.UnknownValue
 
 -- the step of `--ignored` with its value
 abbrev pub step_of_ignored_value : List ℕ → Draft → Step
-step_of_ignored_value value draft = if bytes_eq value (codes "no") then step_with_draft_then_any_word (with_ignored_emission_mode None draft) else step_of_optional_ignored_mode (parse_emission_mode value) draft
+step_of_ignored_value value draft = if bytes_eq value (codes "no") then step_with_draft (with_ignored_emission_mode None draft) else step_of_optional_ignored_mode (parse_emission_mode value) draft
 
 -- what a folded directory covers, where the value names a mode
 abbrev step_of_optional_collapsed_mode : Option CollapsedEntriesEmissionMode → Draft → Step
-step_of_optional_collapsed_mode (Some mode) draft = step_with_draft_then_any_word (with_collapsed_emission_mode (Some mode) draft)
+step_of_optional_collapsed_mode (Some mode) draft = step_with_draft (with_collapsed_emission_mode (Some mode) draft)
 step_of_optional_collapsed_mode None draft = is_wrong wrongs.UnknownValue
 
 -- the step of `--collapsed` with its value
 abbrev pub step_of_collapsed_value : List ℕ → Draft → Step
-step_of_collapsed_value value draft = if bytes_eq value (codes "no") then step_with_draft_then_any_word (with_collapsed_emission_mode None draft) else step_of_optional_collapsed_mode (parse_collapsed_mode value) draft
+step_of_collapsed_value value draft = if bytes_eq value (codes "no") then step_with_draft (with_collapsed_emission_mode None draft) else step_of_optional_collapsed_mode (parse_collapsed_mode value) draft
 
 -- looking for what must not be deleted, where the value names a mode
 abbrev step_of_optional_for_deletion_mode : Option ForDeletionMode → Draft → Step
-step_of_optional_for_deletion_mode (Some mode) draft = step_with_draft_then_any_word (with_for_deletion_mode (Some mode) draft)
+step_of_optional_for_deletion_mode (Some mode) draft = step_with_draft (with_for_deletion_mode (Some mode) draft)
 step_of_optional_for_deletion_mode None draft = is_wrong wrongs.UnknownValue
 
 -- the step of `--for-deletion` with its value
 abbrev pub step_of_for_deletion_value : List ℕ → Draft → Step
-step_of_for_deletion_value value draft = if bytes_eq value (codes "no") then step_with_draft_then_any_word (with_for_deletion_mode None draft) else step_of_optional_for_deletion_mode (parse_for_deletion_mode value) draft
+step_of_for_deletion_value value draft = if bytes_eq value (codes "no") then step_with_draft (with_for_deletion_mode None draft) else step_of_optional_for_deletion_mode (parse_for_deletion_mode value) draft
 
 -- what is safe in a repository of anybody is all, since nothing that is read is run
 abbrev pub step_of_permissions_value : List ℕ → Draft → Step
 step_of_permissions_value value draft =
-    if bytes_eq value (codes "isolated") then step_with_draft_then_any_word (with_config_permissions true draft)
-    else if bytes_eq value (codes "secure") || bytes_eq value (codes "all") then step_with_draft_then_any_word (with_config_permissions false draft)
+    if bytes_eq value (codes "isolated") then step_with_draft (with_config_permissions true draft)
+    else if bytes_eq value (codes "secure") || bytes_eq value (codes "all") then step_with_draft (with_config_permissions false draft)
     else is_wrong wrongs.UnknownValue
 
 -- the step of `--strategy` with its value
 abbrev pub step_of_strategy_value : List ℕ → Draft → Step
 step_of_strategy_value value draft =
-    if bytes_eq value (codes "held") then step_with_draft_then_any_word (with_walk_strategy Held draft)
-    else if bytes_eq value (codes "at-once") then step_with_draft_then_any_word (with_walk_strategy AtOnce draft)
+    if bytes_eq value (codes "held") then step_with_draft (with_walk_strategy Held draft)
+    else if bytes_eq value (codes "at-once") then step_with_draft (with_walk_strategy AtOnce draft)
     else is_wrong wrongs.UnknownValue
 
 -- the step of `--color` with its value
 abbrev pub step_of_color_value : List ℕ → Draft → Step
 step_of_color_value value draft =
-    if bytes_eq value (codes "auto") then step_with_draft_then_any_word (with_color_choice Auto draft)
-    else if bytes_eq value (codes "always") then step_with_draft_then_any_word (with_color_choice Always draft)
-    else if bytes_eq value (codes "never") then step_with_draft_then_any_word (with_color_choice Never draft)
+    if bytes_eq value (codes "auto") then step_with_draft (with_color_choice Auto draft)
+    else if bytes_eq value (codes "always") then step_with_draft (with_color_choice Always draft)
+    else if bytes_eq value (codes "never") then step_with_draft (with_color_choice Never draft)
     else is_wrong wrongs.UnknownValue
 
 -- a limit of the depth, where the value is a number
 abbrev step_of_optional_depth : Option ℕ → Draft → Step
-step_of_optional_depth (Some depth) draft = step_with_draft_then_any_word (with_walk_depth depth draft)
+step_of_optional_depth (Some depth) draft = step_with_draft (with_walk_depth depth draft)
 step_of_optional_depth None draft = is_wrong wrongs.NotADepth
 
 -- a decimal number from 0 to 1000, without zeros in front
@@ -156,7 +156,7 @@ step_of_exclude_from_file value draft = Rules draft (rulings.File (length value)
 -- the name of the rules files of directories: `.gitignore`, or another, which is not answered here
 abbrev pub step_of_exclude_per_directory_value : List ℕ → Draft → Step
 step_of_exclude_per_directory_value value draft =
-    if bytes_eq value (codes ".gitignore") then step_with_draft_then_any_word (with_ls_files_choice choices.ExcludesDirectories true draft) else is_wrong wrongs.Left
+    if bytes_eq value (codes ".gitignore") then step_with_draft (with_ls_files_choice choices.ExcludesDirectories true draft) else is_wrong wrongs.Left
 
 -- submodules are ignored so, where the value names how
 abbrev step_of_optional_ignore_submodules : Option Ignoring → Draft → Step
@@ -294,7 +294,7 @@ step_of_letter_and_rest (Some opt) letter text onward draft =
 
 -- letters, each an option; `u`, `e`, `x` and `X` take what is behind them as their value
 unfoldable pub step_of_letters : Verb → List ℕ → Draft → Step
-step_of_letters verb [] draft = step_with_draft_then_any_word draft
+step_of_letters verb [] draft = step_with_draft draft
 step_of_letters verb (letter ∷ text) draft = step_of_letter_and_rest (command_option_of_letter verb letter) letter text (λ d. step_of_letters verb text d) draft
 
 -- ---- words

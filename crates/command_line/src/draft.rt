@@ -152,8 +152,8 @@ pub fn default_draft() -> Draft
 }
 
 /// The options with one of what is reported turned on or off; all others of it stay.
-fn turned(options: SetupOptions, switch: Switch, on: bool) -> SetupOptions
-    ensures { result ≡ drafts.turned switch on options }
+fn with_switch_turned(options: SetupOptions, switch: Switch, on: bool) -> SetupOptions
+    ensures { result ≡ drafts.with_switch_turned switch on options }
 {
     let mut options = options;
     match switch {
@@ -252,7 +252,7 @@ impl Draft {
     pub fn with_report_switch(self, switch: Switch, on: bool) -> Draft
         ensures { result ≡ drafts.with_report_switch switch on self }
     {
-        self.with_setup_options(turned(self.options, switch, on))
+        self.with_setup_options(with_switch_turned(self.options, switch, on))
     }
 
     /// Untracked paths are reported in this mode.

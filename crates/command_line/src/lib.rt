@@ -15,6 +15,7 @@ mod form;
 mod help;
 mod misuse;
 mod opt;
+mod option_value;
 mod read;
 mod render;
 mod request;

@@ -61,21 +61,32 @@ fn ls_files_or_changed_command(
     }
 }
 
-/// What a command is to do, by what its words say.
-fn command_from_draft(verb: Verb, draft: Draft, paths: Vec<Bytes>, rules: RulesGiven) -> Command
-    ensures { requests.seen result ≡ requests.command_from_draft verb draft paths.items rules }
+/// What the words of a command ask of a work tree.
+fn work_tree_request_of_draft(verb: Verb, draft: &Draft, paths: Vec<Bytes>) -> Asked
+    ensures { requests.work_tree_request_of_asked result
+        ≡ requests.work_tree_request_of_draft verb draft.now paths.items }
 {
-    if draft.is_help {
-        return Command::Help(Topic::Of(verb));
-    }
-    let form = draft.form;
-    let cleaning = clean_request_of_directories_if_paths(draft.cleaning, &paths);
-    let asked = Asked {
+    Asked {
         options: draft.options,
         paths,
         depth: given_depth_or_deepest_by_verb(verb, draft.depth),
         prefers_current: prefers_current_directory(verb),
-    };
+    }
+}
+
+/// The command of a verb, where its words are right.
+fn command_of_verb_and_draft(
+    verb: Verb,
+    draft: Draft,
+    paths: Vec<Bytes>,
+    rules: RulesGiven,
+) -> Command
+    ensures { requests.seen result ≡ requests.command_of_verb_and_draft verb draft paths.items rules }
+{
+    let form = draft.form;
+    let listing = draft.listing;
+    let cleaning = clean_request_of_directories_if_paths(draft.cleaning, &paths);
+    let asked = work_tree_request_of_draft(verb, &draft, paths);
     match verb {
         Verb::Report => Command::Report { asked, form },
         Verb::Plan => Command::Plan {
@@ -90,14 +101,11 @@ fn command_from_draft(verb: Verb, draft: Draft, paths: Vec<Bytes>, rules: RulesG
             form,
             by_stat: draft.by_stat,
         },
-        Verb::Files => {
-            let listing = draft.listing;
-            ls_files_or_changed_command(
-                standings_of_deleted_modified_flags(draft.changes),
-                asked,
-                FilesAsked { listing, rules },
-            )
-        }
+        Verb::Files => ls_files_or_changed_command(
+            standings_of_deleted_modified_flags(draft.changes),
+            asked,
+            FilesAsked { listing, rules },
+        ),
         Verb::Clean => Command::Clean {
             asked,
             clean: CleanAsked {
@@ -114,6 +122,17 @@ fn command_from_draft(verb: Verb, draft: Draft, paths: Vec<Bytes>, rules: RulesG
             asked,
             checking: draft.checking,
         },
+    }
+}
+
+/// What a command is to do, by what its words say.
+fn command_from_draft(verb: Verb, draft: Draft, paths: Vec<Bytes>, rules: RulesGiven) -> Command
+    ensures { requests.seen result ≡ requests.command_from_draft verb draft paths.items rules }
+{
+    if draft.is_help {
+        Command::Help(Topic::Of(verb))
+    } else {
+        command_of_verb_and_draft(verb, draft, paths, rules)
     }
 }
 

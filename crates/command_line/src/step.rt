@@ -4,25 +4,22 @@ ghost use Rattle.command_line.specs.Steps as steps;
 
 use crate::check_options::{check_ignore_option_of_letter, check_ignore_option_of_name};
 use crate::choice::{Choice, ls_files_option_of_letter, ls_files_option_of_name};
-use crate::clean_options::{
-    clean_option_of_letter, clean_option_of_name, lacks_line_feed_and_trailing_blank,
-};
+use crate::clean_options::{clean_option_of_letter, clean_option_of_name};
 use crate::compare_options::{
     CompareChoice, Ignoring, diff_files_option_of_letter, diff_files_option_of_name,
-    parse_ignore_submodules_value,
 };
 use crate::draft::Draft;
 use crate::form::{Color, LineEnd, Wording};
 use crate::misuse::Wrong;
-use crate::opt::{
-    Opt, command_has_option, option_of_letter, option_of_name, parse_collapsed_mode,
-    parse_emission_mode, parse_for_deletion_mode,
+use crate::opt::{Opt, command_has_option, option_of_letter, option_of_name};
+use crate::option_value::{
+    step_of_depth_value, step_of_exclude_from_file, step_of_exclude_pattern,
+    step_of_option_with_value, step_of_untracked_value,
 };
 use crate::rules_given::Ruling;
 use crate::verb::{Verb, needs_double_dash_before_paths, takes_paths};
 use clean_plan::{Finding, What};
 use dir_classify::EmissionMode;
-use worktree_report::{Strategy, parse_depth_limit};
 
 /// How the next word is read.
 #[derive(Clone, Copy, Debug)]
@@ -62,20 +59,28 @@ pub enum Step {
     Wrong(Wrong),
 }
 
-fn step_with_draft_then_any_word(draft: Draft) -> Step
-    ensures { result ≡ steps.step_with_draft_then_any_word draft }
+/// The draft, and after it any word.
+pub fn step_with_draft(draft: Draft) -> Step
+    ensures { result ≡ steps.step_with_draft draft }
 {
     Step::Said(draft, Next::Any)
 }
 
 /// That this is told of submodules.
-fn step_setting_ignore_submodules(ignoring: Ignoring, draft: Draft) -> Step
+pub fn step_setting_ignore_submodules(ignoring: Ignoring, draft: Draft) -> Step
     ensures { result ≡ steps.step_setting_ignore_submodules ignoring draft }
 {
-    step_with_draft_then_any_word(draft.with_diff_files_choice(
-        CompareChoice::Ignores(ignoring),
-        true,
-    ))
+    step_with_draft(draft.with_diff_files_choice(CompareChoice::Ignores(ignoring), true))
+}
+
+/// The rules that git reads by itself.
+fn step_with_standard_rules(draft: Draft) -> Step
+    ensures { result ≡ steps.step_of_option_without_value Opt.Standard draft }
+{
+    Step::Rules(
+        draft.with_ls_files_choice(Choice::ExcludesStandard, true),
+        Ruling::Standard,
+    )
 }
 
 /// An option without a value.
@@ -83,217 +88,42 @@ fn step_of_option_without_value(opt: Opt, draft: Draft) -> Step
     ensures { result ≡ steps.step_of_option_without_value opt draft }
 {
     match opt {
-        Opt::With(switch) => step_with_draft_then_any_word(draft.with_report_switch(switch, true)),
-        Opt::Without(switch) => step_with_draft_then_any_word(draft.with_report_switch(
-            switch, false,
-        )),
-        Opt::Untracked => step_with_draft_then_any_word(draft.with_untracked_emission_mode(
+        Opt::With(switch) => step_with_draft(draft.with_report_switch(switch, true)),
+        Opt::Without(switch) => step_with_draft(draft.with_report_switch(switch, false)),
+        Opt::Untracked => step_with_draft(draft.with_untracked_emission_mode(
             EmissionMode::Matching,
         )),
-        Opt::Ignored => step_with_draft_then_any_word(draft.with_ignored_emission_mode(Some(
+        Opt::Ignored => step_with_draft(draft.with_ignored_emission_mode(Some(
             EmissionMode::Matching,
         ))),
         Opt::Collapsed | Opt::Deletion | Opt::Permissions | Opt::Strategy => {
             Step::Wrong(Wrong::NoValue)
         }
         Opt::Depth => Step::Said(draft, Next::Depth),
-        Opt::IgnoredToo => step_with_draft_then_any_word(draft.with_removal_scope(
-            What::UntrackedAndIgnored,
-        )),
-        Opt::IgnoredAlone => step_with_draft_then_any_word(draft.with_removal_scope(
-            What::IgnoredOnly,
-        )),
-        Opt::NonBare => step_with_draft_then_any_word(draft.with_repository_finding(
-            Finding::NonBare,
-        )),
-        Opt::ByStat => step_with_draft_then_any_word(draft.with_stat_comparison()),
-        Opt::Nul => step_with_draft_then_any_word(draft.with_line_end(LineEnd::Nul)),
-        Opt::Plain => step_with_draft_then_any_word(draft.with_line_wording(Wording::Letters)),
-        Opt::Color => step_with_draft_then_any_word(draft.with_color_choice(Color::Always)),
-        Opt::NoColor => step_with_draft_then_any_word(draft.with_color_choice(Color::Never)),
-        Opt::Help => step_with_draft_then_any_word(draft.with_help_requested()),
-        Opt::Chooses(choice) => step_with_draft_then_any_word(draft.with_ls_files_choice(
-            choice, true,
-        )),
-        Opt::Drops(choice) => step_with_draft_then_any_word(draft.with_ls_files_choice(
-            choice, false,
-        )),
-        Opt::Cleans(choice, is_on) => step_with_draft_then_any_word(draft.with_clean_choice(
-            choice, is_on,
-        )),
-        Opt::Forces(is_on) => step_with_draft_then_any_word(draft.with_force_added_or_dropped(
-            is_on,
-        )),
+        Opt::IgnoredToo => step_with_draft(draft.with_removal_scope(What::UntrackedAndIgnored)),
+        Opt::IgnoredAlone => step_with_draft(draft.with_removal_scope(What::IgnoredOnly)),
+        Opt::NonBare => step_with_draft(draft.with_repository_finding(Finding::NonBare)),
+        Opt::ByStat => step_with_draft(draft.with_stat_comparison()),
+        Opt::Nul => step_with_draft(draft.with_line_end(LineEnd::Nul)),
+        Opt::Plain => step_with_draft(draft.with_line_wording(Wording::Letters)),
+        Opt::Color => step_with_draft(draft.with_color_choice(Color::Always)),
+        Opt::NoColor => step_with_draft(draft.with_color_choice(Color::Never)),
+        Opt::Help => step_with_draft(draft.with_help_requested()),
+        Opt::Chooses(choice) => step_with_draft(draft.with_ls_files_choice(choice, true)),
+        Opt::Drops(choice) => step_with_draft(draft.with_ls_files_choice(choice, false)),
+        Opt::Cleans(choice, is_on) => step_with_draft(draft.with_clean_choice(choice, is_on)),
+        Opt::Forces(is_on) => step_with_draft(draft.with_force_added_or_dropped(is_on)),
         Opt::Pattern => Step::Said(draft, Next::Pattern),
         Opt::ExcludeFrom => Step::Said(draft, Next::File),
-        Opt::Standard => Step::Rules(
-            draft.with_ls_files_choice(Choice::ExcludesStandard, true),
-            Ruling::Standard,
-        ),
-        Opt::Compares(choice, is_on) => step_with_draft_then_any_word(draft.with_diff_files_choice(
+        Opt::Standard => step_with_standard_rules(draft),
+        Opt::Compares(choice, is_on) => step_with_draft(draft.with_diff_files_choice(
             choice, is_on,
         )),
-        Opt::Checks(choice, is_on) => step_with_draft_then_any_word(draft.with_check_ignore_choice(
+        Opt::Checks(choice, is_on) => step_with_draft(draft.with_check_ignore_choice(
             choice, is_on,
         )),
-        Opt::RulesFile => Step::Wrong(Wrong::Left),
         Opt::Submodules => step_setting_ignore_submodules(Ignoring::All, draft),
-        Opt::Left => Step::Wrong(Wrong::Left),
-    }
-}
-
-fn step_of_untracked_value(value: &[u8], draft: Draft) -> Step
-    ensures { result ≡ steps.step_of_untracked_value value.now draft }
-{
-    match parse_emission_mode(value) {
-        Some(mode) => step_with_draft_then_any_word(draft.with_untracked_emission_mode(mode)),
-        None => Step::Wrong(Wrong::UnknownValue),
-    }
-}
-
-fn step_of_ignored_value(value: &[u8], draft: Draft) -> Step
-    ensures { result ≡ steps.step_of_ignored_value value.now draft }
-{
-    if value == b"no".as_slice() {
-        return step_with_draft_then_any_word(draft.with_ignored_emission_mode(None));
-    }
-    match parse_emission_mode(value) {
-        Some(mode) => step_with_draft_then_any_word(draft.with_ignored_emission_mode(Some(mode))),
-        None => Step::Wrong(Wrong::UnknownValue),
-    }
-}
-
-fn step_of_collapsed_value(value: &[u8], draft: Draft) -> Step
-    ensures { result ≡ steps.step_of_collapsed_value value.now draft }
-{
-    if value == b"no".as_slice() {
-        return step_with_draft_then_any_word(draft.with_collapsed_emission_mode(None));
-    }
-    match parse_collapsed_mode(value) {
-        Some(mode) => step_with_draft_then_any_word(draft.with_collapsed_emission_mode(Some(mode))),
-        None => Step::Wrong(Wrong::UnknownValue),
-    }
-}
-
-fn step_of_for_deletion_value(value: &[u8], draft: Draft) -> Step
-    ensures { result ≡ steps.step_of_for_deletion_value value.now draft }
-{
-    if value == b"no".as_slice() {
-        return step_with_draft_then_any_word(draft.with_for_deletion_mode(None));
-    }
-    match parse_for_deletion_mode(value) {
-        Some(mode) => step_with_draft_then_any_word(draft.with_for_deletion_mode(Some(mode))),
-        None => Step::Wrong(Wrong::UnknownValue),
-    }
-}
-
-fn step_of_permissions_value(value: &[u8], draft: Draft) -> Step
-    ensures { result ≡ steps.step_of_permissions_value value.now draft }
-{
-    if value == b"isolated".as_slice() {
-        step_with_draft_then_any_word(draft.with_config_permissions(true))
-    } else if value == b"secure".as_slice() || value == b"all".as_slice() {
-        step_with_draft_then_any_word(draft.with_config_permissions(false))
-    } else {
-        Step::Wrong(Wrong::UnknownValue)
-    }
-}
-
-fn step_of_strategy_value(value: &[u8], draft: Draft) -> Step
-    ensures { result ≡ steps.step_of_strategy_value value.now draft }
-{
-    if value == b"held".as_slice() {
-        step_with_draft_then_any_word(draft.with_walk_strategy(Strategy::Held))
-    } else if value == b"at-once".as_slice() {
-        step_with_draft_then_any_word(draft.with_walk_strategy(Strategy::AtOnce))
-    } else {
-        Step::Wrong(Wrong::UnknownValue)
-    }
-}
-
-fn step_of_color_value(value: &[u8], draft: Draft) -> Step
-    ensures { result ≡ steps.step_of_color_value value.now draft }
-{
-    if value == b"auto".as_slice() {
-        step_with_draft_then_any_word(draft.with_color_choice(Color::Auto))
-    } else if value == b"always".as_slice() {
-        step_with_draft_then_any_word(draft.with_color_choice(Color::Always))
-    } else if value == b"never".as_slice() {
-        step_with_draft_then_any_word(draft.with_color_choice(Color::Never))
-    } else {
-        Step::Wrong(Wrong::UnknownValue)
-    }
-}
-
-/// A word that is to be a depth.
-fn step_of_depth_value(value: &[u8], draft: Draft) -> Step
-    ensures { result ≡ steps.step_of_depth_value value.now draft }
-{
-    match parse_depth_limit(value) {
-        Some(depth) => step_with_draft_then_any_word(draft.with_walk_depth(depth)),
-        None => Step::Wrong(Wrong::NotADepth),
-    }
-}
-
-/// A pattern, which is the end of a word.
-fn step_of_exclude_pattern(value: &[u8], draft: Draft) -> Step
-    ensures { result ≡ steps.step_of_exclude_pattern value.now draft }
-{
-    if lacks_line_feed_and_trailing_blank(value) {
-        Step::Rules(draft, Ruling::Pattern { left: value.len() })
-    } else {
-        Step::Wrong(Wrong::Pattern)
-    }
-}
-
-/// The name of a file of rules, which is the end of a word.
-fn step_of_exclude_from_file(value: &[u8], draft: Draft) -> Step
-    ensures { result ≡ steps.step_of_exclude_from_file value.now draft }
-{
-    Step::Rules(draft, Ruling::File { left: value.len() })
-}
-
-/// The name of the rules files of directories: `.gitignore`, or another, which is not answered
-/// here.
-fn step_of_exclude_per_directory_value(value: &[u8], draft: Draft) -> Step
-    ensures { result ≡ steps.step_of_exclude_per_directory_value value.now draft }
-{
-    if value == b".gitignore".as_slice() {
-        step_with_draft_then_any_word(draft.with_ls_files_choice(Choice::ExcludesDirectories, true))
-    } else {
-        Step::Wrong(Wrong::Left)
-    }
-}
-
-/// That this is told of submodules, by the value.
-fn step_of_ignore_submodules_value(value: &[u8], draft: Draft) -> Step
-    ensures { result ≡ steps.step_of_ignore_submodules_value value.now draft }
-{
-    match parse_ignore_submodules_value(value) {
-        Some(ignoring) => step_setting_ignore_submodules(ignoring, draft),
-        None => Step::Wrong(Wrong::UnknownValue),
-    }
-}
-
-/// An option with a value.
-fn step_of_option_with_value(opt: Opt, value: &[u8], draft: Draft) -> Step
-    ensures { result ≡ steps.step_of_option_with_value opt value.now draft }
-{
-    match opt {
-        Opt::Untracked => step_of_untracked_value(value, draft),
-        Opt::Ignored => step_of_ignored_value(value, draft),
-        Opt::Collapsed => step_of_collapsed_value(value, draft),
-        Opt::Deletion => step_of_for_deletion_value(value, draft),
-        Opt::Permissions => step_of_permissions_value(value, draft),
-        Opt::Strategy => step_of_strategy_value(value, draft),
-        Opt::Depth => step_of_depth_value(value, draft),
-        Opt::Color => step_of_color_value(value, draft),
-        Opt::Pattern => step_of_exclude_pattern(value, draft),
-        Opt::ExcludeFrom => step_of_exclude_from_file(value, draft),
-        Opt::RulesFile => step_of_exclude_per_directory_value(value, draft),
-        Opt::Submodules => step_of_ignore_submodules_value(value, draft),
-        Opt::Left => Step::Wrong(Wrong::Left),
-        _ => Step::Wrong(Wrong::TakesNoValue),
+        Opt::RulesFile | Opt::Left => Step::Wrong(Wrong::Left),
     }
 }
 
@@ -472,7 +302,7 @@ fn step_of_letters(verb: Verb, text: &[u8], draft: Draft) -> Step
         said = draft_with_letter_option(opt, said);
         rest = after;
     }
-    step_with_draft_then_any_word(said)
+    step_with_draft(said)
 }
 
 /// A path, where the command takes paths.

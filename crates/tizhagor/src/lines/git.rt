@@ -14,6 +14,28 @@ use git_setup::GitRefusal;
 use gitbase_core::{Bytes, IndexError, OutOfMemory};
 use std::alloc::Global;
 
+/// The line of what stands in the place of the index and is no file.
+fn index_is_no_file_line(alloc: Global, path: &[u8]) -> Result<Bytes, OutOfMemory>
+    ensures { IfOk result (λ line. line ≡ words.line_of_git_refusal (GitRefusal.IndexNode path.now)) }
+{
+    text_with_escaped_path(alloc, b"fatal: '", path, b"' is no file\n")
+}
+
+/// The line of a path spec that git refuses.
+fn bad_pathspec_line(alloc: Global, text: &[u8]) -> Result<Bytes, OutOfMemory>
+    ensures { IfOk result (λ line. line ≡ words.line_of_git_refusal (GitRefusal.PathSpec text.now)) }
+{
+    text_with_escaped_path(alloc, b"fatal: bad pathspec '", text, b"'\n")
+}
+
+/// The line of a path that leads out of the work tree.
+fn path_outside_repository_line(alloc: Global, text: &[u8]) -> Result<Bytes, OutOfMemory>
+    ensures { IfOk result
+        (λ line. line ≡ words.line_of_git_refusal (GitRefusal.OutsidePath text.now)) }
+{
+    text_with_escaped_path(alloc, b"fatal: '", text, b"' is outside repository\n")
+}
+
 /// The line of an index file outside its grammar.
 fn index_file_error_line(
     alloc: Global,
@@ -105,12 +127,7 @@ pub fn line_of_git_refusal(alloc: Global, refusal: &GitRefusal) -> Result<Bytes,
         GitRefusal::Elsewhere { name } => variable_not_heeded_line(alloc, name.as_bytes()),
         GitRefusal::Places(error) => line_of_places_error(alloc, error),
         GitRefusal::Foreign { path } => dubious_ownership_line(alloc, path.as_bytes()),
-        GitRefusal::IndexNode { path } => text_with_escaped_path(
-            alloc,
-            b"fatal: '",
-            path.as_bytes(),
-            b"' is no file\n",
-        ),
+        GitRefusal::IndexNode { path } => index_is_no_file_line(alloc, path.as_bytes()),
         GitRefusal::IndexFile { path, error } => index_file_error_line(
             alloc,
             path.as_bytes(),
@@ -130,18 +147,8 @@ pub fn line_of_git_refusal(alloc: Global, refusal: &GitRefusal) -> Result<Bytes,
         GitRefusal::OutsideRoot { directory, root } => {
             directory_outside_repository_line(alloc, directory.as_bytes(), root.as_bytes())
         }
-        GitRefusal::PathSpec { text } => text_with_escaped_path(
-            alloc,
-            b"fatal: bad pathspec '",
-            text.as_bytes(),
-            b"'\n",
-        ),
-        GitRefusal::OutsidePath { text } => text_with_escaped_path(
-            alloc,
-            b"fatal: '",
-            text.as_bytes(),
-            b"' is outside repository\n",
-        ),
+        GitRefusal::PathSpec { text } => bad_pathspec_line(alloc, text.as_bytes()),
+        GitRefusal::OutsidePath { text } => path_outside_repository_line(alloc, text.as_bytes()),
         GitRefusal::Prefix { text, prefix } => {
             pathspec_prefix_error_line(alloc, text.as_bytes(), prefix.as_bytes())
         }

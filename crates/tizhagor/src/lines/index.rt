@@ -12,6 +12,9 @@ use std::alloc::Global;
 /// What mends a broken index file.
 const MEND: &[u8] = b"; move it away, and make it anew from HEAD with 'git reset'\n";
 
+/// That an index is split, and what joins it.
+const SPLIT: &[u8] = b": the index is split; join it with 'git update-index --no-split-index'\n";
+
 /// How an index file is broken, and what mends it.
 fn reason_with_repair_advice(alloc: Global, reason: &[u8]) -> Result<Bytes, OutOfMemory>
     ensures { IfOk result (λ line. line ≡ reason.now ++ words.index_repair_advice) }
@@ -19,6 +22,19 @@ fn reason_with_repair_advice(alloc: Global, reason: &[u8]) -> Result<Bytes, OutO
     let mut line = Bytes::from_slice(alloc, reason)?;
     line.extend(alloc, MEND)?;
     Ok(line)
+}
+
+/// That an index has an extension of this name, which has to be understood.
+fn unknown_index_extension_reason(alloc: Global, name: &[u8; 4]) -> Result<Bytes, OutOfMemory>
+    ensures { IfOk result
+        (λ line. line ≡ words.index_file_error_reason (IndexFileError.Unknown name.now)) }
+{
+    text_with_escaped_path(
+        alloc,
+        b": index uses ",
+        name,
+        b" extension, which we do not understand\n",
+    )
 }
 
 /// How an index file is outside its grammar, behind its path.
@@ -54,16 +70,8 @@ pub fn index_file_error_reason(alloc: Global, error: &IndexFileError) -> Result<
             alloc,
             b": index file corrupt: bad extensions",
         ),
-        IndexFileError::Split => copy_fixed_line(
-            alloc,
-            b": the index is split; join it with 'git update-index --no-split-index'\n",
-        ),
-        IndexFileError::Unknown { name } => text_with_escaped_path(
-            alloc,
-            b": index uses ",
-            name,
-            b" extension, which we do not understand\n",
-        ),
+        IndexFileError::Split => copy_fixed_line(alloc, SPLIT),
+        IndexFileError::Unknown { name } => unknown_index_extension_reason(alloc, name),
         IndexFileError::Directory { at } => text_with_number_from_one(
             alloc,
             b": index file corrupt: directory at entry ",

@@ -110,6 +110,19 @@ fn unsupported_sha256_line(alloc: Global, path: &Option<PathText>) -> Result<Byt
     Ok(line)
 }
 
+/// The line of a directory that is named and is not there.
+fn missing_directory_line(alloc: Global, path: &[u8]) -> Result<Bytes, OutOfMemory>
+    ensures { IfOk result
+        (λ line. line ≡ words.line_of_places_error (PlacesError.NoDirectory path.now)) }
+{
+    text_with_escaped_path(
+        alloc,
+        b"fatal: failed to stat '",
+        path,
+        b"': No such file or directory\n",
+    )
+}
+
 /// The line of a work tree that is not found, or of a repository that is not read.
 pub fn line_of_places_error(alloc: Global, error: &PlacesError) -> Result<Bytes, OutOfMemory>
     ensures { IfOk result (λ line. line ≡ words.line_of_places_error error.now) }
@@ -120,12 +133,7 @@ pub fn line_of_places_error(alloc: Global, error: &PlacesError) -> Result<Bytes,
             b"fatal: not a git repository (or any of the parent directories): .git\n",
         ),
         PlacesError::Border { path } => filesystem_boundary_line(alloc, path.as_bytes()),
-        PlacesError::NoDirectory { path } => text_with_escaped_path(
-            alloc,
-            b"fatal: failed to stat '",
-            path.as_bytes(),
-            b"': No such file or directory\n",
-        ),
+        PlacesError::NoDirectory { path } => missing_directory_line(alloc, path.as_bytes()),
         PlacesError::Bare { path: _ } => copy_fixed_line(
             alloc,
             b"fatal: this operation must be run in a work tree\n",
