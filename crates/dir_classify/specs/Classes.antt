@@ -33,7 +33,7 @@ pub record AsksRulesAboutPath {W F T : Type 0} (w : WorktreeOf W) (f : FindOf F)
   pub store : KeepsStoredObjects f o0 o1
   pub unmapped : maps_rules_files_to_blobs (setup_of_optional_stack old) ≡ false → o1 ≡ o0
   pub rules : KeepsRulesInStep w f w0 o0 old new
-  -- Told or not, the rules were asked about this path alone, and so often was the worktree read at most.
+  -- Told or not, the rules were asked at most once, and about no other path, and so often was the worktree read at most.
   pub reads : AsksRulesAtMostOnce most path (w.reads w0) (w.reads w1) o0 o1 old new result
 
 -- What a question about the class of a path answers and leaves, by the kind on disk, where that may be asked, and by the evidence; a
@@ -55,7 +55,7 @@ pub record AnswersClassQuestion {W F : Type 0} (w : WorktreeOf W) (f : FindOf F)
   pub unruled : (s : TreeAndObjects) → w.told w0 ≡ Some s.tree → CountNotIncreased (w.faults w0) (w.faults w1)
       → q.asks (kind_on_disk_if_asked given s.tree q.path q.ask_disk) (evidence_from_setting_and_sources given (setup_of_optional_stack old) s) ≡ false
       → IfOk result (λ c. c ≡ q.judge (kind_on_disk_if_asked given s.tree q.path q.ask_disk) (evidence_from_setting_and_sources given (setup_of_optional_stack old) s))
-  -- The rules are asked about this path alone. If they are refused, they were asked by the kind that was read.
+  -- The rules are asked at most once, and about no other path. If they are refused, they were asked by the kind that was read.
   pub asking : AsksRulesAboutPath w f w0 w1 o0 o1 old new (most_reads_to_classify_path given.options) q.path result
   pub asked : (s : TreeAndObjects) → w.told w0 ≡ Some s.tree
       → IfErr result (HoldsOfExcludesError (IsRefusedByKindAsRead (w.faults w0) (w.faults w1) (λ kind. q.asks kind (evidence_from_setting_and_sources given (setup_of_optional_stack old) s)) (kind_on_disk_if_asked given s.tree q.path q.ask_disk)))

@@ -70,7 +70,8 @@ pub(crate) fn ruling_of_optional_stack<W: Worktree, F: Find>(
         (F.holds objects.old) (setup_of_optional_stack excludes.old) s → IsStackInStepIfGiven s
         excludes.old → OnOk result (is_some_rules_file_unread (setup_of_optional_stack excludes.old)
         s rela_path.now ≡ false) }
-    // The rules are asked about this path alone; each refusal has its cause, and what stays.
+    // The rules are asked at most once, and about no other path. Each refusal has its cause. Of the
+    // worktree and the store nothing changes but counts, and the rules stay in step.
     ensures asking { AsksRulesAboutPath W.Worktree F.Find worktree.old worktree.new objects.old
         objects.new excludes.old excludes.new 0 rela_path.now result }
     ensures by_mappings { may_read_worktree_rules (setup_of_optional_stack excludes.old) ≡ false
@@ -105,7 +106,8 @@ fn ruling_of_stack<W: Worktree, F: Find>(
         (F.holds objects.old) (Some (setup_of_stack stack.old)) s → IsStackInStepIfGiven s
         (Some stack.old) → OnOk result (is_some_rules_file_unread (Some (setup_of_stack stack.old))
         s rela_path.now ≡ false) }
-    // The rules are asked about this path alone; each refusal has its cause, and what stays.
+    // The rules are asked at most once, and about no other path. Each refusal has its cause. Of the
+    // worktree and the store nothing changes but counts, and the rules stay in step.
     ensures asking { AsksRulesAboutPath W.Worktree F.Find worktree.old worktree.new objects.old
         objects.new (Some stack.old) (Some stack.new) 0 rela_path.now result }
     ensures by_mappings { may_read_worktree_rules (Some (setup_of_stack stack.old)) ≡ false

@@ -202,7 +202,8 @@ fn ruling_unless_worktree_root<W: Worktree, F: Find, M: Matcher>(
         (λ ev. ruling_unless_worktree_root (walk_options_of shared.now.options) ev rela_path.now
         kind) (evidence_from_setting_and_sources (setting_of_shared M.Matcher shared.now)
         (setup_of_optional_stack excludes.old) s)) }
-    // The rules are asked about this path alone; each refusal has its cause, and what stays.
+    // The rules are asked at most once, and about no other path. Each refusal has its cause. Of the
+    // worktree and the store nothing changes but counts, and the rules stay in step.
     ensures asking { AsksRulesAboutPath W.Worktree F.Find worktree.old worktree.new objects.old
         objects.new excludes.old excludes.new 0 rela_path.now result }
     ensures asked { IfErr result (HoldsIfExcludesError

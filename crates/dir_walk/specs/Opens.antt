@@ -36,20 +36,21 @@ abbrev pub count_pushed_on_way : Option (List (List ℕ)) → List (List ℕ) �
 count_pushed_on_way None names = 0
 count_pushed_on_way (Some pushed) names = length (longest_common_prefix pushed names) + 1
 
--- Files are read for their rules alone: repositories are walked into like directories, and no deletion looks for repositories in
--- what is ignored.
+-- Files are read for their rules alone: repositories are walked into like directories, and the mode of deletion is not the one in which
+-- ignored directories can hide repositories.
 abbrev pub reads_files_for_rules_only : WalkOptions → Bool
 reads_files_for_rules_only o = o.recurse_repositories && not (ignored_may_hide_repositories o.for_deletion)
 
--- In the directory of these names, or beneath it, some directories were opened, of which `Within` says how many; `own` is one where
--- it was itself among them. Where files are read for their rules alone, and the rules are ignore rules alone, the
--- worktree was read at most once for each of the others, and once for each directory on the way to this one whose rules
--- were not held; and at most `spare` times more. `deep` more were found too deep.
+-- Some directories were opened, of which `Within` says how many, and `deep` more were found too deep. Reads are bounded where files are
+-- read for their rules alone, and the rules are ignore rules alone; `names` lead to the directory that the step stands in, and `own` is
+-- taken off the bound, 1 where the step opened that directory itself.
 pub record OpensBoundedDirectories {W I : Type 0} (w : WorktreeOf W) (i : InterruptOf I) (w0 w1 : W) (i0 i1 : I) (start stop : Outcome)
     (o : WalkOptions) (old new : Option StackModel) (names : List (List ℕ)) (own spare deep : ℕ) (Within : ℕ → Type 0) : Type 0 where
   pub opened : ℕ
+  -- The worktree and the walk counted so many, and the interrupt was asked at least so often, and for what was found too deep.
   pub opens : CountsOpenedAndTooDeep w i w0 w1 i0 i1 start stop opened deep
   pub within : Within opened
+  -- The reads rose by at most those opened, less `own`, the directories on the way whose rules are newly held, and `spare`.
   pub reads : reads_files_for_rules_only o ≡ true → has_attributes_if_given (setup_of_optional_stack old) ≡ false
       → w.reads w1 + count_pushed_on_way (directories_pushed_in_stack old) names + own ≤ w.reads w0 + count_pushed_on_way (directories_pushed_in_stack new) names + opened + spare
 

@@ -58,9 +58,8 @@ IsErrorOfStep given (at_name directory name) = λ made s limit Failed. IsWalkErr
 abbrev pub OpenedCounting : Type 0 → Type 0 → Type 0 → Type 0 → Type 1
 OpenedCounting W F I D = WalkState W F I D → WalkState W F I D → Result Handed Stop → (ℕ → Type 0) → Type 0
 
--- Some number of directories was opened over the worktree itself, which counted so many, as the walk and the interrupt did, and it is
--- within what is claimed. The directory of these names is one of them where `own` is 1; the rules files of directories above it were
--- read before.
+-- Some number of directories was opened over the worktree itself, which counted so many, as the walk did; the interrupt was asked at
+-- least so often, and the number is within what is claimed. `own` is 1 where the directory of these names was opened in the step itself.
 abbrev pub CountsOpenedDirectories : {W F I D : Type 0} → WorktreeOf W → InterruptOf I → WalkOptions → List (List ℕ) → ℕ → OpenedCounting W F I D
 CountsOpenedDirectories w i o names own before now result Within =
     OpensBoundedDirectories w i before.worktree now.worktree before.interrupt now.interrupt before.outcome now.outcome o before.rules now.rules names own (count_refused_walk result) (count_too_deep_in_walk result) Within
@@ -76,17 +75,20 @@ CountsOpenedOverOneFork i before now result Within = EntersBoundedDirectoriesOve
 
 -- ---- over what is told
 
--- Over a told tree and a told store, with which the rules are in step: where the worktree did not fail, a step gives all of what is
--- there, and a part of it where it ends before; and it is refused for what is there.
+-- A step over what is told (`IsWalkOverSources`), for a delegate that recurses by default. What it got is spoken of where it tells that.
 pub record StepWalksOverSources {W F I D : Type 0} (w : WorktreeOf W) (f : FindOf F) (d : DelegateOf D) (before now : WalkState W F I D) (given : WalkSetting) (blocked : Option (List ℕ)) (levels : ℕ) (step : WalkStep) (result : Result Handed Stop) : Type 0 where
+  -- After Ok without a fault of the worktree the delegate was given exactly what the step's walk there puts out and shows, in any
+  -- order; the counts rose as there, what is handed up and `blocks` are as there, and nothing there is refused.
   pub gives : (made : Option StackSetup) (s : TreeAndObjects) → IsWalkOverSources given (w.told before.worktree) (f.holds before.objects) before.rules blocked made s → CountNotIncreased (w.faults before.worktree) (w.faults now.worktree)
       → d.is_default before.delegate ≡ true → (limit : ℕ) → depth_limit_of_step levels step ≡ limit
       → IfOk result (GivesAllWalkedUnrefused given.options limit (evidence_from_setting_and_sources given made s) (walk_result_of_step given step made s) (d.given before.delegate) (d.given now.delegate) before.outcome now.outcome)
-  -- refused or broken off
+  -- Refused or broken off without a fault, the delegate was given some of what is put out and shown there, and no more was seen than
+  -- there.
   pub part : (made : Option StackSetup) (s : TreeAndObjects) → IsWalkOverSources given (w.told before.worktree) (f.holds before.objects) before.rules blocked made s → CountNotIncreased (w.faults before.worktree) (w.faults now.worktree)
       → d.is_default before.delegate ≡ true
       → OnErr result (AddsPartOfWalkResult given.options (walk_result_of_step given step made s) (d.given before.delegate) (d.given now.delegate) before.outcome now.outcome)
-  -- a fault of the worktree is a cause too
+  -- A refusal is for what is there, or for a fault or what one hid. Of `Interrupted`, `OutOfMemory` and listings that failed nothing is
+  -- said.
   pub refused : (made : Option StackSetup) (s : TreeAndObjects) → IsWalkOverSources given (w.told before.worktree) (f.holds before.objects) before.rules blocked made s → d.is_default before.delegate ≡ true → (limit : ℕ) → depth_limit_of_step levels step ≡ limit
       → IfErr result (HoldsOfErrorIfRefused (IsErrorOfStep given step made s limit (CountIncreasedOrSaturated (w.faults before.worktree) (w.faults now.worktree))))
 
@@ -97,15 +99,27 @@ OpensAtMostEntered w f d before now given blocked levels step result =
 
 -- ---- over any worktree
 
--- What a refusal of a step is about, what stays of what was handed in, and what the delegate is given.
+-- A step over any worktree: what a refusal is about, what stays of what was handed in, and what the delegate is given.
 pub record StepWalksOverAnyWorktree {W F I D : Type 0} (w : WorktreeOf W) (f : FindOf F) (i : InterruptOf I) (d : DelegateOf D) (before now : WalkState W F I D) (given : WalkSetting) (levels : ℕ) (step : WalkStep) (result : Result Handed Stop) : Type 0 where
+  -- A refusal names a path within the limit, or one level below it if `TooDeep`; `Interrupted` and `OutOfMemory` name none, and
+  -- `ExcludesAccess` a rules file or a blob of a directory within the limit. Those of a walk's beginning do not come.
   pub about : (limit : ℕ) → depth_limit_of_step levels step ≡ limit → IfErr result (HoldsOfErrorIfRefused (IsWalkErrorWithinLimit (setup_of_optional_stack before.rules) given.root limit))
+  -- Over a told tree what `ReadDir` names cannot be listed, and over a told store too what `ExcludesAccess` names is refused, unless a
+  -- fault is named.
   pub found : (s : TreeAndObjects) → w.told before.worktree ≡ Some s.tree → IfErr result (HoldsOfErrorIfRefused (IsWalkErrorByTree given.root (f.holds before.objects) s (setup_of_optional_stack before.rules)))
+  -- A fault or an interrupt that caused a refusal was counted. Where the step is not refused, no listing failed and no interrupt came.
   pub caused : CountsCausesOfRefusals w f i before.worktree now.worktree before.objects now.objects before.interrupt now.interrupt result
+  -- The worktree tells the same tree, the store the same objects, and no count of them falls.
   pub worktree : KeepsWorktree w before.worktree now.worktree
   pub store : KeepsStoredObjects f before.objects now.objects
+  -- The interrupt was asked at least as often as it came.
   pub interrupt : AsksInterruptPerRaise i before.interrupt now.interrupt
+  -- What the delegate tells that it was given in this step, and what is handed up, is at or beneath the step's path, no path twice; what is handed up
+  -- is an entry at that path.
   pub hands : HandsUpOnlyEntryAtPath (path_of_step step) (one_at_or_beneath_path (path_of_step step)) (d.given before.delegate) (d.given now.delegate) before.outcome now.outcome result
+  -- What the delegate was given before stays in front, whether it recurses by default stays, and no count of it falls.
   pub delegate : KeepsDelegateRunning d before.delegate now.delegate
+  -- Of what it was given in this step the options hide nothing.
   pub filtered : AddsNoHiddenEmission given.options (d.given before.delegate) (d.given now.delegate)
+  -- The step is broken off just where the delegate counted a Break, and that was its last answer.
   pub heeds : HeedsDelegateBreak d before.delegate now.delegate result

@@ -60,7 +60,8 @@ pub(crate) fn classify_name_asking_disk<W: Worktree, F: Find, M: Matcher>(
 
 /// Walks the name `name` in the directory at `place`, which is open already, and gives what the
 /// name hands up to that directory, as [`Handed`] says. `levels` more levels of directories may be
-/// entered below the directory. `beneath` are the entries of the index beneath the directory.
+/// entered below the directory at `place`; so the limit is as many components as its path has, and
+/// `levels` more. `beneath` are the entries of the index beneath it.
 /// `blocked` is the current directory where deletion is asked for, if it lies in the worktree: if
 /// the walk enters it, neither it nor a directory above it is folded.
 ///
@@ -89,45 +90,51 @@ fn walk_name_in_directory<W: Worktree, F: Find, I: Interrupt, M: Matcher, D: Del
         ≡ true }
     // The parts lie behind the same references as before.
     ensures same { KeepsPartReferences parts.old parts.new }
-    // Over any worktree it ends as Broken exactly where the delegate answered Break. A refusal is
-    // about a path of the worktree within the limit, or one level below it if TooDeep. A fault or
-    // an interrupt that caused it was counted. After Ok or Broken no listing failed and no
-    // interrupt came. Of the worktree, the store and the interrupt nothing changes but counts. What
-    // the delegate tells that it got is at or beneath this name, and the options hide none of it.
-    // What is handed up is an entry at this path. Both together have no path twice.
+    // Over any worktree. It ends as Broken just where the delegate counted a Break. A refusal names
+    // a path within the limit, or one level below it if TooDeep; Interrupted and OutOfMemory name
+    // none, and ExcludesAccess names a rules file or a blob. Over a told tree, the directory that
+    // ReadDir names cannot be listed there, unless a fault is named. A fault or an interrupt that
+    // caused a refusal was counted. After Ok or Broken no listing failed and no interrupt came. What
+    // the worktree and the store tell stays, and no count falls. If the delegate tells what it got,
+    // that of before stays in front, and what it got in this call is at or beneath this name; the
+    // options hide none of it. What is handed up is an entry at this name. Both together have no
+    // path twice.
     ensures walks { StepWalksOverAnyWorktree W.Worktree F.Find I.Interrupt D.Delegate
         (walk_state_of_parts parts.old) (walk_state_of_parts parts.new)
         (setting_of_shared M.Matcher shared.now) levels (at_name place.old.path name.now) result }
     // Let the tree be told (with rules, the store too), the rules be in step, `blocked` be as that
-    // tree has it, and recursion be the default. Without a fault of the worktree, Ok gives exactly
-    // what is there, in any order, and none of it is to be refused. Any other end gives some of it.
-    // A refusal is for what is there, or a fault hid that, unless it is for the interrupt, for a
-    // listing, a rules file or a blob that failed, or for want of memory.
+    // tree has it, and the delegate recurse by default. Then, after Ok without a fault of the
+    // worktree, the delegate got exactly what this name's walk in that tree puts out and shows, in
+    // any order, and the counts rose as there. The entry handed up and `blocks` are those of that
+    // walk, which refuses nothing. After any other end without a fault the delegate got some of it.
+    // A refusal is for what is in that tree, or for a fault or what one hid. It says nothing of
+    // Interrupted, of OutOfMemory and of listings that failed.
     ensures told { StepWalksOverSources W.Worktree F.Find D.Delegate
         (walk_state_of_parts parts.old) (walk_state_of_parts parts.new)
         (setting_of_shared M.Matcher shared.now) blocked.now levels
         (at_name place.old.path name.now) result }
     // Some number of directories was opened: the worktree and the walk counted so many, and the
-    // interrupt was asked before each. Told as above and without a fault, it is at most the number
-    // that the walk enters from here within the limit, and one more if a listing or memory was
-    // refused. The 0 says that the place's own directory, which the caller opened, is not among
-    // them. Where files are read for ignore rules alone, each takes at most one read. So does each
-    // directory from the root to the place's whose rules were not held, and a refusal.
+    // interrupt was asked at least so often. Told as above and without a fault, it is at most the
+    // number that the walk enters from here within the limit, and one more if a listing or memory
+    // was refused. If `recurse_repositories` is on, the mode of deletion is not the one in which
+    // ignored directories can hide repositories, and the rules have no attributes, reads are
+    // bounded: they rose by at most the directories opened, those from the root to the place's whose
+    // rules are newly held, and 1 if refused. The 0 says that the caller opened the place's own
+    // directory, so that nothing is taken off this bound for it.
     ensures opens { CountsOpenedDirectories W.Worktree I.Interrupt
         (walk_options_of shared.now.options) (components place.old.path) 0
         (walk_state_of_parts parts.old) (walk_state_of_parts parts.new) result
         (OpensAtMostEntered W.Worktree F.Find D.Delegate (walk_state_of_parts parts.old)
         (walk_state_of_parts parts.new) (setting_of_shared M.Matcher shared.now) blocked.now levels
         (at_name place.old.path name.now) result) }
-    // A store that no rules file is mapped to is not asked.
+    // If no rules file is mapped to a blob, the store stays as it was.
     ensures unmapped { maps_rules_files_to_blobs (setup_of_optional_stack parts.old.excludes.now)
         ≡ false → parts.new.objects.now ≡ parts.old.objects.now }
     // The rules keep the setup that they were made with; where they were in step with what is told
     // of the tree and the store, they still are.
     ensures rules { KeepsRulesInStep W.Worktree F.Find parts.old.worktree.now
         parts.old.objects.now parts.old.excludes.now parts.new.excludes.now }
-    // The place is the same when all is done. After a refusal or a break it is where the walk
-    // stood, and the caller is not to go on with it.
+    // The place is the same when all is done. After a refusal or a break nothing is said of it.
     ensures stays { OnOk result (place.new ≡ place.old) }
 {
     let cut = place.push(alloc, name)?;
@@ -219,7 +226,7 @@ pub(crate) fn walk_directory<W: Worktree, F: Find, I: Interrupt, M: Matcher, D: 
         (OpensAtMostEntered W.Worktree F.Find D.Delegate (walk_state_of_parts parts.old)
         (walk_state_of_parts parts.new) (setting_of_shared M.Matcher shared.now) blocked.now levels
         (at_directory place.old.path class.now) result) }
-    // A store that no rules file is mapped to is not asked.
+    // If no rules file is mapped to a blob, the store stays as it was.
     ensures unmapped { maps_rules_files_to_blobs (setup_of_optional_stack parts.old.excludes.now)
         ≡ false → parts.new.objects.now ≡ parts.old.objects.now }
     // The rules that were handed in stay in step.

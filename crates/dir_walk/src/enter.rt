@@ -153,7 +153,7 @@ fn walk_root_within_depth_limit<W: Worktree, F: Find, I: Interrupt, M: Matcher, 
         place.old.path result (OpensAtMostEnteredAtRoot W.Worktree F.Find D.Delegate
         (walk_state_of_parts parts.old) (walk_state_of_parts parts.new) (setting_of_shared M.Matcher
         shared.now) blocked.now depth_limit place.old.path class.now result) }
-    // A store that no rules file is mapped to is not asked where all is walked over it.
+    // If no rules file is mapped to a blob, the store stays as it was where all is walked over it.
     ensures unmapped { strategy ≡ Held → maps_rules_files_to_blobs (setup_of_optional_stack
         parts.old.excludes.now) ≡ false → parts.new.objects.now ≡ parts.old.objects.now }
 {
@@ -208,7 +208,7 @@ pub(crate) fn walk_entered_traversal_root<
         result (OpensAtMostEnteredInRoot W.Worktree F.Find D.Delegate
         (walk_state_of_parts parts.old) (walk_state_of_parts parts.new) (setting_of_shared M.Matcher
         shared.now) depth_limit path.now class.now result) }
-    // A store that no rules file is mapped to is not asked where all is walked over it.
+    // If no rules file is mapped to a blob, the store stays as it was where all is walked over it.
     ensures unmapped { strategy ≡ Held → maps_rules_files_to_blobs (setup_of_optional_stack
         parts.old.excludes.now) ≡ false → parts.new.objects.now ≡ parts.old.objects.now }
     // Over any worktree, what the delegate is given, what stays, and how it ends.

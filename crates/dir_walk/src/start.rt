@@ -213,7 +213,7 @@ pub(crate) fn walk_from_traversal_root<W: Worktree, F: Find, I: Interrupt, M: Ma
         result (OpensAtMostEnteredFromRoot W.Worktree F.Find D.Delegate
         (walk_state_of_parts parts.old) (walk_state_of_parts parts.new) (setting_of_shared M.Matcher
         shared.now) depth_limit root.now result) }
-    // A store that no rules file is mapped to is not asked where all is walked over it.
+    // If no rules file is mapped to a blob, the store stays as it was where all is walked over it.
     ensures unmapped { strategy ≡ Held → maps_rules_files_to_blobs (setup_of_optional_stack
         parts.old.excludes.now) ≡ false → parts.new.objects.now ≡ parts.old.objects.now }
     // Over any worktree, what the delegate is given, what stays, and how it ends.
