@@ -1,5 +1,5 @@
 -- By which rule it is decided whether a path is excluded: git-check-ignore(1), gitignore(5).
-use Rattle.std.specs.Prelude.{ℕ, List, [], Bool, true, false, not, ◌&&◌, ◌||◌, Option, Some, None, option_map, Result, Ok, Err, if◌then◌else◌}
+use Rattle.std.specs.Prelude.{ℕ, List, Bool, true, false, not, ◌&&◌, ◌||◌, Option, Some, None, option_map, Result, Ok, Err, if◌then◌else◌}
 use Rattle.std.specs.FinMap.{empty}
 use Rattle.std.specs.List.{list_all}
 use Rattle.gitbase_core.specs.Path.{components, is_empty}
@@ -76,16 +76,16 @@ look_up_deciding_rule t made a is_dir = if is_normal_path_with_readable_rules t 
 abbrev pub is_asked_as_or_is_directory : Names → List ℕ → AskedPath → Bool
 is_asked_as_or_is_directory t root a = a.names_directory || is_directory_kind (kind_below_root_unfollowed t root a.path)
 
-abbrev pub excludes : Option FoundRule → Bool
-excludes None = false
-excludes (Some rule) = not rule.is_negative
+abbrev pub is_excluding_rule : Option FoundRule → Bool
+is_excluding_rule None = false
+is_excluding_rule (Some rule) = not rule.is_negative
 
 -- Behind a directory that no rule excludes git asks its rules once more, for a path without a name; this is not answered.
-abbrev pub is_top_or_unexcluded_directory : AskedPath → Option FoundRule → Bool
-is_top_or_unexcluded_directory a rule = a.names_directory && (is_empty a.path || not (excludes rule))
+abbrev pub is_asked_as_directory_and_top_or_unexcluded : AskedPath → Option FoundRule → Bool
+is_asked_as_directory_and_top_or_unexcluded a rule = a.names_directory && (is_empty a.path || not (is_excluding_rule rule))
 
 abbrev pub refuse_top_or_unexcluded_if_asked_as_directory : AskedPath → Option FoundRule → Result (Option FoundRule) Stop
-refuse_top_or_unexcluded_if_asked_as_directory a rule = if is_top_or_unexcluded_directory a rule then Err (stops.Slash a.text) else Ok rule
+refuse_top_or_unexcluded_if_asked_as_directory a rule = if is_asked_as_directory_and_top_or_unexcluded a rule then Err (stops.Slash a.text) else Ok rule
 
 -- that no rule excludes all
 abbrev pub everything_error_if_rule_place_given : AskedPath → Option RulePlace → Result Bool Stop

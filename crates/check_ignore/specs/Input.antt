@@ -1,8 +1,9 @@
 -- The paths of an input, and what is answered of them: git-check-ignore(1), "--stdin", "-z".
-use Rattle.std.specs.Prelude.{ℕ, List, [], ◌∷◌, Bool, ◌==◌, ◌-◌, length, slice_index, take, Option, Some, None, Result, Ok, Err, if◌then◌else◌}
+use Rattle.std.specs.Prelude.{ℕ, List, [], ◌∷◌, ◌==◌, ◌-◌, length, slice_index, take, Option, Some, None, Result, Ok, Err, if◌then◌else◌}
 use Rattle.std.specs.List.{before_first, slice_split}
 use Rattle.gitbase_core.specs.Steps.{and_then}
 use Rattle.gitbase_core.specs.declared.entry.IndexEntry.{IndexEntry}
+use Rattle.gitbase_core.specs.Text.{is_nul}
 use Rattle.worktree_fs.specs.Tree.{Names}
 use Rattle.check_ignore.specs.Checked.{check_ignore_answer, empty_answer, answer_with_other_appended}
 use Rattle.check_ignore.specs.Lines.{byte_or_nul_if_z}
@@ -33,12 +34,9 @@ input_lines end (b ∷ bytes) = split_at_byte end (without_last_terminator end (
 
 -- ---- their paths
 
-abbrev pub is_nul_byte : ℕ → Bool
-is_nul_byte b = b == 0
-
 -- a NUL ends a path
 abbrev pub bytes_before_nul : List ℕ → List ℕ
-bytes_before_nul bytes = before_first is_nul_byte bytes
+bytes_before_nul bytes = before_first is_nul bytes
 
 abbrev pub path_or_bad_quotes_error : Option (List ℕ) → Result (List ℕ) Stop
 path_or_bad_quotes_error None = Err stops.BadQuotes

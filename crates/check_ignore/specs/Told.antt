@@ -3,8 +3,8 @@ use Rattle.std.specs.Prelude.{ℕ, List, ◌++◌, codes, decimal}
 use Rattle.check_ignore.specs.declared.stop.Stop.{Stop}
 use Rattle.check_ignore.specs.declared.stop.Stop.TheVariants as stops
 
-abbrev pub outside : List ℕ → List ℕ → List ℕ
-outside root text = (text ++ codes ": '" ++ text) ++ codes "' is outside repository at '" ++ root ++ codes "'"
+abbrev pub outside_repository_text : List ℕ → List ℕ → List ℕ
+outside_repository_text root text = (text ++ codes ": '" ++ text) ++ codes "' is outside repository at '" ++ root ++ codes "'"
 
 abbrev pub inside_submodule_text : List ℕ → List ℕ → List ℕ
 inside_submodule_text text place = (codes "Pathspec '" ++ text ++ codes "' is in submodule '") ++ place ++ codes "'"
@@ -21,7 +21,7 @@ excluding_rule_text file line = (codes "a rule outside the work tree that exclud
 abbrev pub told : List ℕ → Stop → List ℕ
 told root stops.BadQuotes = codes "line is badly quoted"
 told root stops.Empty = codes "empty string is not a valid pathspec. please use . instead if you meant to match all paths"
-told root (stops.Outside text) = outside root text
+told root (stops.Outside text) = outside_repository_text root text
 told root (stops.Beyond text) = codes "pathspec '" ++ text ++ codes "' is beyond a symbolic link"
 told root (stops.Inside text place) = inside_submodule_text text place
 told root (stops.Magic text) = unsupported_text (codes "path spec magic") text

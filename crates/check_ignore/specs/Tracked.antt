@@ -1,26 +1,18 @@
 -- What the index has of paths that are asked about.
-use Rattle.std.specs.Prelude.{List, [], ◌∷◌, Bool, true, false, not, ◌==◌, Option, Some, None, find, Result, Ok, Err, if◌then◌else◌}
+use Rattle.std.specs.Prelude.{List, [], ◌∷◌, Bool, true, Option, Some, None, find, Result, Ok, Err, if◌then◌else◌}
 use Rattle.std.specs.List.{list_any}
-use Rattle.gitbase_core.specs.Entry.{mode_bits, gitlink_mode, sparse_directory_mode}
+use Rattle.gitbase_core.specs.Entry.{is_submodule_entry, is_sparse_directory_entry}
 use Rattle.gitbase_core.specs.Path.{is_beneath_directory}
 use Rattle.gitbase_core.specs.declared.entry.IndexEntry.{IndexEntry}
 use Rattle.glob_rules.specs.PathSpec.{PathSpec}
-use Rattle.glob_rules.specs.PathSpecs.{match_of_path_by_specs}
-use Rattle.glob_rules.specs.declared.pathspec.Match.{Match}
+use Rattle.glob_rules.specs.PathSpecs.{match_of_path_by_specs, is_including_match}
 use Rattle.check_ignore.specs.declared.asked.AskedPath.{AskedPath}
 use Rattle.check_ignore.specs.declared.stop.Stop.{Stop}
 use Rattle.check_ignore.specs.declared.stop.Stop.TheVariants as stops
 
-abbrev pub is_match_not_excluded : Option Match → Bool
-is_match_not_excluded None = false
-is_match_not_excluded (Some m) = not m.excluded
-
-abbrev pub is_entry_of_submodule : IndexEntry → Bool
-is_entry_of_submodule e = mode_bits e.mode == gitlink_mode
-
 -- a path spec takes an entry; a directory stands at the path of a submodule
 abbrev pub is_entry_matched_by_spec : List PathSpec → IndexEntry → Bool
-is_entry_matched_by_spec spec e = is_match_not_excluded (match_of_path_by_specs spec e.path (Some (is_entry_of_submodule e)))
+is_entry_matched_by_spec spec e = is_including_match (match_of_path_by_specs spec e.path (Some (is_submodule_entry e)))
 
 -- the index has a path, or what lies beneath it
 abbrev pub is_any_entry_matched_by_spec : List IndexEntry → List PathSpec → Bool
@@ -28,11 +20,8 @@ is_any_entry_matched_by_spec index spec = list_any (is_entry_matched_by_spec spe
 
 -- ---- what is refused
 
-abbrev pub is_entry_of_sparse_directory : IndexEntry → Bool
-is_entry_of_sparse_directory e = mode_bits e.mode == sparse_directory_mode
-
 abbrev pub refuse_sparse_index : List IndexEntry → Result Bool Stop
-refuse_sparse_index index = if list_any is_entry_of_sparse_directory index then Err stops.SparseIndex else Ok true
+refuse_sparse_index index = if list_any is_sparse_directory_entry index then Err stops.SparseIndex else Ok true
 
 -- a path lies in the submodule of an entry
 abbrev pub lies_beneath_entry : IndexEntry → AskedPath → Bool
@@ -44,7 +33,7 @@ inside_error_if_path_given e None = Ok true
 inside_error_if_path_given e (Some a) = Err (stops.Inside a.text e.path)
 
 abbrev pub refuse_paths_in_entry_if_submodule : List AskedPath → IndexEntry → Result Bool Stop
-refuse_paths_in_entry_if_submodule asked e = if is_entry_of_submodule e then inside_error_if_path_given e (find (lies_beneath_entry e) asked) else Ok true
+refuse_paths_in_entry_if_submodule asked e = if is_submodule_entry e then inside_error_if_path_given e (find (lies_beneath_entry e) asked) else Ok true
 
 abbrev pub error_or_next_result : Result Bool Stop → Result Bool Stop → Result Bool Stop
 error_or_next_result (Ok outside) rest = rest

@@ -34,8 +34,8 @@ fn is_asked_as_or_is_directory<W: Worktree>(
 }
 
 /// Whether there is a rule, and it excludes.
-fn excludes(rule: &Option<FoundRule>) -> bool
-    ensures { result ≡ words.excludes rule.now }
+fn is_excluding_rule(rule: &Option<FoundRule>) -> bool
+    ensures { result ≡ words.is_excluding_rule rule.now }
 {
     match rule {
         Some(rule) => !rule.is_negative,
@@ -44,13 +44,13 @@ fn excludes(rule: &Option<FoundRule>) -> bool
 }
 
 /// Whether the rules of a directory would be asked for a path without a name.
-fn is_top_or_unexcluded_directory(asked: &AskedPath, rule: &Option<FoundRule>) -> bool
-    ensures { result ≡ words.is_top_or_unexcluded_directory asked.now rule.now }
+fn is_asked_as_directory_and_top_or_unexcluded(asked: &AskedPath, rule: &Option<FoundRule>) -> bool
+    ensures { result ≡ words.is_asked_as_directory_and_top_or_unexcluded asked.now rule.now }
 {
     if !asked.names_directory {
         return false;
     }
-    asked.path.as_bytes().is_empty() || !excludes(rule)
+    asked.path.as_bytes().is_empty() || !is_excluding_rule(rule)
 }
 
 /// The rule, unless they would.
@@ -62,7 +62,7 @@ fn refuse_top_or_unexcluded_if_asked_as_directory(
     ensures { AnswersUnlessOutOfMemory result (words.refuse_top_or_unexcluded_if_asked_as_directory asked.now
         rule) }
 {
-    if is_top_or_unexcluded_directory(asked, &rule) {
+    if is_asked_as_directory_and_top_or_unexcluded(asked, &rule) {
         return Err(Stop::Slash {
             text: Bytes::from_slice(alloc, asked.text.as_bytes())?,
         });

@@ -1,6 +1,7 @@
 //! The paths of an input.
 ghost use Rattle.std.specs.Prelude.{◌≡◌, ◌≤◌, length, map, IfOk};
 ghost use Rattle.std.specs.List.{position_or_len};
+ghost use Rattle.gitbase_core.specs.Text.{is_nul};
 ghost use Rattle.check_ignore.specs.Finds.{AnswersUnlessOutOfMemory};
 ghost use Rattle.check_ignore.specs.Input as words;
 ghost use Rattle.check_ignore.specs.Unquoted.{unquote_c_style};
@@ -51,7 +52,7 @@ pub fn input_lines(alloc: Global, bytes: &[u8], end: u8) -> Result<Vec<&[u8]>, O
 }
 
 fn is_nul(byte: u8) -> bool
-    ensures { result ≡ words.is_nul_byte byte }
+    ensures { result ≡ is_nul byte }
 {
     byte == 0
 }
@@ -59,7 +60,7 @@ fn is_nul(byte: u8) -> bool
 /// How many bytes stand before the first NUL.
 fn length_until_nul(text: &[u8]) -> usize
     ensures within { result ≤ length text.now }
-    ensures value { result ≡ position_or_len words.is_nul_byte text.now }
+    ensures value { result ≡ position_or_len is_nul text.now }
 {
     let mut at = 0;
     while at < text.len() && !is_nul(text[at]) {

@@ -1,6 +1,7 @@
 //! What the index has of paths that are asked about.
 ghost use Rattle.std.specs.Prelude.{◌≡◌, find, option_copied};
 ghost use Rattle.std.specs.List.{list_any};
+ghost use Rattle.gitbase_core.specs.Entry.{is_submodule_entry, is_sparse_directory_entry};
 ghost use Rattle.check_ignore.specs.Finds.{AnswersUnlessOutOfMemory};
 ghost use Rattle.check_ignore.specs.Tracked as words;
 
@@ -11,7 +12,7 @@ use glob_rules::pathspec::{Matcher, Search};
 use std::alloc::Global;
 
 fn is_submodule_entry(entry: &IndexEntry) -> bool
-    ensures { result ≡ words.is_entry_of_submodule entry.now }
+    ensures { result ≡ is_submodule_entry entry.now }
 {
     entry.mode.is_submodule()
 }
@@ -37,13 +38,13 @@ pub fn is_any_entry_matched_by_spec(index: &[IndexEntry], spec: &Search) -> bool
 }
 
 fn is_sparse_directory_entry(entry: &IndexEntry) -> bool
-    ensures { result ≡ words.is_entry_of_sparse_directory entry.now }
+    ensures { result ≡ is_sparse_directory_entry entry.now }
 {
     entry.mode.is_sparse()
 }
 
 fn has_sparse_directory_entry(index: &[IndexEntry]) -> bool
-    ensures { result ≡ list_any words.is_entry_of_sparse_directory index.now }
+    ensures { result ≡ list_any is_sparse_directory_entry index.now }
 {
     index.iter().any(is_sparse_directory_entry)
 }

@@ -2,6 +2,7 @@
 use Rattle.std.specs.Prelude.{◌≡◌, ℕ, List, [], Option, Some, None, Result, Ok, Err, IsErrOf, find}
 use Rattle.gitbase_core.specs.Steps.{and_then}
 use Rattle.gitbase_core.specs.declared.entry.IndexEntry.{IndexEntry}
+use Rattle.gitbase_core.specs.Entry.{is_sparse_directory_entry}
 use Rattle.git_index.specs.declared.stat.Detail.{Detail}
 use Rattle.glob_rules.specs.PathSpec.{PathSpec}
 use Rattle.worktree_fs.specs.declared.worktree.Worktree.{Ghosts as WorktreeOf}
@@ -17,7 +18,6 @@ use Rattle.diff_files.specs.KeptStats.{KeepsToldStats, CountsFaultInEither, Keep
 use Rattle.diff_files.specs.Lines.{rows_text}
 use Rattle.diff_files.specs.Rows.{ChangeRow, rows_of_remaining_entries}
 use Rattle.diff_files.specs.Texts.{unanswered_form_of_entry}
-use Rattle.git_index.specs.IndexFile.{is_sparse_directory_entry}
 
 -- the changes of the paths of an index, entry by entry; of a sparse index, in which an entry stands for a directory, none are told
 abbrev rows_unless_sparse_index : Option IndexEntry → Result (List ChangeRow) Unanswered → Result (List ChangeRow) Unanswered

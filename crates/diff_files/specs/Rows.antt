@@ -6,8 +6,7 @@ use Rattle.gitbase_core.specs.Steps.{and_then}
 use Rattle.gitbase_core.specs.declared.entry.IndexEntry.{IndexEntry}
 use Rattle.git_index.specs.declared.stat.Detail.{Detail}
 use Rattle.glob_rules.specs.PathSpec.{PathSpec}
-use Rattle.glob_rules.specs.PathSpecs.{match_of_path_by_specs}
-use Rattle.glob_rules.specs.declared.pathspec.Match.{Match}
+use Rattle.glob_rules.specs.PathSpecs.{match_of_path_by_specs, is_including_match}
 use Rattle.diff_files.specs.declared.change.PathChange.{PathChange}
 use Rattle.diff_files.specs.declared.change.PathChange.TheVariants as changes
 use Rattle.diff_files.specs.declared.comparison.Comparison.{Comparison}
@@ -66,11 +65,6 @@ abbrev pub change_parts_of_entry : TreeAndStats → List ℕ → Comparison → 
 change_parts_of_entry s root o first e d =
     parts_unless_unsupported (resolve_judged_change s.tree (path_joined_with_slash root e.path) e.id (judge_unmerged_entry s.stats o root first e))
     (resolve_judged_change s.tree (path_joined_with_slash root e.path) e.id (judge_merged_or_ours_entry s.stats o root e d))
-
--- a spec matches, and does not exclude
-abbrev pub is_including_match : Option Match → Bool
-is_including_match None = false
-is_including_match (Some found) = not found.excluded
 
 -- a directory stands at the path of a submodule
 abbrev pub is_included_by_path_specs : List PathSpec → IndexEntry → Bool

@@ -19,7 +19,7 @@ use Rattle.diff_files.specs.declared.stats.node_stat.NodeStat.{NodeStat}
 use Rattle.diff_files.specs.Fields.{differs_from_entry_mode, is_changed_by_mode_or_stat, is_racy}
 use Rattle.diff_files.specs.KeptStats.{TreeAndStats}
 use Rattle.diff_files.specs.Modes.{is_directory_mode}
-use Rattle.diff_files.specs.States.{addition_of_node, change_to_differing_node, is_effectively_skipped_at_path, is_submodule_entry, judge_racy_node, resolve_judged_change}
+use Rattle.diff_files.specs.States.{addition_of_node, change_to_differing_node, is_effectively_skipped_at_path, has_submodule_file_type, judge_racy_node, resolve_judged_change}
 use Rattle.diff_files.specs.Stats.{StatsByPath}
 use Rattle.diff_files.specs.There.{has_node_named_dot_git}
 
@@ -53,7 +53,7 @@ judge_submodule_for_ls_files told o full e at =
 unfoldable pub judge_node_for_ls_files : StatsByPath → Comparison → List ℕ → IndexEntry → Detail → NodeStat → Judged
 judge_node_for_ls_files told o full e d at =
     if d.intent_to_add then judge.Known (addition_of_node o e at)
-    else if is_submodule_entry e then judge_submodule_for_ls_files told o full e at
+    else if has_submodule_file_type e then judge_submodule_for_ls_files told o full e at
     else judge_file_for_ls_files told o full e d at
 
 -- what is assumed to be unchanged is, if it is there

@@ -25,8 +25,8 @@ use Rattle.diff_files.specs.There.{has_node_named_dot_git, stat_unless_behind_li
 -- ---- what stands there
 
 -- the entry of a submodule
-abbrev pub is_submodule_entry : IndexEntry → Bool
-is_submodule_entry e = is_submodule_mode (mode_bits e.mode)
+abbrev pub has_submodule_file_type : IndexEntry → Bool
+has_submodule_file_type e = is_submodule_mode (mode_bits e.mode)
 
 -- the mode that git has for a node in the place of an entry
 abbrev pub git_mode_in_place_of_entry : Comparison → IndexEntry → NodeStat → ℕ
@@ -49,7 +49,7 @@ addition_of_node o e at = changes.Added (git_mode_in_place_of_entry o e at)
 -- a directory is what a submodule has that is not checked out, and in the place of anything else it is nothing
 abbrev pub change_to_directory : Comparison → IndexEntry → Detail → NodeStat → PathChange
 change_to_directory o e d at =
-    if not (is_submodule_entry e) then changes.Deleted
+    if not (has_submodule_file_type e) then changes.Deleted
     else if d.intent_to_add then addition_of_node o e at
     else changes.Same
 
@@ -77,7 +77,7 @@ judge_racy_node told o full e at =
 
 -- any difference of the fields is a change, also where the bytes are the same; of a submodule there is no directory
 abbrev pub is_submodule_or_has_changed_fields : Comparison → IndexEntry → Detail → NodeStat → Bool
-is_submodule_or_has_changed_fields o e d at = is_submodule_entry e || is_changed_by_mode_or_stat o e d at
+is_submodule_or_has_changed_fields o e d at = has_submodule_file_type e || is_changed_by_mode_or_stat o e d at
 
 -- what is no directory; a path that is to be added later is not in the index, so what stands there is new
 abbrev pub judge_non_directory : StatsByPath → Comparison → List ℕ → IndexEntry → Detail → NodeStat → Judged
@@ -116,7 +116,7 @@ are_submodules_left_out subs.LeftOut = true
 
 -- submodules are left out: "Using "all" hides all changes to submodules"
 abbrev pub is_left_out_submodule : Comparison → IndexEntry → Bool
-is_left_out_submodule o e = is_submodule_entry e && are_submodules_left_out o.submodules
+is_left_out_submodule o e = has_submodule_file_type e && are_submodules_left_out o.submodules
 
 -- what is new where a submodule is to be added later and none stands
 abbrev pub addition_in_place_of_submodule : Comparison → IndexEntry → Option NodeStat → PathChange
@@ -129,7 +129,7 @@ ignored told o root e d = if d.intent_to_add then judge.Known (addition_in_place
 
 -- a submodule that the configuration may leave out
 abbrev pub is_submodule_maybe_left_out : Comparison → IndexEntry → Bool
-is_submodule_maybe_left_out o e = is_submodule_entry e && not (are_submodules_reported o.submodules)
+is_submodule_maybe_left_out o e = has_submodule_file_type e && not (are_submodules_reported o.submodules)
 
 -- how an entry is judged: left out, ignored, or compared
 unfoldable pub judge_compared_entry : StatsByPath → Comparison → List ℕ → IndexEntry → Detail → Judged
@@ -154,7 +154,7 @@ judge_merged_or_ours_entry told o root e d = if is_merged_or_ours_entry e then j
 -- the mode of what stands at a path that is not merged; 0 where nothing does, and for a directory in the place of anything but a submodule
 unfoldable pub judge_unmerged_at_node : StatsByPath → Comparison → List ℕ → IndexEntry → NodeStat → Judged
 judge_unmerged_at_node told o full e at =
-    if not (is_directory_mode at.mode) || is_submodule_entry e then judge.Known (changes.Unmerged (git_mode_in_place_of_entry o e at))
+    if not (is_directory_mode at.mode) || has_submodule_file_type e then judge.Known (changes.Unmerged (git_mode_in_place_of_entry o e at))
     else if has_node_named_dot_git told full then judge.Refused forms.Repository
     else judge.Known (changes.Unmerged 0)
 

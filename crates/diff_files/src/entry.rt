@@ -27,8 +27,8 @@ use std::alloc::Global;
 use worktree_fs::ReadError;
 
 /// Whether an entry is a submodule.
-pub fn is_submodule_entry(entry: &IndexEntry) -> bool
-    ensures { result ≡ words.is_submodule_entry entry.now }
+pub fn has_submodule_file_type(entry: &IndexEntry) -> bool
+    ensures { result ≡ words.has_submodule_file_type entry.now }
 {
     is_submodule_mode(entry.mode.bits())
 }
@@ -83,7 +83,7 @@ fn change_to_directory(
 ) -> PathChange
     ensures { result ≡ words.change_to_directory comparison.now entry.now detail.now at.now }
 {
-    if !is_submodule_entry(entry) {
+    if !has_submodule_file_type(entry) {
         PathChange::Deleted
     } else if detail.intent_to_add {
         addition_of_node(comparison, entry, at)
@@ -177,7 +177,7 @@ fn is_submodule_or_has_changed_fields(
     ensures { result ≡ words.is_submodule_or_has_changed_fields comparison.now entry.now detail.now
         at.now }
 {
-    is_submodule_entry(entry) || is_changed_by_mode_or_stat(comparison, entry, detail, at)
+    has_submodule_file_type(entry) || is_changed_by_mode_or_stat(comparison, entry, detail, at)
 }
 
 /// How the path of an entry changed where something stands that is no directory.
@@ -299,7 +299,7 @@ fn are_submodules_left_out(submodules: Submodules) -> bool
 fn is_left_out_submodule(comparison: &Comparison, entry: &IndexEntry) -> bool
     ensures { result ≡ words.is_left_out_submodule comparison.now entry.now }
 {
-    is_submodule_entry(entry) && are_submodules_left_out(comparison.submodules)
+    has_submodule_file_type(entry) && are_submodules_left_out(comparison.submodules)
 }
 
 /// What is new where a submodule is to be added later and none stands.
@@ -352,7 +352,7 @@ fn ignored<S: Stats>(
 fn is_submodule_maybe_left_out(comparison: &Comparison, entry: &IndexEntry) -> bool
     ensures { result ≡ words.is_submodule_maybe_left_out comparison.now entry.now }
 {
-    is_submodule_entry(entry) && !are_submodules_reported(comparison.submodules)
+    has_submodule_file_type(entry) && !are_submodules_reported(comparison.submodules)
 }
 
 /// How the path of an entry changed that is compared.
@@ -433,7 +433,7 @@ fn judge_unmerged_at_node<S: Stats>(
         → CountIncreasedOrSaturated (S.faults stats.old) (S.faults stats.new) }
     ensures unfaulted { HoldsUnlessFault result (S.faults stats.new ≡ S.faults stats.old) }
 {
-    if !is_directory_mode(at.mode) | is_submodule_entry(entry) {
+    if !is_directory_mode(at.mode) | has_submodule_file_type(entry) {
         let mode = git_mode_in_place_of_entry(comparison, entry, at);
         return Ok(Judged::Known(PathChange::Unmerged { mode }));
     }

@@ -12,7 +12,7 @@ ghost use Rattle.diff_files.specs.Stats.{StatsByPath};
 use crate::change::PathChange;
 use crate::comparison::Comparison;
 use crate::entry::{
-    addition_of_node, change_to_differing_node, is_submodule_entry, judge_racy_node,
+    addition_of_node, change_to_differing_node, has_submodule_file_type, judge_racy_node,
 };
 use crate::error::Unsupported;
 use crate::fields::{differs_from_entry_mode, is_changed_by_mode_or_stat, is_racy};
@@ -139,7 +139,7 @@ fn judge_node_for_ls_files<S: Stats>(
     if detail.intent_to_add {
         return Ok(Judged::Known(addition_of_node(comparison, entry, at)));
     }
-    if is_submodule_entry(entry) {
+    if has_submodule_file_type(entry) {
         return judge_submodule_for_ls_files(alloc, stats, comparison, full, entry, at);
     }
     judge_file_for_ls_files(alloc, stats, comparison, full, entry, detail, at)

@@ -1,6 +1,6 @@
 //! Which entries are taken.
 ghost use Rattle.std.specs.Prelude.{◌≡◌, find, option_copied};
-ghost use Rattle.git_index.specs.IndexFile.{is_sparse_directory_entry};
+ghost use Rattle.gitbase_core.specs.Entry.{is_sparse_directory_entry};
 ghost use Rattle.diff_files.specs.Rows as rows;
 
 use gitbase_core::IndexEntry;

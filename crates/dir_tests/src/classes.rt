@@ -121,7 +121,7 @@ fn is_answer(answer: Result<Outcome, Error>, words: &[u8]) -> bool {
 fn lookup_of(alloc: Global, index: &State) -> Result<Option<AccelerateLookup>, OutOfMemory>
     ensures { IfOk result (IsLookupOfIndexIfGiven index.now) }
 {
-    Ok(Some(AccelerateLookup::new(alloc, index)?))
+    Ok(Some(AccelerateLookup::from_state(alloc, index)?))
 }
 
 /// A path below a root as `normalize` leaves it.

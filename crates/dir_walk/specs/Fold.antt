@@ -211,12 +211,12 @@ property_of_folded_directory o None Tracked n = None
 property_of_folded_directory o None (Ignored kind) n = None
 
 -- the class of the directory as one entry in place of all that it holds
-abbrev pub outcome_of_folded_directory : WalkOptions → Outcome → Tally → Status → Outcome
-outcome_of_folded_directory o c n status =
+abbrev pub class_of_folded_directory : WalkOptions → Outcome → Tally → Status → Outcome
+class_of_folded_directory o c n status =
     record c { status = status; property = property_of_folded_directory o c.property status n; pathspec_match = pathspec_match_of_folded_directory (greatest_match_counted n) c }
 
 abbrev pub entry_of_folded_directory : WalkOptions → List ℕ → Outcome → Tally → Status → Entry
-entry_of_folded_directory o d c n status = entry_with_outcome d (outcome_of_folded_directory o c n status)
+entry_of_folded_directory o d c n status = entry_with_outcome d (class_of_folded_directory o c n status)
 
 -- The fold of a directory of a class: none, or the entry that stands for all that it holds. It sees counts, and so no order.
 unfoldable pub fold : WalkOptions → PathEvidence → List ℕ → Outcome → Tally → Option Entry

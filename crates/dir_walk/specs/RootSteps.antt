@@ -25,7 +25,7 @@ use Rattle.dir_walk.specs.Root.{walk_result_from_traversal_root}
 use Rattle.dir_walk.specs.Starts.{GivesWalkFromRoot}
 use Rattle.dir_walk.specs.Told.{IsWalkOverSources, walk_result_of_directory_over_sources}
 use Rattle.dir_walk.specs.Unopened.{count_too_deep_in_walk, count_unlisted_in_walk}
-use Rattle.dir_walk.specs.WalkRefused.{IsUnenteredNonDirectoryRoot, HoldsIfRootIsFileError, HoldsIfNothingStarted, IsErrorFromRootWithinLimit, IsErrorFromRootByTree, IsErrorFromRootBySources, recursion_of_delegate}
+use Rattle.dir_walk.specs.WalkRefused.{IsUnenteredNonDirectoryRoot, HoldsIfRootIsFileError, HoldsIfNothingStarted, IsErrorFromRootWithinLimit, IsErrorFromRootByTree, IsErrorFromRootBySources, default_and_refusal_counts_of_delegate}
 use Rattle.dir_walk.specs.Walked.{WalkResult}
 use Rattle.dir_walk.specs.Walks.{KeepsStateAtEnd, OpensAtMostWalkedFromRoot, OpensAtMostEnteredInWalkResult, Tells}
 
@@ -110,7 +110,7 @@ pub record WalksFromRootOverSources {W F I D : Type 0} (w : WorktreeOf W) (f : F
 abbrev pub RefusesOnlyUnenteredRoot : {W F I D : Type 0} → WorktreeOf W → DelegateOf D → WalkState W F I D → WalkState W F I D → WalkSetting → Result (Unit {0}) Stop → Type 0
 RefusesOnlyUnenteredRoot w d before now given result =
     (s : TreeAndObjects) → w.told before.worktree ≡ Some s.tree → CountNotIncreased (w.faults before.worktree) (w.faults now.worktree)
-    → IfErr result (HoldsOfErrorIfRefused (HoldsIfRootIsFileError (IsUnenteredNonDirectoryRoot given (setup_of_optional_stack before.rules) s (recursion_of_delegate d before.delegate now.delegate))))
+    → IfErr result (HoldsOfErrorIfRefused (HoldsIfRootIsFileError (IsUnenteredNonDirectoryRoot given (setup_of_optional_stack before.rules) s (default_and_refusal_counts_of_delegate d before.delegate now.delegate))))
 
 -- Where there is nothing to start from, nothing was listed before, the interrupt is as it was, and the delegate was given nothing.
 abbrev pub LeavesUnstartedWalkUntouched : {W F I D : Type 0} → WorktreeOf W → DelegateOf D → WalkState W F I D → WalkState W F I D → Result (Unit {0}) Stop → Type 0

@@ -89,22 +89,22 @@ pub record HasNoRootToWalk (given : WalkSetting) (made : Option StackSetup) (s :
   pub node : IsRootNodeNoDirectory given s
 
 -- How a delegate recursed in a walk: by default or not, and how many refusals it counted before and afterwards.
-pub record DelegateRecursion : Type 0 where
+pub record DelegateDefaultAndRefusalCounts : Type 0 where
   pub is_default : Bool
   pub before : ℕ
   pub after : ℕ
 
 -- by default, without a count
-abbrev pub default_recursion : DelegateRecursion
-default_recursion = record { is_default = true; before = 0; after = 0 }
+abbrev pub default_without_refusals : DelegateDefaultAndRefusalCounts
+default_without_refusals = record { is_default = true; before = 0; after = 0 }
 
 -- that of a delegate that was `d0` and is `d1`
-abbrev pub recursion_of_delegate : {D : Type 0} → DelegateOf D → D → D → DelegateRecursion
-recursion_of_delegate d d0 d1 = record { is_default = d.is_default d0; before = d.refusals d0; after = d.refusals d1 }
+abbrev pub default_and_refusal_counts_of_delegate : {D : Type 0} → DelegateOf D → D → D → DelegateDefaultAndRefusalCounts
+default_and_refusal_counts_of_delegate d d0 d1 = record { is_default = d.is_default d0; before = d.refusals d0; after = d.refusals d1 }
 
 -- The worktree root is no directory, and is not entered: its status says so, or the delegate refused it, which counted that, and does
 -- not recurse by default.
-pub record IsUnenteredNonDirectoryRoot (given : WalkSetting) (made : Option StackSetup) (s : TreeAndObjects) (recursion : DelegateRecursion) : Type 0 where
+pub record IsUnenteredNonDirectoryRoot (given : WalkSetting) (made : Option StackSetup) (s : TreeAndObjects) (recursion : DelegateDefaultAndRefusalCounts) : Type 0 where
   pub node : IsRootNodeNoDirectory given s
   pub unentered : recursion.is_default ≡ true → enters_traversal_root given.options (evidence_from_setting_and_sources given made s) (end_of_way_to_root given made s []) ≡ false
   pub answered : CountsRecursionRefusal (enters_traversal_root given.options (evidence_from_setting_and_sources given made s) (end_of_way_to_root given made s [])) false recursion.before recursion.after

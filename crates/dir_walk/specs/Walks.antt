@@ -36,7 +36,7 @@ use Rattle.dir_walk.specs.Report.{counts, is_whole_walk_refused, emissions_with_
 use Rattle.dir_walk.specs.Rooting.{IsNormalizedRoot}
 use Rattle.dir_walk.specs.Root.{Walk, rooted, find_traversal_root, walk_over_sources, walk_result_from_traversal_root}
 use Rattle.dir_walk.specs.Safe.{IsSafeToReport}
-use Rattle.dir_walk.specs.WalkRefused.{IsUnenteredNonDirectoryRoot, HoldsIfRootIsFileError, HoldsIfNothingStarted, DelegateRecursion, IsWholeWalkErrorByInput, IsWholeWalkErrorByTree, IsWholeWalkErrorBySources, recursion_of_delegate}
+use Rattle.dir_walk.specs.WalkRefused.{IsUnenteredNonDirectoryRoot, HoldsIfRootIsFileError, HoldsIfNothingStarted, DelegateDefaultAndRefusalCounts, IsWholeWalkErrorByInput, IsWholeWalkErrorByTree, IsWholeWalkErrorBySources, default_and_refusal_counts_of_delegate}
 use Rattle.dir_walk.specs.Unopened.{count_too_deep_in_answer, count_unlisted_in_answer}
 use Rattle.dir_walk.specs.Walkable.{HasReportOrIsWalkable}
 use Rattle.dir_walk.specs.Walked.{WalkResult}
@@ -71,7 +71,7 @@ most_opened_in_walk_result limit (Some w) spare = count_paths_within_depth limit
 -- Over what is told, without a fault of the worktree and where recursion is by default, no more directories are opened than the walk
 -- enters within the limit, none where there is no walk. A refused listing and want of memory may come with one more; what lies too
 -- deep, and the interrupt, may not.
-abbrev pub OpensAtMostEnteredInWalk : {W F T : Type 0} → WorktreeOf W → FindOf F → W → W → F → Option StackModel → DelegateRecursion → WalkSetting → Option (List ℕ) → ℕ → Result T Error → ℕ → Type 0
+abbrev pub OpensAtMostEnteredInWalk : {W F T : Type 0} → WorktreeOf W → FindOf F → W → W → F → Option StackModel → DelegateDefaultAndRefusalCounts → WalkSetting → Option (List ℕ) → ℕ → Result T Error → ℕ → Type 0
 OpensAtMostEnteredInWalk w f w0 w1 o0 old recursion given explicit limit result opened =
     (s : TreeAndObjects) → Tells w f w0 o0 old s → recursion.is_default ≡ true → CountNotIncreased (w.faults w0) (w.faults w1)
     → opened ≤ most_opened_in_walk limit (walk_over_sources given (setup_of_optional_stack old) s explicit) (count_unlisted_in_answer result)
@@ -103,7 +103,7 @@ pub record CountsOpenedInWholeWalk {W I T : Type 0} (w : WorktreeOf W) (i : Inte
 -- interrupt was `i0` and is `i1`, and the rules were `old` and are `new`. `recursion` is that of the delegate; an answer has
 -- a count and a whole path of its traversal root.
 pub record WalksWorktreeWithCauses {W F I T : Type 0} (w : WorktreeOf W) (f : FindOf F) (i : InterruptOf I) (w0 w1 : W) (o0 o1 : F) (i0 i1 : I) (old new : Option StackModel)
-    (strategy : Strategy) (given : WalkSetting) (explicit : Option (List ℕ)) (limit : ℕ) (recursion : DelegateRecursion) (outcome_of : T → Outcome) (path_of : T → List ℕ) (result : Result T Error) : Type 0 where
+    (strategy : Strategy) (given : WalkSetting) (explicit : Option (List ℕ)) (limit : ℕ) (recursion : DelegateDefaultAndRefusalCounts) (outcome_of : T → Outcome) (path_of : T → List ℕ) (result : Result T Error) : Type 0 where
   -- Each refusal has its cause.
   pub about : IfErr result (IsWholeWalkErrorByInput given (setup_of_optional_stack old) explicit limit)
   pub cause : IfErr result (HoldsIfFaultError (CountIncreasedOrSaturated (w.faults w0) (w.faults w1)) (CountIncreasedOrSaturated (f.faults o0) (f.faults o1)))
@@ -211,7 +211,7 @@ pub record FeedsDelegateWithReport {W F D : Type 0} (w : WorktreeOf W) (f : Find
 pub record WalksForDelegate {W F I D : Type 0} (w : WorktreeOf W) (f : FindOf F) (i : InterruptOf I) (d : DelegateOf D) (w0 w1 : W) (o0 o1 : F) (i0 i1 : I) (old new : Option StackModel) (d0 d1 : D)
     (strategy : Strategy) (given : WalkSetting) (explicit : Option (List ℕ)) (limit : ℕ) (result : Result (Outcome × List ℕ) Error) : Type 0 where
   -- Why it is refused, and what it leaves.
-  pub walks_worktree : WalksWorktreeWithCauses w f i w0 w1 o0 o1 i0 i1 old new strategy given explicit limit (recursion_of_delegate d d0 d1) (λ (r : Outcome × List ℕ). r.0) (λ (r : Outcome × List ℕ). r.1) result
+  pub walks_worktree : WalksWorktreeWithCauses w f i w0 w1 o0 o1 i0 i1 old new strategy given explicit limit (default_and_refusal_counts_of_delegate d d0 d1) (λ (r : Outcome × List ℕ). r.0) (λ (r : Outcome × List ℕ). r.1) result
   -- What the delegate was given.
   pub feeds : FeedsDelegateWithReport w f d w0 w1 o0 old d0 d1 given explicit limit result
 

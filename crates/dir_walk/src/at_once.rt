@@ -3,7 +3,7 @@ ghost use Rattle.std.specs.Prelude.{◌≡◌, true};
 ghost use Rattle.dir_classify.specs.Excludes.{setup_of_optional_stack, has_excludes_if_given};
 ghost use Rattle.dir_classify.specs.Layers.{setting_of_context, IsLookupOfIndexIfGiven};
 ghost use Rattle.dir_walk.specs.declared.strategy.Strategy.TheVariants.{AtOnce};
-ghost use Rattle.dir_walk.specs.WalkRefused.{default_recursion};
+ghost use Rattle.dir_walk.specs.WalkRefused.{default_without_refusals};
 ghost use Rattle.dir_walk.specs.Walks.{full_root_path_of_answer, CollectsReportOfWalk, WalksWorktreeWithCauses};
 
 use crate::collect::Collect;
@@ -54,7 +54,7 @@ pub fn walk_at_once<W: Worktree, F: Find, I: Interrupt, M: Matcher>(
         ctx.entry.worktree.now ctx.exit.0.now ctx.entry.objects.now ctx.exit.1.0.now
         ctx.entry.interrupt.now ctx.exit.1.1.0.now ctx.entry.excludes.now ctx.exit.1.1.1.1.0.now
         AtOnce (setting_of_context M.Matcher worktree_root.now options.entry ctx.entry)
-        ctx.entry.explicit_traversal_root.now ctx.entry.depth_limit default_recursion (λ r. r.0)
+        ctx.entry.explicit_traversal_root.now ctx.entry.depth_limit default_without_refusals (λ r. r.0)
         full_root_path_of_answer result }
 {
     let mut delegate = Collect::new(alloc);

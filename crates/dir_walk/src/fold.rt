@@ -4,7 +4,7 @@ ghost use Rattle.dir_classify.specs.Chosen.{walk_options_of, is_collapsing_mode,
 ghost use Rattle.dir_classify.specs.Entries.{entry_with_outcome};
 ghost use Rattle.dir_classify.specs.Evidence.{PathEvidence};
 ghost use Rattle.dir_classify.specs.Evidence as evidence;
-ghost use Rattle.dir_walk.specs.Fold.{CanCountOneMore, all_counted_untracked_or_ignored, fold, status_of_folded_directory, outcome_of_folded_directory, may_fold_as_expendable, may_fold_as_precious, may_fold_as_untracked, greatest_match_counted, is_empty_directory_entry, prevents_folding, is_ignored_expendable_entry, has_pathspec_match, is_prefix_or_wildcard_match, is_ignored_precious_entry, equals_status, is_untracked_entry, pathspec_match_of_folded_directory, may_delete_all_at_once, count_of_flag, match_unless_prefix_or_excluded, property_of_folded_directory, rank_of_optional_pathspec_match, emits_besides_folded_directory, tally_held_entries, tally_with_entry};
+ghost use Rattle.dir_walk.specs.Fold.{CanCountOneMore, all_counted_untracked_or_ignored, fold, status_of_folded_directory, class_of_folded_directory, may_fold_as_expendable, may_fold_as_precious, may_fold_as_untracked, greatest_match_counted, is_empty_directory_entry, prevents_folding, is_ignored_expendable_entry, has_pathspec_match, is_prefix_or_wildcard_match, is_ignored_precious_entry, equals_status, is_untracked_entry, pathspec_match_of_folded_directory, may_delete_all_at_once, count_of_flag, match_unless_prefix_or_excluded, property_of_folded_directory, rank_of_optional_pathspec_match, emits_besides_folded_directory, tally_held_entries, tally_with_entry};
 ghost use Rattle.dir_walk.specs.Walked.{holds_status_for_folding};
 
 use crate::tally::Tally;
@@ -42,7 +42,7 @@ pub(crate) fn fold(
     }
     match status_of_folded_directory(options, &counts) {
         None => None,
-        Some(status) => Some(outcome_of_folded_directory(options, class, &counts, status)),
+        Some(status) => Some(class_of_folded_directory(options, class, &counts, status)),
     }
 }
 
@@ -318,13 +318,13 @@ fn collapses_directories_if_some(mode: Option<EmissionMode>) -> bool
 // ---- its class
 
 /// The class of a directory as one entry in place of all that it holds.
-fn outcome_of_folded_directory(
+fn class_of_folded_directory(
     options: &Options<'_>,
     class: &Outcome,
     counts: &Tally,
     status: Status,
 ) -> Outcome
-    ensures { result ≡ outcome_of_folded_directory (walk_options_of options.now) class.now
+    ensures { result ≡ class_of_folded_directory (walk_options_of options.now) class.now
         counts.now status }
 {
     Outcome {

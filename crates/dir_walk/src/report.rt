@@ -8,7 +8,7 @@ ghost use Rattle.dir_classify.specs.Excludes.{setup_of_optional_stack, has_exclu
 ghost use Rattle.dir_classify.specs.Layers.{setting_of_context, IsLookupOfIndexIfGiven};
 ghost use Rattle.dir_walk.specs.Puts.{count_hidden_emissions};
 ghost use Rattle.dir_walk.specs.Reports.{IsReportFromNormalizedRoot, IsSafeReport};
-ghost use Rattle.dir_walk.specs.WalkRefused.{default_recursion};
+ghost use Rattle.dir_walk.specs.WalkRefused.{default_without_refusals};
 ghost use Rattle.dir_walk.specs.Walks.{Tells, WalksWorktreeWithCauses};
 
 use crate::collect::{Collect, EmittedEntries};
@@ -76,7 +76,7 @@ pub fn walk_sorted_by_path<W: Worktree, F: Find, I: Interrupt, M: Matcher>(
         ctx.entry.worktree.now ctx.exit.0.now ctx.entry.objects.now ctx.exit.1.0.now
         ctx.entry.interrupt.now ctx.exit.1.1.0.now ctx.entry.excludes.now ctx.exit.1.1.1.1.0.now
         strategy (setting_of_context M.Matcher worktree_root.now options.entry ctx.entry)
-        ctx.entry.explicit_traversal_root.now ctx.entry.depth_limit default_recursion
+        ctx.entry.explicit_traversal_root.now ctx.entry.depth_limit default_without_refusals
         (λ r. r.outcome) (λ r. r.root) result }
 {
     let mut delegate = Collect::new(alloc);

@@ -60,5 +60,5 @@ abbrev pub current_directory_and_parents : List ℕ → List (List ℕ)
 current_directory_and_parents prefix = insert_paths_in_order (insert_paths_in_order [] (directories_above_path prefix)) (prefix ∷ [])
 
 -- The directories that cannot go: what stays lies beneath them, or they are or hold the current directory.
-unfoldable pub held : Cleaning → List ℕ → List ReportEntry → List (List ℕ)
-held c prefix found = insert_paths_in_order (current_directory_and_parents prefix) (flat_map (directories_above_if_entry_kept c) found)
+unfoldable pub directories_that_must_stay : Cleaning → List ℕ → List ReportEntry → List (List ℕ)
+directories_that_must_stay c prefix found = insert_paths_in_order (current_directory_and_parents prefix) (flat_map (directories_above_if_entry_kept c) found)

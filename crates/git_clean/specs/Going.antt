@@ -34,8 +34,8 @@ abbrev pub may_remove_if_matched : Cleaning → Entry → Bool
 may_remove_if_matched c e = is_status_cleaned c e.status && (is_kind_cleaned c e.disk_kind && not (is_dot_git_property e.property))
 
 -- it may go, and the path specs match it
-abbrev pub is_entry_removable : Cleaning → List PathSpec → Entry → Bool
-is_entry_removable c specs e = may_remove_if_matched c e && do_specs_match_report_entry specs e
+abbrev pub is_entry_matched_and_removable : Cleaning → List PathSpec → Entry → Bool
+is_entry_matched_and_removable c specs e = may_remove_if_matched c e && do_specs_match_report_entry specs e
 
 -- ---- what stays
 

@@ -7,12 +7,11 @@ use Rattle.std.specs.List.{before_first, list_any, starts_with}
 use Rattle.gitbase_core.specs.Path.{basename, strip_directory_prefix}
 use Rattle.glob_rules.specs.Glob.{is_glob_special_byte}
 use Rattle.glob_rules.specs.PathSpec.{PathSpec}
-use Rattle.glob_rules.specs.PathSpecs.{can_match, common_directory_of_specs, match_of_path_by_specs}
+use Rattle.glob_rules.specs.PathSpecs.{can_match, common_directory_of_specs, match_of_path_by_specs, is_including_match}
 use Rattle.glob_rules.specs.declared.pathspec.Match.{Match}
 use Rattle.glob_rules.specs.declared.pathspec.MatchKind.{MatchKind}
 use Rattle.glob_rules.specs.declared.pathspec.MatchKind.TheVariants.{Always, Prefix, WildcardMatch, Verbatim}
 use Rattle.ls_files.specs.declared.options.NamedSpec.{NamedSpec}
-use Rattle.ls_files.specs.Cached.{is_including_match}
 use Rattle.ls_files.specs.Others.{ends_in_dot_component, is_excluded_match}
 
 -- ---- matches

@@ -8,7 +8,7 @@ use Rattle.git_paths.specs.RelativeNames.{path_relative_to_prefix}
 use Rattle.worktree_report.specs.declared.report.ReportEntry.{ReportEntry}
 use Rattle.git_clean.specs.declared.options.Cleaning.{Cleaning}
 use Rattle.git_clean.specs.Parts.{is_skipped_repository_in, removable_parts_of_directory, refuses_current_directory}
-use Rattle.git_clean.specs.Places.{names}
+use Rattle.git_clean.specs.Places.{names_of_removed}
 use Rattle.git_clean.specs.Scenes.{CleaningInputs}
 
 unfoldable pub would_remove_words : List ℕ
@@ -60,4 +60,4 @@ abbrev pub removal_lines_of_name : CleaningInputs → List ℕ → List ℕ
 removal_lines_of_name s name = if is_name_of_unremovable_directory s name then lines_of_unremovable_directory s (without_trailing_slash name) else would_remove_line s name
 
 abbrev pub text : CleaningInputs → List ℕ
-text s = flat_map (removal_lines_of_name s) (names s)
+text s = flat_map (removal_lines_of_name s) (names_of_removed s)

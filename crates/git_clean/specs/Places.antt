@@ -13,7 +13,7 @@ use Rattle.worktree_report.specs.SetupMeant.{insert_paths_in_order}
 use Rattle.worktree_report.specs.declared.report.ReportEntry.{ReportEntry}
 use Rattle.ls_files.specs.Others.{directories_above_path, directory_place_of_path, has_index_entry_beneath, do_specs_match_report_entry, lies_in_spec_skipped_directory, is_untracked_status, name, name_of_place_unless_indexed, place_of_report_entry, prepend_name_if_some}
 use Rattle.ls_files.specs.Places.{PathWithDirectoryFlag}
-use Rattle.git_clean.specs.Going.{is_entry_removable}
+use Rattle.git_clean.specs.Going.{is_entry_matched_and_removable}
 use Rattle.git_clean.specs.Leading.{specs_take_directory_whole}
 use Rattle.git_clean.specs.Scenes.{CleaningInputs}
 
@@ -62,22 +62,22 @@ abbrev pub directory_ending_at_goes_whole : CleaningInputs → List ℕ → ℕ 
 directory_ending_at_goes_whole s path at = is_slash (slice_index path at) && directory_goes_whole s (take at path)
 
 -- the highest directory above a path that does
-abbrev pub top : CleaningInputs → List ℕ → Option (List ℕ)
-top s path = find (directory_goes_whole s) (directories_above_path path)
+abbrev pub highest_removed_directory_above : CleaningInputs → List ℕ → Option (List ℕ)
+highest_removed_directory_above s path = find (directory_goes_whole s) (directories_above_path path)
 
 -- git comes to what has a name
 abbrev pub is_place_outside_skipped_directory : CleaningInputs → List ℕ → Bool
 is_place_outside_skipped_directory s name = not (lies_in_spec_skipped_directory s.index s.named name)
 
 abbrev pub is_visited_and_removable : CleaningInputs → Entry → Bool
-is_visited_and_removable s e = is_entry_removable s.cleaning s.specs e && is_place_outside_skipped_directory s (name (place_of_report_entry e))
+is_visited_and_removable s e = is_entry_matched_and_removable s.cleaning s.specs e && is_place_outside_skipped_directory s (name (place_of_report_entry e))
 
 -- With `-X` a directory goes for an ignored path in it that the path specs match, and that git comes to, else for whatever they match in it.
 abbrev pub may_parent_go_for_entry : CleaningInputs → Entry → Bool
 may_parent_go_for_entry s e = if s.cleaning.ignored_only then is_visited_and_removable s e else do_specs_match_report_entry s.specs e
 
 abbrev pub removed_whole_directory_above_entry : CleaningInputs → Entry → Option PathWithDirectoryFlag
-removed_whole_directory_above_entry s e = if may_parent_go_for_entry s e then option_map directory_place_of_path (top s e.rela_path) else None
+removed_whole_directory_above_entry s e = if may_parent_go_for_entry s e then option_map directory_place_of_path (highest_removed_directory_above s e.rela_path) else None
 
 -- ---- what goes
 
@@ -87,7 +87,7 @@ abbrev pub do_specs_take_entry_if_directory : CleaningInputs → Entry → Bool
 do_specs_take_entry_if_directory s e = if is_some_directory_kind e.disk_kind && is_untracked_status e.status then scene_specs_take_directory_whole s e.rela_path else true
 
 abbrev pub entry_place_if_removed : CleaningInputs → Entry → Option PathWithDirectoryFlag
-entry_place_if_removed s e = if is_entry_removable s.cleaning s.specs e && do_specs_take_entry_if_directory s e then Some (place_of_report_entry e) else None
+entry_place_if_removed s e = if is_entry_matched_and_removable s.cleaning s.specs e && do_specs_take_entry_if_directory s e then Some (place_of_report_entry e) else None
 
 -- by itself, where directories are passed over
 abbrev pub entry_place_unless_below_unindexed : CleaningInputs → Entry → Option PathWithDirectoryFlag
@@ -115,5 +115,5 @@ removal_names_of_entries s [] = []
 removal_names_of_entries s (e ∷ found) = prepend_name_if_some (removal_name_of_entry s e.entry) (removal_names_of_entries s found)
 
 -- the names of what goes, in the order of their bytes, each once; that of a directory ends in a slash
-abbrev pub names : CleaningInputs → List (List ℕ)
-names s = insert_paths_in_order [] (removal_names_of_entries s s.found)
+abbrev pub names_of_removed : CleaningInputs → List (List ℕ)
+names_of_removed s = insert_paths_in_order [] (removal_names_of_entries s s.found)

@@ -49,5 +49,5 @@ scene_of_setup_and_entries c prefix named setup found =
       found = found;
       marked = directories.directories_marked_against_removal c (directories.directories_holding_dot_git found) found;
       guarded = directories.directories_holding_dot_git found;
-      held = directories.held c prefix found;
+      held = directories.directories_that_must_stay c prefix found;
     }

@@ -10,11 +10,13 @@ use crate::above::set_contains_directory;
 use crate::beneath::is_sorted_by_path;
 use crate::inside::append_lines_of_unremovable_directory;
 use crate::line::{append_line_unless_quiet, would_remove_words};
-use crate::names::names;
+use crate::names::names_of_removed;
 use crate::options::Cleaning;
 use crate::ruled::entries_ignored_by_sole_patterns;
 use crate::scene::Scene;
-use crate::sets::{directories_holding_dot_git, directories_marked_against_removal, held};
+use crate::sets::{
+    directories_holding_dot_git, directories_marked_against_removal, directories_that_must_stay,
+};
 use git_paths::path_relative_to_prefix;
 use gitbase_core::{Bytes, OutOfMemory};
 use ls_files::NamedSpec;
@@ -97,7 +99,7 @@ fn dry_run_text_of_scene(alloc: Global, scene: &Scene<'_>, rise: bool) -> Result
     ensures { IfOk result (λ text. text ≡ lines.text (scene_in_specification scene.now)) }
 {
     let mut text = Vec::new(alloc);
-    for name in names(alloc, scene)? {
+    for name in names_of_removed(alloc, scene)? {
         append_removal_lines_of_name(alloc, &mut text, scene, rise, name.as_bytes())?;
     }
     Ok(Bytes::from_vec(text))
@@ -118,7 +120,7 @@ fn dry_run_text_after_patterns(
 {
     let guarded = directories_holding_dot_git(alloc, found)?;
     let marked = directories_marked_against_removal(alloc, cleaning, &guarded, found)?;
-    let held = held(alloc, cleaning, prefix, found)?;
+    let held = directories_that_must_stay(alloc, cleaning, prefix, found)?;
     let scene = Scene {
         cleaning,
         index: &setup.index,

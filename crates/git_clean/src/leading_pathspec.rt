@@ -2,7 +2,7 @@
 ghost use Rattle.std.specs.Prelude.{◌≡◌, ◌≤◌, length, take};
 ghost use Rattle.std.specs.List.{before_first, list_any, position_or_len};
 ghost use Rattle.glob_rules.specs.Glob as globs;
-ghost use Rattle.ls_files.specs.Cached.{is_including_match};
+ghost use Rattle.glob_rules.specs.PathSpecs.{is_including_match};
 ghost use Rattle.ls_files.specs.Others.{is_dot_or_dot_dot, is_excluded_match};
 ghost use Rattle.git_clean.specs.Leading as words;
 

@@ -5,11 +5,11 @@ ghost use Rattle.git_clean.specs.Places as words;
 ghost use Rattle.git_clean.specs.Scenes.{scene_in_specification};
 
 use crate::places::{
-    lies_in_kept_directory, lies_in_unindexed_unmarked_directory, scene_specs_take_directory_whole,
-    top,
+    highest_removed_directory_above, lies_in_kept_directory, lies_in_unindexed_unmarked_directory,
+    scene_specs_take_directory_whole,
 };
 use crate::removable::{
-    is_entry_removable, is_untracked_status, name, place_of_entry, specs_include_entry,
+    is_entry_matched_and_removable, is_untracked_status, name, place_of_entry, specs_include_entry,
 };
 use crate::scene::Scene;
 use dir_classify::Entry;
@@ -41,7 +41,7 @@ fn is_visited_and_removable(
     ensures { IfOk result (λ goes. goes ≡ words.is_visited_and_removable (scene_in_specification
         scene.now) entry.now) }
 {
-    if !is_entry_removable(alloc, scene.cleaning, scene.specs, entry)? {
+    if !is_entry_matched_and_removable(alloc, scene.cleaning, scene.specs, entry)? {
         return Ok(false);
     }
     is_place_outside_skipped_directory(alloc, scene, &place_of_entry(entry))
@@ -74,7 +74,7 @@ fn removed_whole_directory_above_entry<'a>(
     if !may_parent_go_for_entry(alloc, scene, entry)? {
         return Ok(None);
     }
-    match top(alloc, scene, entry.rela_path.as_bytes())? {
+    match highest_removed_directory_above(alloc, scene, entry.rela_path.as_bytes())? {
         Some(path) => Ok(Some(Place::new(path, true))),
         None => Ok(None),
     }
@@ -104,7 +104,7 @@ fn entry_place_if_removed<'a>(
     ensures { IfOk result (λ place. place ≡ words.entry_place_if_removed (scene_in_specification
         scene.now) entry.now) }
 {
-    if !is_entry_removable(alloc, scene.cleaning, scene.specs, entry)? {
+    if !is_entry_matched_and_removable(alloc, scene.cleaning, scene.specs, entry)? {
         return Ok(None);
     }
     if do_specs_take_entry_if_directory(alloc, scene, entry)? {
@@ -213,8 +213,8 @@ fn removal_name_of_entry(
 }
 
 /// The names of what goes, each once.
-pub fn names(alloc: Global, scene: &Scene<'_>) -> Result<BTreeSet<Bytes>, OutOfMemory>
-    ensures { IfOk result (λ names. names.keys ≡ words.names (scene_in_specification scene.now)) }
+pub fn names_of_removed(alloc: Global, scene: &Scene<'_>) -> Result<BTreeSet<Bytes>, OutOfMemory>
+    ensures { IfOk result (λ names. names.keys ≡ words.names_of_removed (scene_in_specification scene.now)) }
 {
     let mut names = BTreeSet::new(alloc);
     for entry in scene.found {

@@ -183,13 +183,13 @@ fn directory_ending_at_goes_whole(
 }
 
 /// The highest directory above a path that goes as a whole.
-pub fn top<'a>(
+pub fn highest_removed_directory_above<'a>(
     alloc: Global,
     scene: &Scene<'_>,
     path: &'a [u8],
 ) -> Result<Option<&'a [u8]>, OutOfMemory>
     ensures { IfOk result
-        (λ found. option_copied found ≡ words.top (scene_in_specification scene.now) path.now) }
+        (λ found. option_copied found ≡ words.highest_removed_directory_above (scene_in_specification scene.now) path.now) }
 {
     let mut at = 0;
     while at < path.len() {

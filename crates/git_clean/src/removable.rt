@@ -105,13 +105,13 @@ pub fn specs_include_entry(
 }
 
 /// Whether an entry may go by itself.
-pub fn is_entry_removable(
+pub fn is_entry_matched_and_removable(
     alloc: Global,
     cleaning: &Cleaning,
     specs: &Search,
     entry: &Entry,
 ) -> Result<bool, OutOfMemory>
-    ensures { IfOk result (λ may. may ≡ words.is_entry_removable cleaning.now specs.now entry.now) }
+    ensures { IfOk result (λ may. may ≡ words.is_entry_matched_and_removable cleaning.now specs.now entry.now) }
 {
     if !may_remove_if_matched(cleaning, entry) {
         return Ok(false);

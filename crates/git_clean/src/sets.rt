@@ -142,14 +142,14 @@ fn current_directory_and_parents(
 }
 
 /// The directories that cannot go.
-#[tactic(auto, unfolding(crate::specs::Directories::held))]
-pub fn held(
+#[tactic(auto, unfolding(crate::specs::Directories::directories_that_must_stay))]
+pub fn directories_that_must_stay(
     alloc: Global,
     cleaning: &Cleaning,
     prefix: &[u8],
     found: &[ReportEntry],
 ) -> Result<BTreeSet<Bytes>, OutOfMemory>
-    ensures { IfOk result (λ set. set.keys ≡ words.held cleaning.now prefix.now found.now) }
+    ensures { IfOk result (λ set. set.keys ≡ words.directories_that_must_stay cleaning.now prefix.now found.now) }
 {
     let mut directories = current_directory_and_parents(alloc, prefix)?;
     for entry in found {

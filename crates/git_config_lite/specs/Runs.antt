@@ -18,5 +18,5 @@ AreIndexRunsOfSections (run ∷ runs) sections =
     (run.start ≤ length sections) × IsSortedIndexOfSections run.index (drop run.start sections) × AreIndexRunsOfSections runs (take run.start sections)
 
 -- the last of some runs starts behind so many sections
-abbrev pub LastRunStartsAt : List Run → ℕ → Type 0
-LastRunStartsAt runs start = (before : List Run) × (last : Run) × (runs ≡ before ++ last ∷ []) × (last.start ≡ start)
+abbrev pub LastIndexRunStartsAt : List Run → ℕ → Type 0
+LastIndexRunStartsAt runs start = (before : List Run) × (last : Run) × (runs ≡ before ++ last ∷ []) × (last.start ≡ start)

@@ -27,6 +27,7 @@ pub fn is_same_subsection(found: Option<&[u8]>, asked: Option<&[u8]>) -> bool
     }
 }
 
+/// Whether an entry has this key, in whatever case its letters are.
 pub fn entry_has_key(key: &[u8], entry: &Entry) -> bool
     ensures { result ≡ lookups.entry_has_key key.now entry.now }
 {

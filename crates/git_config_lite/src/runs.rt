@@ -3,7 +3,7 @@
 ghost use Rattle.std.specs.Prelude.{◌≡◌, ◌≤◌, ◌++◌, ◌∷◌, [], length, take, drop, option_copied, option_map, reverse, IfSome};
 ghost use Rattle.git_config_lite.specs.Lookups as lookups;
 ghost use Rattle.git_config_lite.specs.declared.run.Run as declared;
-ghost use Rattle.git_config_lite.specs.Runs.{AreIndexRunsOfSections, IsIndexRunFrom, LastRunStartsAt};
+ghost use Rattle.git_config_lite.specs.Runs.{AreIndexRunsOfSections, IsIndexRunFrom, LastIndexRunStartsAt};
 ghost use Rattle.git_config_lite.specs.Seen as seen;
 
 use crate::found::FoundValue;
@@ -52,7 +52,7 @@ fn index_run_from_start(alloc: Global, sections: &[Section], start: usize) -> Op
 
 /// Where the last run starts, if it has no more sections than stand behind it.
 fn short_last_run_start(runs: &[Run], start: usize, total: usize) -> Option<usize>
-    ensures { IfSome result (LastRunStartsAt runs.now) }
+    ensures { IfSome result (LastIndexRunStartsAt runs.now) }
 {
     let Some((run, _)) = runs.split_last() else {
         return None;

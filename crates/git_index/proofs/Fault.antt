@@ -6,11 +6,13 @@ use Rattle.std.specs.List.{list_any}
 use Rattle.byteorder.specs.Endian.{big_number, big_bytes}
 use Rattle.gitbase_core.specs.declared.entry.IndexEntry.{IndexEntry}
 use Rattle.gitbase_core.specs.Steps.{and_then}
-use Rattle.git_index.specs.Parts.{is_nul, big_endian_word_at_index}
+use Rattle.gitbase_core.specs.Entry.{is_sparse_directory_entry}
+use Rattle.gitbase_core.specs.Text.{is_nul}
+use Rattle.git_index.specs.Parts.{big_endian_word_at_index}
 use Rattle.git_index.specs.Entries.{EntriesAndRest, EntriesAndDetails, EntryAndRest, read_entries_after_others, read_entry, path_of_last_entry, no_entries_and_details, path_of_optional_entry, entries_and_details_with_one_more}
 use Rattle.git_index.specs.Extensions.{ExtensionHead, read_extension_head, is_sparse_after_extensions, is_optional_extension_name, extension_head_of_name_and_size}
 use Rattle.git_index.specs.Fault.{IsFirstBadEntryAt, path_of_last_written_entry}
-use Rattle.git_index.specs.IndexFile.{index_after_reading_extensions, verify_and_read_body, read_entries_and_extensions, index_of_file_bytes, index_of_entries_and_sparseness, is_sparse_directory_entry, is_checksum_or_nuls, is_supported_version, index_unless_unmarked_directory, index_or_directory_error}
+use Rattle.git_index.specs.IndexFile.{index_after_reading_extensions, verify_and_read_body, read_entries_and_extensions, index_of_file_bytes, index_of_entries_and_sparseness, is_checksum_or_nuls, is_supported_version, index_unless_unmarked_directory, index_or_directory_error}
 use Rattle.git_index.specs.Written.{AreWritableEntriesAfterPath, IsWritableEntryAfterPath, WrittenEntry, detail_of_written, entries_bytes, index_entry_of_written, entry_bytes}
 use Rattle.git_index.specs.declared.error.IndexFileError.{IndexFileError}
 use Rattle.git_index.specs.declared.error.IndexFileError.TheVariants as errors

@@ -4,7 +4,8 @@ use Rattle.std.specs.List.{list_any, list_all}
 use Rattle.byteorder.specs.Endian.{big_number, big_bytes}
 use Rattle.gitbase_core.specs.declared.entry.Mode.{Mode}
 use Rattle.gitbase_core.specs.Steps.{◌>>=◌}
-use Rattle.git_index.specs.Parts.{PartAndRest, split_first_bytes, is_nul, text, big_endian_word_at_index}
+use Rattle.gitbase_core.specs.Text.{is_nul}
+use Rattle.git_index.specs.Parts.{PartAndRest, split_first_bytes, text, big_endian_word_at_index}
 use Rattle.git_index.specs.Varint.{VarintAndRest, varint_leading_bytes, read_varint, varint_bytes_of_number}
 use Rattle.git_index.specs.Head.{FixedEntryFields, parse_fixed_entry_fields, is_assume_valid_set, is_extended_flag_set, known_mode_of_bits, mode_with_bits, stage_from_flags, stat_of_entry_head}
 use Rattle.git_index.specs.More.{ExtendedFlagsAndRest, has_only_known_bits, read_extended_flags_if_present, extended_flags_from_bits, read_extended_flags}

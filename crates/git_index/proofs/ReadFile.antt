@@ -7,11 +7,13 @@ use Rattle.std.specs.List.{list_any, list_all, position_or_len}
 use Rattle.byteorder.specs.Endian.{big_bytes}
 use Rattle.sha1.specs.Sha1.{sha1}
 use Rattle.gitbase_core.specs.declared.entry.IndexEntry.{IndexEntry}
-use Rattle.git_index.specs.Parts.{is_nul, big_endian_word_at_index}
+use Rattle.gitbase_core.specs.Entry.{is_sparse_directory_entry}
+use Rattle.gitbase_core.specs.Text.{is_nul}
+use Rattle.git_index.specs.Parts.{big_endian_word_at_index}
 use Rattle.git_index.specs.Entries.{EntriesAndRest, EntriesAndDetails, EntryAndRest, read_entries_after_others, read_entry, path_of_last_entry, no_entries_and_details, path_of_optional_entry, entries_and_details_with_one_more}
 use Rattle.git_index.specs.Extensions.{is_sparse_after_extensions}
 use Rattle.git_index.specs.Gives.{IndexResultAgrees}
-use Rattle.git_index.specs.IndexFile.{IndexFileContents, index_after_reading_extensions, verify_and_read_body, read_entries_and_extensions, index_of_file_bytes, index_of_entries_and_sparseness, is_sparse_directory_entry, is_checksum_or_nuls, is_supported_version, index_unless_unmarked_directory, index_or_directory_error}
+use Rattle.git_index.specs.IndexFile.{IndexFileContents, index_after_reading_extensions, verify_and_read_body, read_entries_and_extensions, index_of_file_bytes, index_of_entries_and_sparseness, is_checksum_or_nuls, is_supported_version, index_unless_unmarked_directory, index_or_directory_error}
 use Rattle.git_index.specs.Written.{AreWritableExtensions, AreWritableEntriesAfterPath, WrittenExtension, IsIndexFileOfContents, WrittenEntry, index_body_bytes, detail_of_written, entries_bytes, index_entry_of_written, entry_bytes, extensions_bytes, index_of_written, is_sparse_mark_extension, is_written_sparse_directory}
 use Rattle.git_index.specs.declared.stat.Detail.{Detail}
 use Rattle.git_index.specs.declared.error.IndexFileError.{IndexFileError}

@@ -3,7 +3,8 @@ use Rattle.std.proofs.Common.{◌≡◌, refl, sym, ap, ◌∙◌, subst, arith,
 use Rattle.std.specs.List.{list_any, list_all, position_or_len}
 use Rattle.gitbase_core.specs.declared.entry.Mode.{Mode}
 use Rattle.gitbase_core.specs.Entry.{regular_file_mode, executable_file_mode, symlink_mode, gitlink_mode, sparse_directory_mode}
-use Rattle.git_index.specs.Parts.{split_first_bytes, is_nul, split_around_byte_at, text, PartAndRest}
+use Rattle.gitbase_core.specs.Text.{is_nul}
+use Rattle.git_index.specs.Parts.{split_first_bytes, split_around_byte_at, text, PartAndRest}
 use Rattle.git_index.specs.Head.{known_mode_of_bits, mode_with_bits}
 use Rattle.git_index.proofs.Steps.{and_first, and_second, chosen, mapped, some_is}
 

@@ -2,7 +2,8 @@
 use Rattle.std.proofs.Common.{◌≡◌, refl, sym, ap, ◌∙◌, arith, ℕ, zero, suc, ◌+◌, ◌≤◌, ◌<◌, not, cond, nat_lt, lt-ltb, Bool, true, false, ◌||◌, List, [], ◌∷◌, ◌++◌, length, take, drop, replicate, Some, None, option_map, position, length-append, le-leb, if◌then◌else◌}
 use Rattle.std.proofs.Math.Seq.{drop-append_seam, take-append_seam, drop-append-add}
 use Rattle.std.specs.List.{list_any, list_all, position_or_len}
-use Rattle.git_index.specs.Parts.{split_first_bytes, is_nul, split_around_byte_at, text}
+use Rattle.gitbase_core.specs.Text.{is_nul}
+use Rattle.git_index.specs.Parts.{split_first_bytes, split_around_byte_at, text}
 
 pub take_exact : (n : ℕ) (xs ys : List ℕ) → length xs ≡ n → take n (xs ++ ys) ≡ xs
 take_exact n xs ys h = ap (λ k. take k (xs ++ ys)) (sym h) ∙ take-append_seam xs ys

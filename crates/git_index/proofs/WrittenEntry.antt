@@ -6,7 +6,8 @@ use Rattle.byteorder.specs.Endian.{big_number, big_bytes}
 use Rattle.byteorder.specs.Numbers.{big_number-reads_back, length-bytes_high_first}
 use Rattle.gitbase_core.specs.declared.entry.Mode.{Mode}
 use Rattle.gitbase_core.specs.Steps.{◌>>=◌}
-use Rattle.git_index.specs.Parts.{PartAndRest, is_nul, text, big_endian_word_at_index}
+use Rattle.gitbase_core.specs.Text.{is_nul}
+use Rattle.git_index.specs.Parts.{PartAndRest, text, big_endian_word_at_index}
 use Rattle.git_index.specs.Varint.{VarintAndRest, varint_bytes_of_number}
 use Rattle.git_index.specs.Head.{FixedEntryFields, parse_fixed_entry_fields, flags_of_assumed_and_skipped, known_mode_of_bits, mode_with_bits, stage_from_flags, stat_of_entry_head}
 use Rattle.git_index.specs.More.{ExtendedFlagsAndRest, read_extended_flags_if_present, extended_flags_from_bits, read_extended_flags}

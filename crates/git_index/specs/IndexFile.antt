@@ -1,13 +1,14 @@
 -- The file of an index: a head of twelve bytes, the entries, extensions, and the SHA-1 of all before it, or twenty NULs in its place.
 -- What a reader answers is said here; what a writer means is in `WrittenEntry`.
-use Rattle.std.specs.Prelude.{ℕ, ◌-◌, Bool, false, not, nat_le, nat_lt, ◌==◌, ◌&&◌, ◌||◌, List, length, take, drop, codes, position, Option, Some, None, Result, Ok, Err, if◌then◌else◌}
+use Rattle.std.specs.Prelude.{ℕ, ◌-◌, Bool, false, not, nat_le, nat_lt, ◌&&◌, ◌||◌, List, length, take, drop, codes, position, Option, Some, None, Result, Ok, Err, if◌then◌else◌}
 use Rattle.std.specs.Str.{bytes_eq}
 use Rattle.std.specs.List.{list_all}
 use Rattle.sha1.specs.Sha1.{sha1}
-use Rattle.gitbase_core.specs.Entry.{mode_bits, sparse_directory_mode}
+use Rattle.gitbase_core.specs.Entry.{is_sparse_directory_entry}
 use Rattle.gitbase_core.specs.declared.entry.IndexEntry.{IndexEntry}
 use Rattle.gitbase_core.specs.Steps.{and_then}
-use Rattle.git_index.specs.Parts.{is_nul, big_endian_word_at_index}
+use Rattle.gitbase_core.specs.Text.{is_nul}
+use Rattle.git_index.specs.Parts.{big_endian_word_at_index}
 use Rattle.git_index.specs.Entries.{EntriesAndRest, EntriesAndDetails, read_entries_after_others, no_entries_and_details}
 use Rattle.git_index.specs.Extensions.{is_sparse_after_extensions}
 use Rattle.git_index.specs.declared.stat.Detail.{Detail}
@@ -26,10 +27,6 @@ is_checksum_or_nuls body sum = list_all is_nul sum || bytes_eq sum (sha1 body)
 
 abbrev pub is_supported_version : ℕ → Bool
 is_supported_version version = nat_le 2 version && nat_le version 4
-
--- an entry that stands for all that is beneath a directory
-abbrev pub is_sparse_directory_entry : IndexEntry → Bool
-is_sparse_directory_entry entry = mode_bits entry.mode == sparse_directory_mode
 
 -- such an entry stands in a sparse index alone
 abbrev pub index_or_directory_error : Bool → IndexFileContents → Option ℕ → Result IndexFileContents IndexFileError

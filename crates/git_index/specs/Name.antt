@@ -3,7 +3,8 @@
 use Rattle.std.specs.Prelude.{ℕ, ◌+◌, ◌-◌, ◌%◌, min, Bool, nat_le, ◌==◌, List, ◌++◌, length, take, Option, Some, None, option_map, if◌then◌else◌}
 use Rattle.std.specs.List.{list_all}
 use Rattle.gitbase_core.specs.Steps.{◌>>=◌}
-use Rattle.git_index.specs.Parts.{PartAndRest, split_first_bytes, is_nul, text}
+use Rattle.gitbase_core.specs.Text.{is_nul}
+use Rattle.git_index.specs.Parts.{PartAndRest, split_first_bytes, text}
 use Rattle.git_index.specs.Varint.{read_varint}
 use Rattle.git_index.specs.Head.{path_length_from_flags}
 

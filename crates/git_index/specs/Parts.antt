@@ -1,5 +1,6 @@
 -- The parts of an index file: so many bytes, a text that a NUL ends, and numbers of four bytes one behind another.
-use Rattle.std.specs.Prelude.{ℕ, ◌+◌, ◌*◌, nat_le, ◌==◌, Bool, List, length, take, drop, position, Option, Some, None, option_map, if◌then◌else◌}
+use Rattle.std.specs.Prelude.{ℕ, ◌+◌, ◌*◌, nat_le, List, length, take, drop, position, Option, Some, None, option_map, if◌then◌else◌}
+use Rattle.gitbase_core.specs.Text.{is_nul}
 use Rattle.byteorder.specs.Endian.{big_number}
 
 -- some bytes, and what is behind them
@@ -10,9 +11,6 @@ pub record PartAndRest : Type 0 where
 -- the first n bytes; none where there are fewer
 abbrev pub split_first_bytes : ℕ → List ℕ → Option PartAndRest
 split_first_bytes n bytes = if nat_le n (length bytes) then Some (record { part = take n bytes; rest = drop n bytes }) else None
-
-abbrev pub is_nul : ℕ → Bool
-is_nul b = b == 0
 
 abbrev pub split_around_byte_at : List ℕ → ℕ → PartAndRest
 split_around_byte_at bytes place = record { part = take place bytes; rest = drop (place + 1) bytes }

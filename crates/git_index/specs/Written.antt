@@ -7,7 +7,7 @@ use Rattle.byteorder.specs.Endian.{big_bytes}
 use Rattle.sha1.specs.Sha1.{sha1}
 use Rattle.gitbase_core.specs.Entry.{sparse_directory_mode}
 use Rattle.gitbase_core.specs.declared.entry.IndexEntry.{IndexEntry}
-use Rattle.git_index.specs.Parts.{is_nul}
+use Rattle.gitbase_core.specs.Text.{is_nul}
 use Rattle.git_index.specs.Varint.{varint_bytes_of_number}
 use Rattle.git_index.specs.Head.{flags_of_assumed_and_skipped, known_mode_of_bits, mode_with_bits}
 use Rattle.git_index.specs.Name.{padding_length_after_nul}

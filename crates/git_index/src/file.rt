@@ -1,6 +1,7 @@
 //! The file of an index.
 ghost use Rattle.std.specs.Prelude.{◌≡◌, ◌≤◌, ℕ, List, length, codes, position, take, Ok, Err, IfOk, MatchResult};
 ghost use Rattle.std.specs.Str.{bytes_eq};
+ghost use Rattle.gitbase_core.specs.Entry.{is_sparse_directory_entry};
 ghost use Rattle.sha1.specs.Sha1.{sha1};
 ghost use Rattle.git_index.specs.Fault.{IsFirstBadEntryAt};
 ghost use Rattle.git_index.specs.IndexFile as files;
@@ -229,7 +230,7 @@ fn index_unless_unmarked_directory(
 
 /// The first entry that stands for a directory.
 fn place_of_first_sparse_directory(entries: &[IndexEntry]) -> Option<usize>
-    ensures { result ≡ position files.is_sparse_directory_entry entries.now }
+    ensures { result ≡ position is_sparse_directory_entry entries.now }
 {
     entries.iter().position(|entry| entry.mode.is_sparse())
 }

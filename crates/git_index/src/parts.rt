@@ -1,8 +1,9 @@
 //! The parts of an index file: so many bytes, a text that a NUL ends, and numbers.
 ghost use Rattle.std.specs.Prelude.{◌≡◌, ◌≤◌, ◌<◌, ◌+◌, ◌*◌, length, position, drop, option_map, IfSome};
 ghost use Rattle.std.specs.List.{list_all};
+ghost use Rattle.gitbase_core.specs.Text.{is_nul};
 ghost use Rattle.byteorder.specs.Endian.{big_number};
-ghost use Rattle.git_index.specs.Parts.{split_first_bytes, is_nul, text, big_endian_word_at_index};
+ghost use Rattle.git_index.specs.Parts.{split_first_bytes, text, big_endian_word_at_index};
 ghost use Rattle.git_index.specs.Seen.{part_and_rest_as_record};
 
 use byteorder::{BigEndian, ByteOrder};

@@ -8,7 +8,7 @@ use Rattle.worktree_fs.specs.Tree.{Names}
 use Rattle.git_places.specs.Ceilings.{parse_ceiling_directories}
 use Rattle.gitbase_core.specs.Steps.{and_then}
 use Rattle.git_places.specs.Surroundings.{Surroundings}
-use Rattle.git_places.specs.Truths.{boolean_of_variable}
+use Rattle.git_places.specs.Truths.{boolean_of_variable_or_false}
 use Rattle.git_places.specs.declared.error.PlacesError.{PlacesError}
 use Rattle.git_places.specs.declared.error.PlacesError.TheVariants as errors
 
@@ -71,7 +71,7 @@ device_limit_of_directory owned path false = device_or_no_directory_error path (
 -- it is not left, unless `GIT_DISCOVERY_ACROSS_FILESYSTEM` says so
 abbrev pub device_limit_of_surroundings : OwnershipByPath → Surroundings → Result (Option ℕ) PlacesError
 device_limit_of_surroundings owned around =
-    and_then (device_limit_of_directory owned around.directory) (boolean_of_variable (codes "GIT_DISCOVERY_ACROSS_FILESYSTEM") around.across)
+    and_then (device_limit_of_directory owned around.directory) (boolean_of_variable_or_false (codes "GIT_DISCOVERY_ACROSS_FILESYSTEM") around.across)
 
 abbrev pub search_limits_of_surroundings : Names → OwnershipByPath → Surroundings → Result SearchLimits PlacesError
 search_limits_of_surroundings t owned around = and_then (λ device. Ok (search_limits (ceilings_of_variable t around.ceilings) device)) (device_limit_of_surroundings owned around)

@@ -21,6 +21,6 @@ boolean_or_value_error name None = Err (errors.Value None name)
 boolean_or_value_error name (Some b) = Ok b
 
 -- no where the variable is not set; a text that is no boolean is refused
-abbrev pub boolean_of_variable : List ℕ → Option (List ℕ) → Result Bool PlacesError
-boolean_of_variable name None = Ok false
-boolean_of_variable name (Some text) = boolean_or_value_error name (parse_boolean text)
+abbrev pub boolean_of_variable_or_false : List ℕ → Option (List ℕ) → Result Bool PlacesError
+boolean_of_variable_or_false name None = Ok false
+boolean_of_variable_or_false name (Some text) = boolean_or_value_error name (parse_boolean text)

@@ -7,7 +7,7 @@ ghost use Rattle.git_places.specs.Limits as words;
 use crate::ceilings::{Ceilings, parse_ceiling_directories};
 use crate::error::PlacesError;
 use crate::surroundings::Surroundings;
-use crate::truths::boolean_of_variable;
+use crate::truths::boolean_of_variable_or_false;
 use gitbase_core::{Bytes, OutOfMemory, PathText};
 use std::alloc::Global;
 use std::marker::Model;
@@ -143,7 +143,11 @@ fn device_limit_of_surroundings<O: Owners>(
     ensures { FindsInOwners O.Owners owners.old owners.new
         (λ owned. words.device_limit_of_surroundings owned around.now) result }
 {
-    let across = boolean_of_variable(alloc, b"GIT_DISCOVERY_ACROSS_FILESYSTEM", &around.across)?;
+    let across = boolean_of_variable_or_false(
+        alloc,
+        b"GIT_DISCOVERY_ACROSS_FILESYSTEM",
+        &around.across,
+    )?;
     device_limit_of_directory(alloc, owners, around.directory.as_bytes(), across)
 }
 

@@ -44,12 +44,12 @@ pub fn parse_boolean_text(alloc: Global, text: &[u8]) -> Result<Option<bool>, Ou
 }
 
 /// What a variable says as a boolean, no where it is not set.
-pub fn boolean_of_variable(
+pub fn boolean_of_variable_or_false(
     alloc: Global,
     name: &[u8],
     text: &Option<Bytes>,
 ) -> Result<bool, PlacesError>
-    ensures { AnswersUnlessOutOfMemory result (words.boolean_of_variable name.now text.now) }
+    ensures { AnswersUnlessOutOfMemory result (words.boolean_of_variable_or_false name.now text.now) }
 {
     let Some(text) = text else {
         return Ok(false);

@@ -4,8 +4,9 @@ use Rattle.std.proofs.lemmas.Bool.{and_parts}
 use Rattle.gitbase_core.specs.Path.{is_empty_or_root_path, is_beneath_directory, parent, without_trailing_slash}
 use Rattle.gitbase_core.specs.Steps.{and_then}
 use Rattle.gitbase_core.specs.declared.entry.IndexEntry.{IndexEntry}
+use Rattle.gitbase_core.specs.Entry.{is_sparse_directory_entry}
 use Rattle.worktree_fs.specs.Tree.{Names}
-use Rattle.git_setup.specs.Present.{exists_in_work_tree, has_skip_worktree_flag, is_sparse_directory_entry, entry_without_skip_flag, refuse_sparse_entry_if_present, file_entry_unskipped_if_present, seen, append_entries_unskipped_if_present, lies_beneath_known_absent_directory, is_known_present_directory, presence_of_directory, known_or_found_presence_of_directory, known_or_found_presence_of_parent, exists_unless_directory_absent, entry_unskipped_if_present, skipped_entry_unskipped_if_present, require_sparse_directory_absent, entry_unskipped_or_refused_if_present, entries_unskipped_with_cached_looks}
+use Rattle.git_setup.specs.Present.{exists_in_work_tree, has_skip_worktree_flag, entry_without_skip_flag, refuse_sparse_entry_if_present, file_entry_unskipped_if_present, seen, append_entries_unskipped_if_present, lies_beneath_known_absent_directory, is_known_present_directory, presence_of_directory, known_or_found_presence_of_directory, known_or_found_presence_of_parent, exists_unless_directory_absent, entry_unskipped_if_present, skipped_entry_unskipped_if_present, require_sparse_directory_absent, entry_unskipped_or_refused_if_present, entries_unskipped_with_cached_looks}
 use Rattle.git_setup.specs.declared.error.GitRefusal.{GitRefusal}
 use Rattle.git_setup.specs.declared.present.Looked.{Looked}
 use Rattle.git_setup.specs.declared.present.Seen.{Seen}

@@ -22,11 +22,11 @@ abbrev pub written_pathspec_of_text : List ℕ → Written
 written_pathspec_of_text text = record { told = text; text = text }
 
 -- the text asks for what is not to be meant
-abbrev pub excludes : List ℕ → Bool
-excludes text = (split_pathspec_into_magic_and_path text).excludes
+abbrev pub has_exclude_magic : List ℕ → Bool
+has_exclude_magic text = (split_pathspec_into_magic_and_path text).excludes
 
 abbrev pub is_positive_pathspec : List ℕ → Bool
-is_positive_pathspec text = not (excludes text)
+is_positive_pathspec text = not (has_exclude_magic text)
 
 -- The directory `prefix` of the work tree itself is meant: where no text is asked for, unless it is the top, and where each excludes.
 abbrev pub is_current_directory_implied : List ℕ → List (List ℕ) → Bool

@@ -1,6 +1,6 @@
 -- The entries of an index by what is in the work tree: git-sparse-checkout(1), "Internals -- sparse-checkout".
-use Rattle.std.specs.Prelude.{ℕ, List, [], ◌∷◌, ◌++◌, Bool, false, not, ◌&&◌, ◌||◌, ◌==◌, Option, Some, None, Result, Ok, Err, is_some, if◌then◌else◌}
-use Rattle.gitbase_core.specs.Entry.{assume_valid_flag, skip_worktree_flag, mode_bits, sparse_directory_mode}
+use Rattle.std.specs.Prelude.{ℕ, List, [], ◌∷◌, ◌++◌, Bool, false, not, ◌&&◌, ◌||◌, Option, Some, None, Result, Ok, Err, is_some, if◌then◌else◌}
+use Rattle.gitbase_core.specs.Entry.{assume_valid_flag, skip_worktree_flag, is_sparse_directory_entry}
 use Rattle.gitbase_core.specs.Index.{checked_index_entries}
 use Rattle.gitbase_core.specs.Kinds.{entry_has_flag}
 use Rattle.std.specs.Str.{bytes_eq}
@@ -22,10 +22,6 @@ exists_in_work_tree t root path = is_some (kind_of_lookup (look t (path_joined_w
 
 abbrev pub has_skip_worktree_flag : IndexEntry → Bool
 has_skip_worktree_flag e = entry_has_flag skip_worktree_flag e
-
--- an entry that stands for all that is beneath a directory
-abbrev pub is_sparse_directory_entry : IndexEntry → Bool
-is_sparse_directory_entry e = mode_bits e.mode == sparse_directory_mode
 
 abbrev pub entry_without_skip_flag : IndexEntry → IndexEntry
 entry_without_skip_flag e = record e { flags = flags_of_assumed_and_skipped (entry_has_flag assume_valid_flag e) false }

@@ -1,17 +1,14 @@
 -- What a deletion leaves alone as a work tree of its own: submodules, and git directories of this one.
-use Rattle.std.specs.Prelude.{ℕ, List, [], ◌∷◌, Bool, true, false, ◌==◌, filter, find, map, Option, Some, None, is_some, Result, Ok, Err, if◌then◌else◌}
+use Rattle.std.specs.Prelude.{ℕ, List, [], Bool, filter, find, map, Option, Some, None, Result, Ok, Err, if◌then◌else◌}
 use Rattle.std.specs.BTreeSet.{insert_key}
 use Rattle.std.specs.Cmp.Lexicographic.{slice_cmp}
 use Rattle.std.specs.Ordering.{nat_cmp}
-use Rattle.gitbase_core.specs.Entry.{mode_bits, gitlink_mode}
+use Rattle.gitbase_core.specs.Entry.{is_submodule_entry}
 use Rattle.gitbase_core.specs.declared.entry.IndexEntry.{IndexEntry}
 use Rattle.worktree_report.specs.SetupMeant.{insert_paths_in_order}
 use Rattle.git_setup.specs.declared.own_directories.OwnDirectories.{OwnDirectories}
 use Rattle.git_setup.specs.declared.error.GitRefusal.{GitRefusal}
 use Rattle.git_setup.specs.declared.error.GitRefusal.TheVariants as errors
-
-abbrev pub is_submodule_entry : IndexEntry → Bool
-is_submodule_entry e = mode_bits e.mode == gitlink_mode
 
 abbrev pub paths_with_submodules : List (List ℕ) → List IndexEntry → List (List ℕ)
 paths_with_submodules paths entries = insert_paths_in_order paths (map (λ (e : IndexEntry). e.path) (filter is_submodule_entry entries))

@@ -6,7 +6,7 @@ ghost use Rattle.git_setup.specs.Finds.{IsFoundOrRefusesMemory};
 
 use crate::each::{AskedSpec, EachSpec};
 use crate::error::GitRefusal;
-use crate::placed::{outside, path_below_root, resolve_pathspec_from_top};
+use crate::placed::{outside_path_refusal, path_below_root, resolve_pathspec_from_top};
 use crate::written::{Written, pathspecs_with_implied_current_directory};
 use gitbase_core::{Bytes, OutOfMemory, PathText};
 use glob_rules::pathspec::{Defaults, Error, Search, Spec};
@@ -43,7 +43,7 @@ fn parse_resolved_pathspec(
     match Spec::parse(alloc, whole, Defaults { ignore_case }) {
         Ok(spec) => Ok(spec),
         Err(Error::Parse { at: _ }) => Err(refusal_text_is_no_pathspec(alloc, text)?),
-        Err(Error::Normalize) => Err(outside(alloc, text)?),
+        Err(Error::Normalize) => Err(outside_path_refusal(alloc, text)?),
         Err(Error::OutOfMemory) => Err(GitRefusal::OutOfMemory),
     }
 }

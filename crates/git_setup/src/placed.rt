@@ -332,7 +332,7 @@ fn relative_spec_path_from_top(
 }
 
 /// The refusal of a path that leads out of the work tree.
-pub fn outside(alloc: Global, text: &[u8]) -> Result<GitRefusal, OutOfMemory>
+pub fn outside_path_refusal(alloc: Global, text: &[u8]) -> Result<GitRefusal, OutOfMemory>
     ensures { IfOk result (λ e. e ≡ GitRefusal.OutsidePath text.now) }
 {
     Ok(GitRefusal::OutsidePath {
@@ -387,7 +387,7 @@ fn absolute_spec_path_from_top(
     let normal = normalized_path_keeping_slash(alloc, path)?;
     match path_below_root(root, normal.as_bytes()) {
         Some(path) => Ok(Bytes::from_slice(alloc, path)?),
-        None => Err(outside(alloc, text)?),
+        None => Err(outside_path_refusal(alloc, text)?),
     }
 }
 

@@ -1,6 +1,7 @@
 //! What a deletion leaves alone as a work tree of its own: submodules, and git directories of this
 //! one.
 ghost use Rattle.std.specs.Prelude.{◌≡◌, [], IfOk, OnOk, find, option_copied};
+ghost use Rattle.gitbase_core.specs.Entry.{is_submodule_entry};
 ghost use Rattle.git_setup.specs.Finds.{IsFoundOrRefusesMemory, FindsOverToldTree};
 ghost use Rattle.git_setup.specs.OwnDirectories.{git_dirs_needing_protection_if_deleting};
 ghost use Rattle.git_setup.specs.Protected as words;
@@ -47,7 +48,7 @@ impl Protected {
 }
 
 fn is_submodule_entry(entry: &IndexEntry) -> bool
-    ensures { result ≡ words.is_submodule_entry entry.now }
+    ensures { result ≡ is_submodule_entry entry.now }
 {
     entry.mode.is_submodule()
 }
@@ -89,7 +90,7 @@ fn paths_of_git_dirs_and_submodules(
 
 /// The first submodule of an index.
 fn first_submodule_entry(entries: &[IndexEntry]) -> Option<&IndexEntry>
-    ensures { option_copied result ≡ find words.is_submodule_entry entries.now }
+    ensures { option_copied result ≡ find is_submodule_entry entries.now }
 {
     entries.iter().find(|entry| is_submodule_entry(entry))
 }

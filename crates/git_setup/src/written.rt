@@ -17,8 +17,8 @@ pub struct Written {
 }
 
 /// Whether a text asks for what is not to be meant.
-fn excludes(alloc: Global, text: &[u8]) -> Result<bool, OutOfMemory>
-    ensures { IfOk result (λ is. is ≡ words.excludes text.now) }
+fn has_exclude_magic(alloc: Global, text: &[u8]) -> Result<bool, OutOfMemory>
+    ensures { IfOk result (λ is. is ≡ words.has_exclude_magic text.now) }
 {
     Ok(split_pathspec_into_magic_and_path(alloc, text)?.excludes)
 }
@@ -28,7 +28,7 @@ fn has_positive_pathspec(alloc: Global, texts: &[Bytes]) -> Result<bool, OutOfMe
     ensures { IfOk result (λ is. is ≡ list_any words.is_positive_pathspec texts.now) }
 {
     for text in texts {
-        if !excludes(alloc, text.as_bytes())? {
+        if !has_exclude_magic(alloc, text.as_bytes())? {
             return Ok(true);
         }
     }

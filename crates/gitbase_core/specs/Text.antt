@@ -1,8 +1,12 @@
 -- What the texts of git's files and names have in common.
-use Rattle.std.specs.Prelude.{ℕ, Bool, nat_eq, List, [], ◌∷◌, codes, map, drop, if◌then◌else◌}
+use Rattle.std.specs.Prelude.{ℕ, Bool, ◌==◌, nat_eq, List, [], ◌∷◌, codes, map, drop, if◌then◌else◌}
 use Rattle.std.specs.Char.{to_ascii_lowercase}
 use Rattle.std.specs.List.{starts_with}
 use Rattle.std.specs.Str.{bytes_eq}
+
+-- a byte is NUL, which ends a text
+abbrev pub is_nul : ℕ → Bool
+is_nul b = b == 0
 
 -- the bytes of a text with the ASCII letters in lower case, as they are compared where case makes no difference
 abbrev pub fold_case : List ℕ → List ℕ

@@ -37,7 +37,7 @@ impl Model for AccelerateLookup {
 
 impl AccelerateLookup {
     /// The lookup of an index, which serves that index alone.
-    pub fn new(alloc: Global, state: &State) -> Result<AccelerateLookup, OutOfMemory>
+    pub fn from_state(alloc: Global, state: &State) -> Result<AccelerateLookup, OutOfMemory>
         ensures { IfOk result (IsCaseFoldedLookupOfEntries state.now) }
     {
         let entries = state.entries();

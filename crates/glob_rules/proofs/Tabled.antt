@@ -25,7 +25,7 @@ use Rattle.glob_rules.specs.declared.Case.TheVariants.{Sensitive}
 use Rattle.glob_rules.specs.declared.ignore.line.Entry.{Entry}
 use Rattle.glob_rules.specs.Ignore.{last_matching_entry}
 use Rattle.glob_rules.specs.Rule.{rule_matches_name_or_relative_path}
-use Rattle.glob_rules.specs.Tables.{core_of_optional_rule, core_of_numbered_rule, is_optional_rule_found_by_core, is_numbered_rule_found_by_core, optional_rule_matches_path, numbered_rule_matches_path, compare_rule_numbers_by_core, IsTableOfRules, AreRulesFoundByCore, LastCountedPasses, BoundsMatchesWithCore, BoundsMatchesWithDottedEnding, BoundsPassingNumbers}
+use Rattle.glob_rules.specs.Tables.{core_of_optional_rule, core_of_numbered_rule, is_optional_rule_found_by_core, is_numbered_rule_found_by_core, optional_rule_matches_path, numbered_rule_matches_path, compare_rule_numbers_by_core, IsTableOfRules, AreRulesFoundByCore, LastCountedPasses, AllMatchesWithCoreAreBelow, AllMatchesWithDottedEndingAreBelow, AllPassingNumbersAreBelow}
 use Rattle.glob_rules.proofs.Cores.{TellsCore, tells_core}
 
 -- ---- the order of the numbers
@@ -114,16 +114,16 @@ module _ (rules : List Entry) (sorted : List ℕ) (up : IsSorted (compare_rule_n
       up_to_point at fits point j below = point.0 j 0 (omega arith) below
 
       -- a number of the table by its place
-      by_place : (found : ℕ) → ((j : ℕ) → j < length sorted → core_of_numbered_rule rules (get_or sorted j 0) ≡ text → test (get_or sorted j 0) ≡ true → get_or sorted j 0 < found) → BoundsMatchesWithCore test (core_of_numbered_rule rules) sorted text found
+      by_place : (found : ℕ) → ((j : ℕ) → j < length sorted → core_of_numbered_rule rules (get_or sorted j 0) ≡ text → test (get_or sorted j 0) ≡ true → get_or sorted j 0 < found) → AllMatchesWithCoreAreBelow test (core_of_numbered_rule rules) sorted text found
       by_place found h k (j, below, is) same pass =
           let here : get_or sorted j 0 ≡ k = get_or_default sorted j 0 k below ∙ is in
           subst (λ (n : ℕ). n < found) here (h j below (ap (core_of_numbered_rule rules) here ∙ same) (ap test here ∙ pass))
 
-      pub at_none : (found : ℕ) → NoneFrom 0 → BoundsMatchesWithCore test (core_of_numbered_rule rules) sorted text found
+      pub at_none : (found : ℕ) → NoneFrom 0 → AllMatchesWithCoreAreBelow test (core_of_numbered_rule rules) sorted text found
       at_none found none = by_place found (λ j below same pass. absurd (none j (omega arith) below same pass))
 
       module _ (at : ℕ) (low : at < length sorted) where
-        pub at_other : (found : ℕ) → NoneFrom (at + 1) → UpTo (at + 1) → (core_of_numbered_rule rules (get_or sorted at 0) ≡ text → ⊥) → BoundsMatchesWithCore test (core_of_numbered_rule rules) sorted text found
+        pub at_other : (found : ℕ) → NoneFrom (at + 1) → UpTo (at + 1) → (core_of_numbered_rule rules (get_or sorted at 0) ≡ text → ⊥) → AllMatchesWithCoreAreBelow test (core_of_numbered_rule rules) sorted text found
         at_other found none upto other = by_place found (λ j below same pass.
             elim (cases_lt at j) [
               | inl after ↦ absurd (none j (omega arith) below same pass)
@@ -139,7 +139,7 @@ module _ (rules : List Entry) (sorted : List ℕ) (up : IsSorted (compare_rule_n
             ])
 
         -- those of one core before it have no greater numbers
-        pub at_core : (found : ℕ) → NoneFrom (at + 1) → core_of_numbered_rule rules (get_or sorted at 0) ≡ text → get_or sorted at 0 < found → BoundsMatchesWithCore test (core_of_numbered_rule rules) sorted text found
+        pub at_core : (found : ℕ) → NoneFrom (at + 1) → core_of_numbered_rule rules (get_or sorted at 0) ≡ text → get_or sorted at 0 < found → AllMatchesWithCoreAreBelow test (core_of_numbered_rule rules) sorted text found
         at_core found none is less = by_place found (λ j below same pass.
             elim (cases_lt at j) [
               | inl after ↦ absurd (none j (omega arith) below same pass)
@@ -152,15 +152,15 @@ module _ (rest : List ℕ) (rises : IsStrictlyIncreasing rest) (test : ℕ → B
   abbrev pub NonePast : ℕ → Type 0
   NonePast at = (j : ℕ) → at ≤ j → j < length rest → test (get_or rest j 0) ≡ true → ⊥
 
-  place_of : (found : ℕ) → ((j : ℕ) → j < length rest → test (get_or rest j 0) ≡ true → get_or rest j 0 < found) → BoundsPassingNumbers test rest found
+  place_of : (found : ℕ) → ((j : ℕ) → j < length rest → test (get_or rest j 0) ≡ true → get_or rest j 0 < found) → AllPassingNumbersAreBelow test rest found
   place_of found h k (j, below, is) pass =
       let here : get_or rest j 0 ≡ k = get_or_default rest j 0 k below ∙ is in
       subst (λ (n : ℕ). n < found) here (h j below (ap test here ∙ pass))
 
-  pub past_none : (found : ℕ) → NonePast 0 → BoundsPassingNumbers test rest found
+  pub past_none : (found : ℕ) → NonePast 0 → AllPassingNumbersAreBelow test rest found
   past_none found none = place_of found (λ j below pass. absurd (none j (omega arith) below pass))
 
-  pub past_below : (found at : ℕ) → at < length rest → NonePast (at + 1) → get_or rest at 0 < found → BoundsPassingNumbers test rest found
+  pub past_below : (found at : ℕ) → at < length rest → NonePast (at + 1) → get_or rest at 0 < found → AllPassingNumbersAreBelow test rest found
   past_below found at low none less = place_of found (λ j below pass.
       elim (cases_lt at j) [
         | inl after ↦ absurd (none j (omega arith) below pass)
@@ -227,9 +227,9 @@ module _ (name : List ℕ) (relative : Option (List ℕ)) (is_dir : Option Bool)
 
   -- ---- what the look-ups of the table find together
 
-  pub all_found : (rules : List Entry) (sorted : List ℕ) (found : ℕ) → AreRulesFoundByCore rules sorted → BoundsMatchesWithCore (test_of rules) (core_of_numbered_rule rules) sorted name found
-      → BoundsMatchesWithDottedEnding (test_of rules) (core_of_numbered_rule rules) sorted name (length name) found
-      → ((path : List ℕ) → relative ≡ Some path → BoundsMatchesWithCore (test_of rules) (core_of_numbered_rule rules) sorted path found) → BoundsPassingNumbers (test_of rules) sorted found
+  pub all_found : (rules : List Entry) (sorted : List ℕ) (found : ℕ) → AreRulesFoundByCore rules sorted → AllMatchesWithCoreAreBelow (test_of rules) (core_of_numbered_rule rules) sorted name found
+      → AllMatchesWithDottedEndingAreBelow (test_of rules) (core_of_numbered_rule rules) sorted name (length name) found
+      → ((path : List ℕ) → relative ≡ Some path → AllMatchesWithCoreAreBelow (test_of rules) (core_of_numbered_rule rules) sorted path found) → AllPassingNumbersAreBelow (test_of rules) sorted found
   all_found rules sorted found are by_name by_ending by_path k there pass = by_rule (slice_get rules k) refl
     where
       by_core : TellsCore (core_of_numbered_rule rules k) name relative → k < found
@@ -254,7 +254,7 @@ module _ (name : List ℕ) (relative : Option (List ℕ)) (is_dir : Option Bool)
 
   -- ---- the tables together
 
-  pub last_of_both : (rules : List Entry) (sorted rest : List ℕ) (found : ℕ) → IsTableOfRules rules sorted rest → BoundsPassingNumbers (test_of rules) sorted found → BoundsPassingNumbers (test_of rules) rest found → IsLast (test_of rules) found
+  pub last_of_both : (rules : List Entry) (sorted rest : List ℕ) (found : ℕ) → IsTableOfRules rules sorted rest → AllPassingNumbersAreBelow (test_of rules) sorted found → AllPassingNumbersAreBelow (test_of rules) rest found → IsLast (test_of rules) found
   last_of_both rules sorted rest found is in_sorted in_rest k pass =
       elim (Contains-append_cases (filter (is_numbered_rule_found_by_core rules) all) (filter (λ n. not (is_numbered_rule_found_by_core rules n)) all) k
       (Contains-permutation _ _ k (IsPermutation-filter_both (is_numbered_rule_found_by_core rules) (λ n. not (is_numbered_rule_found_by_core rules n)) (λ n. refl) all) among)) [

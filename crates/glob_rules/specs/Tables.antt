@@ -80,17 +80,17 @@ abbrev pub LastCountedPasses : (ℕ → Bool) → ℕ → Type 0
 LastCountedPasses test found = 0 < found → test (found - 1) ≡ true
 
 -- the numbers in a table of the rules that have this core and pass the test lie below `found`
-abbrev pub BoundsMatchesWithCore : (ℕ → Bool) → (ℕ → List ℕ) → List ℕ → List ℕ → ℕ → Type 0
-BoundsMatchesWithCore test key numbers text found = (k : ℕ) → Contains numbers k → key k ≡ text → test k ≡ true → k < found
+abbrev pub AllMatchesWithCoreAreBelow : (ℕ → Bool) → (ℕ → List ℕ) → List ℕ → List ℕ → ℕ → Type 0
+AllMatchesWithCoreAreBelow test key numbers text found = (k : ℕ) → Contains numbers k → key k ≡ text → test k ≡ true → k < found
 
 -- the same of those whose core is what the text has from one of its dots on, which stands before the place `up`
-abbrev pub BoundsMatchesWithDottedEnding : (ℕ → Bool) → (ℕ → List ℕ) → List ℕ → List ℕ → ℕ → ℕ → Type 0
-BoundsMatchesWithDottedEnding test key numbers text up found = (k i : ℕ) → Contains numbers k → i < up → i < length text → get_or text i 0 ≡ dot
+abbrev pub AllMatchesWithDottedEndingAreBelow : (ℕ → Bool) → (ℕ → List ℕ) → List ℕ → List ℕ → ℕ → ℕ → Type 0
+AllMatchesWithDottedEndingAreBelow test key numbers text up found = (k i : ℕ) → Contains numbers k → i < up → i < length text → get_or text i 0 ≡ dot
     → key k ≡ drop i text → test k ≡ true → k < found
 
 -- the numbers that pass the test lie below `found`
-abbrev pub BoundsPassingNumbers : (ℕ → Bool) → List ℕ → ℕ → Type 0
-BoundsPassingNumbers test numbers found = (k : ℕ) → Contains numbers k → test k ≡ true → k < found
+abbrev pub AllPassingNumbersAreBelow : (ℕ → Bool) → List ℕ → ℕ → Type 0
+AllPassingNumbersAreBelow test numbers found = (k : ℕ) → Contains numbers k → test k ≡ true → k < found
 
 -- the rules of these numbers are found by their cores
 abbrev pub AreRulesFoundByCore : List Entry → List ℕ → Type 0

@@ -114,7 +114,7 @@ fn print_count_and_records(rt: &HostRuntime, file: IndexFile) -> io::Result<Exit
 }
 
 /// Whether there is a word of at most eight bytes after the program's name.
-fn has_short_argument(rt: &HostRuntime) -> bool {
+fn has_first_argument_of_at_most_eight_bytes(rt: &HostRuntime) -> bool {
     let mut buffer = [0u8; 8];
     rt.arg(1, &mut buffer).is_ok()
 }
@@ -123,7 +123,7 @@ fn main(rt: HostRuntime) -> io::Result<ExitCode> {
     let mut bytes = Vec::new(rt.alloc());
     rt.reader().read_to_end(&mut bytes)?;
     match read_index(rt.alloc(), &bytes) {
-        Ok(file) if has_short_argument(&rt) => print_entry_count(
+        Ok(file) if has_first_argument_of_at_most_eight_bytes(&rt) => print_entry_count(
             &rt,
             file.entries().len(),
             file.is_sparse(),

@@ -6,6 +6,7 @@ use Rattle.std.specs.List.{Contains}
 use Rattle.std.proofs.lemmas.List.{append-nil}
 use Rattle.std.proofs.lemmas.List.Elements.{Contains-append_right}
 use Rattle.gitbase_core.specs.declared.entry.IndexEntry.{IndexEntry}
+use Rattle.gitbase_core.specs.Path.{is_some_equal_path}
 use Rattle.worktree_fs.specs.Causes.{saturating_sum}
 use Rattle.worktree_fs.specs.Kept.{KeepsTreeAndListCounts}
 use Rattle.worktree_fs.specs.Tree.{Names}
@@ -13,7 +14,7 @@ use Rattle.worktree_fs.specs.declared.worktree.Worktree.{Ghosts as WorktreeOf}
 use Rattle.index_status.specs.declared.error.StatesError.{StatesError}
 use Rattle.index_status.specs.declared.error.StatesError.TheVariants as errors
 use Rattle.index_status.specs.declared.path_state.PathState.{PathState}
-use Rattle.index_status.specs.Rows.{AreEntriesPairedWithRows, ArePossibleRowsOfIndex, IsRowsWithOneMore, IsRowsWithEntryUnlessRepeated, KeepsLeastReadsForRows, RefusesStatesWithCause, PathAndState, least_files_read_for_rows, first_entries_of_paths, first_entries_of_paths_after, last_row_has_path, is_some_equal_path, path_of_last_row, path_of_row, row_of_entry_over_tree}
+use Rattle.index_status.specs.Rows.{AreEntriesPairedWithRows, ArePossibleRowsOfIndex, IsRowsWithOneMore, IsRowsWithEntryUnlessRepeated, KeepsLeastReadsForRows, RefusesStatesWithCause, PathAndState, least_files_read_for_rows, first_entries_of_paths, first_entries_of_paths_after, last_row_has_path, path_of_last_row, path_of_row, row_of_entry_over_tree}
 use Rattle.index_status.specs.States.{least_reads_for_state, most_reads_for_entries, most_reads_for_entry, IsLookedAtForEntry, IsPossibleStateOfEntry, IsStateOfEntry}
 use Rattle.index_status.specs.Ways.{StopsByFaultAtSomePathOrMemory, HoldsUnlessStatesFault}
 

@@ -12,9 +12,10 @@ use Rattle.gitbase_core.specs.declared.entry.IndexEntry.{IndexEntry}
 use Rattle.gitbase_core.specs.declared.index.IndexError.TheVariants.{Path, ModePath, NotAscending, Stage}
 use Rattle.index_status.specs.declared.path_state.PathState.{PathState}
 use Rattle.index_status.specs.declared.path_state.PathState.TheVariants as states
-use Rattle.index_status.specs.Rows.{AreConflictedExactlyWhereUnmerged, AreEntriesPairedWithRows, ArePossibleRowsOfIndex, PathAndState, first_entries_of_paths_after, has_conflicted_entry, is_some_equal_path}
-use Rattle.gitbase_core.specs.Entry.{mode_bits, gitlink_mode}
-use Rattle.index_status.specs.States.{IsDeletedOrStateOfPresent, IsPossibleStateOfEntry, MayBeStateOfReadFile, MayBeStateWithoutReading, is_skipped_assumed_or_sparse, is_symlink_mode, is_unmerged_entry}
+use Rattle.index_status.specs.Rows.{AreConflictedExactlyWhereUnmerged, AreEntriesPairedWithRows, ArePossibleRowsOfIndex, PathAndState, first_entries_of_paths_after, has_conflicted_entry}
+use Rattle.gitbase_core.specs.Entry.{mode_bits, gitlink_mode, is_unmerged_entry}
+use Rattle.gitbase_core.specs.Path.{is_some_equal_path}
+use Rattle.index_status.specs.States.{IsDeletedOrStateOfPresent, IsPossibleStateOfEntry, MayBeStateOfReadFile, MayBeStateWithoutReading, is_skipped_assumed_or_sparse, is_symlink_mode}
 use Rattle.index_status.proofs.Ordered.{both-none}
 
 or-none : (a b : Bool) → (a || b) ≡ false → (a ≡ false) × (b ≡ false)

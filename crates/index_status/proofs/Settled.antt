@@ -3,10 +3,11 @@ use Rattle.std.proofs.Common.{◌≡◌, inr, ℕ, List, Bool, false, Option, So
 use Rattle.std.specs.Prelude.{if◌then◌else◌}
 use Rattle.gitbase_core.specs.Path.{components}
 use Rattle.gitbase_core.specs.declared.entry.IndexEntry.{IndexEntry}
+use Rattle.gitbase_core.specs.Entry.{is_unmerged_entry}
 use Rattle.worktree_fs.specs.Tree.{Names, look}
 use Rattle.index_status.specs.declared.path_state.PathState.{PathState}
 use Rattle.index_status.specs.declared.path_state.PathState.TheVariants as states
-use Rattle.index_status.specs.States.{IsDeletedOrStateOfPresent, IsPossibleStateOfEntry, MayBeStateOfPresentEntry, IsStateOfEntry, state_at_optional_path, state_by_mode_and_look, is_skipped_assumed_or_sparse, is_unmerged_entry, state_of_index_entry}
+use Rattle.index_status.specs.States.{IsDeletedOrStateOfPresent, IsPossibleStateOfEntry, MayBeStateOfPresentEntry, IsStateOfEntry, state_at_optional_path, state_by_mode_and_look, is_skipped_assumed_or_sparse, state_of_index_entry}
 use Rattle.index_status.specs.Ways.{path_through_directories}
 
 looked-at : (e : IndexEntry) (t : Names) (root : List ℕ) → is_unmerged_entry e ≡ false → is_skipped_assumed_or_sparse e ≡ false → state_of_index_entry t root e ≡ state_at_optional_path t e (path_through_directories t root (components e.path))

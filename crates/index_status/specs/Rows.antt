@@ -1,18 +1,20 @@
 -- The states of all paths of an index.
-use Rattle.std.specs.Prelude.{◌≡◌, ◌↔◌, ◌≤◌, ◌+◌, ℕ, List, [], ◌∷◌, ◌++◌, Bool, true, false, ◌&&◌, bytes_eq, map, Option, Some, None, if◌then◌else◌}
+use Rattle.std.specs.Prelude.{◌≡◌, ◌↔◌, ◌≤◌, ◌+◌, ℕ, List, [], ◌∷◌, ◌++◌, Bool, true, ◌&&◌, bytes_eq, map, Option, Some, None, if◌then◌else◌}
 use Rattle.std.specs.Bool.{MatchBool}
 use Rattle.std.specs.Cmp.Lexicographic.{slice_cmp}
 use Rattle.std.specs.List.{AllByRecursion, Contains, list_any}
 use Rattle.std.specs.List.Sorted.{IsStrictlySortedBy}
 use Rattle.std.specs.Ordering.{nat_cmp}
 use Rattle.gitbase_core.specs.declared.entry.IndexEntry.{IndexEntry}
+use Rattle.gitbase_core.specs.Entry.{is_unmerged_entry}
+use Rattle.gitbase_core.specs.Path.{is_some_equal_path}
 use Rattle.worktree_fs.specs.Causes.{saturating_sum}
 use Rattle.worktree_fs.specs.Tree.{Names}
 use Rattle.index_status.specs.declared.error.StatesError.{StatesError}
 use Rattle.index_status.specs.declared.error.StatesError.TheVariants as errors
 use Rattle.index_status.specs.declared.path_state.PathState.{PathState}
 use Rattle.index_status.specs.declared.path_state.PathState.TheVariants as states
-use Rattle.index_status.specs.States.{IsLookedAtForEntry, IsPossibleStateOfEntry, IsStateOfEntry, least_reads_for_state, is_unmerged_entry, state_of_index_entry}
+use Rattle.index_status.specs.States.{IsLookedAtForEntry, IsPossibleStateOfEntry, IsStateOfEntry, least_reads_for_state, state_of_index_entry}
 
 -- a path and its state
 abbrev pub PathAndState : Type 0
@@ -25,11 +27,6 @@ path_of_row row = row.0
 -- the row of an entry: its path, and its state over the tree
 abbrev pub row_of_entry_over_tree : Names → List ℕ → IndexEntry → PathAndState
 row_of_entry_over_tree t root e = (e.path, state_of_index_entry t root e)
-
--- there is a path, and it is this one
-abbrev pub is_some_equal_path : Option (List ℕ) → List ℕ → Bool
-is_some_equal_path None path = false
-is_some_equal_path (Some other) path = bytes_eq other path
 
 -- the first entry of each path, behind an entry of some path; those of one path stand beside one another
 abbrev pub first_entries_of_paths_after : Option (List ℕ) → List IndexEntry → List IndexEntry

@@ -1,7 +1,7 @@
 -- The state of an index path against a tree.
-use Rattle.std.specs.Prelude.{◌≡◌, ◌⊎◌, ◌+◌, ℕ, List, [], ◌∷◌, Bool, not, ◌==◌, ◌||◌, bytes_eq, Option, Some, None, false, if◌then◌else◌}
+use Rattle.std.specs.Prelude.{◌≡◌, ◌⊎◌, ◌+◌, ℕ, List, [], ◌∷◌, Bool, ◌==◌, ◌||◌, bytes_eq, Option, Some, None, false, if◌then◌else◌}
 use Rattle.std.specs.Bool.{MatchBool}
-use Rattle.gitbase_core.specs.Entry.{mode_bits, assume_valid_flag, gitlink_mode, sparse_directory_mode, skip_worktree_flag, symlink_mode}
+use Rattle.gitbase_core.specs.Entry.{mode_bits, assume_valid_flag, gitlink_mode, sparse_directory_mode, skip_worktree_flag, symlink_mode, is_unmerged_entry}
 use Rattle.gitbase_core.specs.Kinds.{entry_has_flag}
 use Rattle.gitbase_core.specs.Path.{components}
 use Rattle.gitbase_core.specs.declared.entry.IndexEntry.{IndexEntry}
@@ -12,10 +12,6 @@ use Rattle.index_status.specs.declared.path_state.PathState.TheVariants as state
 use Rattle.git_index.specs.Blobs.{blob_id}
 use Rattle.worktree_report.specs.Looks.{IsLookedAtOnWay}
 use Rattle.index_status.specs.Ways.{path_through_directories}
-
--- the path is not merged; an entry of stage 0 is the only one of its path
-abbrev pub is_unmerged_entry : IndexEntry → Bool
-is_unmerged_entry e = not (e.stage == 0)
 
 -- the index says not to look: the path is skipped, taken as unchanged, or a directory that stands for all beneath it
 abbrev pub is_skipped_assumed_or_sparse : IndexEntry → Bool

@@ -1,18 +1,13 @@
 -- What is shown of an index.
-use Rattle.std.specs.Prelude.{ℕ, List, [], Bool, false, not, ◌||◌, ◌==◌, Option, Some, None, if◌then◌else◌}
+use Rattle.std.specs.Prelude.{ℕ, List, [], Bool, ◌||◌, ◌==◌, Some, if◌then◌else◌}
 use Rattle.std.specs.List.{flat_map}
 use Rattle.gitbase_core.specs.Entry.{mode_bits, gitlink_mode, sparse_directory_mode}
 use Rattle.gitbase_core.specs.declared.entry.IndexEntry.{IndexEntry}
 use Rattle.glob_rules.specs.PathSpec.{PathSpec}
-use Rattle.glob_rules.specs.PathSpecs.{match_of_path_by_specs}
-use Rattle.glob_rules.specs.declared.pathspec.Match.{Match}
+use Rattle.glob_rules.specs.PathSpecs.{match_of_path_by_specs, is_including_match}
 use Rattle.ls_files.specs.declared.options.Listing.{Listing}
 use Rattle.ls_files.specs.Choices.{listed_index_entries}
 use Rattle.ls_files.specs.Lines.{line_of_index_entry}
-
-abbrev pub is_including_match : Option Match → Bool
-is_including_match None = false
-is_including_match (Some m) = not m.excluded
 
 -- the path specs match a path, as that of a directory or not
 abbrev pub do_specs_match_path : List PathSpec → List ℕ → Bool → Bool

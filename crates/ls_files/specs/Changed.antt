@@ -3,7 +3,7 @@ use Rattle.std.specs.Prelude.{◌≡◌, ℕ, List, [], ◌∷◌, ◌++◌, Boo
 use Rattle.std.specs.List.{flat_map, list_any}
 use Rattle.gitbase_core.specs.Steps.{and_then}
 use Rattle.gitbase_core.specs.declared.entry.IndexEntry.{IndexEntry}
-use Rattle.git_index.specs.IndexFile.{is_sparse_directory_entry}
+use Rattle.gitbase_core.specs.Entry.{is_sparse_directory_entry}
 use Rattle.git_index.specs.declared.stat.Detail.{Detail}
 use Rattle.glob_rules.specs.PathSpec.{PathSpec}
 use Rattle.worktree_fs.specs.declared.worktree.Worktree.{Ghosts as WorktreeOf}

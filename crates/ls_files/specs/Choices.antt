@@ -1,6 +1,8 @@
 -- What the options choose of an index: git-ls-files(1), "OPTIONS".
-use Rattle.std.specs.Prelude.{ℕ, List, [], ◌∷◌, Bool, false, not, ◌&&◌, ◌||◌, ◌==◌, bytes_eq, Option, Some, None, if◌then◌else◌}
+use Rattle.std.specs.Prelude.{ℕ, List, [], ◌∷◌, Bool, not, ◌&&◌, ◌||◌, Option, Some, None, if◌then◌else◌}
 use Rattle.gitbase_core.specs.declared.entry.IndexEntry.{IndexEntry}
+use Rattle.gitbase_core.specs.Entry.{is_unmerged_entry}
+use Rattle.gitbase_core.specs.Path.{is_some_equal_path}
 use Rattle.ls_files.specs.declared.options.Listing.{Listing}
 
 -- "-u .. forces --stage"
@@ -23,13 +25,9 @@ has_no_listing_option l = not (lists_stages l || needs_worktree_walk l)
 abbrev pub lists_index_entries : Listing → Bool
 lists_index_entries l = l.cached || (lists_stages l || has_no_listing_option l)
 
--- an entry of another stage than 0 is not merged
-abbrev pub is_entry_of_conflict : IndexEntry → Bool
-is_entry_of_conflict e = not (e.stage == 0)
-
 -- with `-u` those alone that are not merged
 abbrev pub passes_unmerged_option : Listing → IndexEntry → Bool
-passes_unmerged_option l e = not l.unmerged || is_entry_of_conflict e
+passes_unmerged_option l e = not l.unmerged || is_unmerged_entry e
 
 abbrev pub is_index_entry_listed : Listing → IndexEntry → Bool
 is_index_entry_listed l e = lists_index_entries l && passes_unmerged_option l e
@@ -39,13 +37,9 @@ is_index_entry_listed l e = lists_index_entries l && passes_unmerged_option l e
 abbrev pub lists_each_path_once : Listing → Bool
 lists_each_path_once l = not l.tags && (l.deduplicates && not (lists_stages l))
 
-abbrev pub is_path_given_and_equal : Option (List ℕ) → List ℕ → Bool
-is_path_given_and_equal None path = false
-is_path_given_and_equal (Some other) path = bytes_eq other path
-
 -- each path is shown once, and this is the last one
 abbrev pub is_dropped_as_repeated_path : Listing → Option (List ℕ) → IndexEntry → Bool
-is_dropped_as_repeated_path l last e = lists_each_path_once l && is_path_given_and_equal last e.path
+is_dropped_as_repeated_path l last e = lists_each_path_once l && is_some_equal_path last e.path
 
 -- the next entry that is chosen, behind one of the path `last`
 abbrev pub is_entry_listed_after_path : Listing → Option (List ℕ) → IndexEntry → Bool

@@ -5,6 +5,7 @@ use Rattle.std.specs.List.{list_all, list_any}
 use Rattle.gitbase_core.specs.Path.{components, path_joined_with_slash}
 use Rattle.gitbase_core.specs.Steps.{and_then}
 use Rattle.gitbase_core.specs.declared.entry.IndexEntry.{IndexEntry}
+use Rattle.gitbase_core.specs.Entry.{is_sparse_directory_entry}
 use Rattle.glob_rules.specs.Ignore.{RulesList}
 use Rattle.glob_rules.specs.declared.Case.{Case}
 use Rattle.worktree_fs.specs.Paths.{all_but_last, all_prefixes_shortest_first, is_relative_without_dots, slash_joined_components}
@@ -35,7 +36,7 @@ use Rattle.ls_files.specs.declared.wrong.WrongListing.TheVariants as wrong
 use Rattle.ls_files.specs.Alone.{has_only_given_patterns, is_excluded, rules_from_setup_patterns}
 use Rattle.ls_files.specs.Choices.{needs_worktree_walk}
 use Rattle.ls_files.specs.Listed.{output_and_errors_of_all_listed}
-use Rattle.ls_files.specs.Wrong.{has_any_exclude_rules, is_sparse_index_directory}
+use Rattle.ls_files.specs.Wrong.{has_any_exclude_rules}
 
 -- ---- which listings there are
 
@@ -47,7 +48,7 @@ lists_only_ignored_index_entries l = l.ignored && (l.cached && not (needs_worktr
 abbrev pub refusal_if_no_rules_or_sparse : Listing → List IndexEntry → Option WrongListing
 refusal_if_no_rules_or_sparse l entries =
     if not (has_any_exclude_rules l) then Some wrong.IgnoredWithoutRules
-    else if list_any is_sparse_index_directory entries then Some wrong.SparseIndex
+    else if list_any is_sparse_directory_entry entries then Some wrong.SparseIndex
     else None
 
 -- ---- what stands at a path

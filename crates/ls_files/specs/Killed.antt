@@ -5,13 +5,13 @@ use Rattle.std.specs.List.{flat_map, list_all, list_any}
 use Rattle.gitbase_core.specs.Index.{first_entry_at_path, entry_range_with_path_prefix}
 use Rattle.gitbase_core.specs.Path.{ends_in_slash, is_slash}
 use Rattle.gitbase_core.specs.declared.entry.IndexEntry.{IndexEntry}
+use Rattle.gitbase_core.specs.Entry.{is_unmerged_entry}
 use Rattle.glob_rules.specs.PathSpec.{PathSpec}
 use Rattle.dir_classify.specs.declared.entry.Entry.{Entry}
 use Rattle.worktree_report.specs.SetupMeant.{insert_paths_in_order}
 use Rattle.worktree_report.specs.declared.report.ReportEntry.{ReportEntry}
 use Rattle.ls_files.specs.declared.options.Listing.{Listing}
 use Rattle.ls_files.specs.declared.options.NamedSpec.{NamedSpec}
-use Rattle.ls_files.specs.Choices.{is_entry_of_conflict}
 use Rattle.ls_files.specs.Lines.{line_of_killed_path}
 use Rattle.ls_files.specs.Others.{directories_above_path, directory_place_of_path, has_index_entry_beneath, has_index_entry_at, name, place_of_report_entry, place_listed_for_entry, lists_empty_directories, prepend_name_if_some}
 use Rattle.ls_files.specs.Places.{PathWithDirectoryFlag}
@@ -20,7 +20,7 @@ use Rattle.ls_files.specs.Places.{PathWithDirectoryFlag}
 
 abbrev pub is_some_merged_entry : Option IndexEntry → Bool
 is_some_merged_entry None = false
-is_some_merged_entry (Some e) = not (is_entry_of_conflict e)
+is_some_merged_entry (Some e) = not (is_unmerged_entry e)
 
 -- a file of the index stands at a path; of one that is not merged it is not known which
 abbrev pub has_merged_entry_at : List IndexEntry → List ℕ → Bool
@@ -46,7 +46,7 @@ entries_with_prefix entries name = entries_in_range entries (entry_range_with_pa
 
 -- a merged entry whose path is longer than the name that it begins with
 abbrev pub is_merged_and_longer : List ℕ → IndexEntry → Bool
-is_merged_and_longer name e = not (is_entry_of_conflict e) && not (bytes_eq e.path name)
+is_merged_and_longer name e = not (is_unmerged_entry e) && not (bytes_eq e.path name)
 
 -- the next of them
 abbrev pub find_longer_merged_entry : List IndexEntry → List ℕ → Option IndexEntry

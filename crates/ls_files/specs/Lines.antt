@@ -1,7 +1,7 @@
 -- The line of a path: git-ls-files(1), "OUTPUT".
 use Rattle.std.specs.Prelude.{ℕ, ◌+◌, ◌/◌, ◌%◌, List, [], ◌∷◌, ◌++◌, Bool, ◌&&◌, ◌||◌, decimal, if◌then◌else◌}
 use Rattle.hex.specs.Hex.{encode_lower}
-use Rattle.gitbase_core.specs.Entry.{mode_bits, assume_valid_flag, skip_worktree_flag}
+use Rattle.gitbase_core.specs.Entry.{mode_bits, assume_valid_flag, skip_worktree_flag, is_unmerged_entry}
 use Rattle.gitbase_core.specs.Kinds.{entry_has_flag}
 use Rattle.gitbase_core.specs.declared.entry.IndexEntry.{IndexEntry}
 use Rattle.git_paths.specs.QuotedNames.{path_quoted_if_needed}
@@ -10,7 +10,7 @@ use Rattle.ls_files.specs.declared.options.Listing.{Listing}
 use Rattle.ls_files.specs.declared.shown.Sign.{Sign}
 use Rattle.ls_files.specs.declared.shown.Sign.TheVariants as signs
 use Rattle.ls_files.specs.Places.{EntryAsKeptGoneOrModified}
-use Rattle.ls_files.specs.Choices.{is_entry_of_conflict, lists_stages}
+use Rattle.ls_files.specs.Choices.{lists_stages}
 
 -- ---- names
 
@@ -37,7 +37,7 @@ lists_tags l = l.tags || l.valid
 
 -- `M` for an entry that is not merged, `S` for one that is skipped, `H` for any other
 abbrev pub tag_letter_of_entry : IndexEntry → ℕ
-tag_letter_of_entry e = if is_entry_of_conflict e then 77 else if entry_has_flag skip_worktree_flag e then 83 else 72
+tag_letter_of_entry e = if is_unmerged_entry e then 77 else if entry_has_flag skip_worktree_flag e then 83 else 72
 
 -- "-v: .. use lowercase letters for files that are marked as assume unchanged"
 abbrev pub is_tag_lowercase : Listing → IndexEntry → Bool

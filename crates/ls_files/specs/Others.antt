@@ -64,18 +64,18 @@ abbrev pub ends_in_double_star_slash : NamedSpec → Bool
 ends_in_double_star_slash named = ends_with nat_eq named.text (codes "**/")
 
 -- a spec takes out a path, that of a directory or not
-abbrev pub excludes : NamedSpec → List ℕ → Bool → Bool
-excludes named path is_dir = is_excluded_match (match_of_path_by_specs named.spec path (Some is_dir))
+abbrev pub spec_excludes_path : NamedSpec → List ℕ → Bool → Bool
+spec_excludes_path named path is_dir = is_excluded_match (match_of_path_by_specs named.spec path (Some is_dir))
 
 -- It takes out a directory as one that is asked for: it would take out no file at the same path, or was written with `.` or `..` at its end,
 -- where git reads a slash.
 abbrev pub spec_excludes_path_as_directory : NamedSpec → List ℕ → Bool
-spec_excludes_path_as_directory named d = excludes named d true && (ends_in_dot_component named || not (excludes named d false))
+spec_excludes_path_as_directory named d = spec_excludes_path named d true && (ends_in_dot_component named || not (spec_excludes_path named d false))
 
 -- A spec takes out a directory itself: git asks it for the name, which has a slash at the end. So `:!b*/` and `:!b?` take out `b`, and match
 -- no file in it.
 abbrev pub excludes_directory_itself : List ℕ → List ℕ → NamedSpec → Bool
-excludes_directory_itself name d named = excludes named name (ends_in_double_star_slash named) || spec_excludes_path_as_directory named d
+excludes_directory_itself name d named = spec_excludes_path named name (ends_in_double_star_slash named) || spec_excludes_path_as_directory named d
 
 -- git does not look into a directory of which the index has nothing, where one of the path specs takes that out
 abbrev pub do_specs_skip_unindexed_directory : List IndexEntry → List NamedSpec → List ℕ → Bool
@@ -173,8 +173,8 @@ abbrev pub fills_directories_above : Listing → List IndexEntry → List PathSp
 fills_directories_above l entries specs all e = l.directories && (l.empty_directories || is_report_entry_listed l entries specs all e)
 
 -- the highest directory above an entry that is shown in its place
-abbrev pub top : List IndexEntry → List PathSpec → Bool → List ℕ → Option (List ℕ)
-top entries specs ignored path = find (may_directory_stand_for_contents entries specs ignored) (directories_above_path path)
+abbrev pub highest_directory_standing_for_contents : List IndexEntry → List PathSpec → Bool → List ℕ → Option (List ℕ)
+highest_directory_standing_for_contents entries specs ignored path = find (may_directory_stand_for_contents entries specs ignored) (directories_above_path path)
 
 -- unless git does not come to it
 abbrev pub directory_place_unless_skipped : List IndexEntry → List NamedSpec → List ℕ → Option PathWithDirectoryFlag
@@ -182,7 +182,7 @@ directory_place_unless_skipped entries all d = if lies_in_spec_skipped_directory
 
 abbrev pub directory_standing_for_entry : Listing → List IndexEntry → List PathSpec → List NamedSpec → Entry → Option PathWithDirectoryFlag
 directory_standing_for_entry l entries specs all e =
-    if fills_directories_above l entries specs all e then option_and_then (directory_place_unless_skipped entries all) (top entries specs (may_parent_be_ignored l e.status) e.rela_path) else None
+    if fills_directories_above l entries specs all e then option_and_then (directory_place_unless_skipped entries all) (highest_directory_standing_for_contents entries specs (may_parent_be_ignored l e.status) e.rela_path) else None
 
 -- ---- what is shown
 

@@ -1,8 +1,8 @@
 -- Which listings there are not: in git, or not here.
-use Rattle.std.specs.Prelude.{ℕ, List, Bool, not, ◌&&◌, ◌||◌, ◌==◌, codes, Option, Some, None, if◌then◌else◌}
+use Rattle.std.specs.Prelude.{ℕ, List, Bool, not, ◌&&◌, ◌||◌, codes, Option, Some, None, if◌then◌else◌}
 use Rattle.std.specs.List.{list_any}
 use Rattle.std.specs.Option.{option_or}
-use Rattle.gitbase_core.specs.Entry.{mode_bits, sparse_directory_mode}
+use Rattle.gitbase_core.specs.Entry.{is_sparse_directory_entry}
 use Rattle.gitbase_core.specs.declared.entry.IndexEntry.{IndexEntry}
 use Rattle.diff_files.specs.declared.error.Unsupported.{Unsupported}
 use Rattle.diff_files.specs.declared.error.Unsupported.TheVariants as forms
@@ -39,13 +39,9 @@ lists_unignored_directories l = l.others && (l.directories && not l.ignored)
 abbrev pub refusal_if_patterns_stand_alone : Listing → Option WrongListing
 refusal_if_patterns_stand_alone l = if has_only_given_patterns l && (l.killed || lists_unignored_directories l) then Some wrong.PatternsAlone else None
 
--- a sparse index has an entry in the place of a directory
-abbrev pub is_sparse_index_directory : IndexEntry → Bool
-is_sparse_index_directory e = mode_bits e.mode == sparse_directory_mode
-
 -- git reads what it stands for from objects
 abbrev pub refusal_if_index_is_sparse : Listing → List IndexEntry → Option WrongListing
-refusal_if_index_is_sparse l entries = if (lists_index_entries l || l.killed) && list_any is_sparse_index_directory entries then Some wrong.SparseIndex else None
+refusal_if_index_is_sparse l entries = if (lists_index_entries l || l.killed) && list_any is_sparse_directory_entry entries then Some wrong.SparseIndex else None
 
 -- why there is no such listing of an index
 abbrev pub first_refusal_of_options_and_index : Listing → List IndexEntry → Option WrongListing

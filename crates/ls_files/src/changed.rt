@@ -1,6 +1,7 @@
 //! What `-d` and `-m` show of an index, and what is shown of it beside.
 ghost use Rattle.std.specs.Prelude.{◌≡◌, ◌++◌, [], None, Ok, map, IsErrOf, IfOk, IfErr, OnOk, option_copied};
 ghost use Rattle.std.specs.List.{list_any};
+ghost use Rattle.gitbase_core.specs.Entry.{is_sparse_directory_entry};
 ghost use Rattle.git_index.specs.IndexFile as files;
 ghost use Rattle.worktree_fs.specs.Kept.{KeepsTreeAndListCounts};
 ghost use Rattle.diff_files.specs.KeptStats.{KeepsToldStats, CountsFaultInEither, KeepsFaultCounts, TreeAndStats, Tells};
@@ -16,7 +17,7 @@ use crate::line::append_shown_entry_line;
 use crate::listed::{Listed, place_of_index_entry};
 use crate::options::{Listing, NamedSpec};
 use crate::place::Place;
-use crate::shown::{Shown, Sign};
+use crate::shown::{ShownEntry, Sign};
 use crate::standings::{
     ChangeQuery, Standings, change_of_entry, is_listed_as_deleted, is_listed_as_indexed,
     is_listed_as_modified,
@@ -31,7 +32,7 @@ use worktree_fs::Worktree;
 
 /// Adds an entry, if it is shown so.
 fn push_shown_entry_if<'a>(
-    list: &mut Vec<Shown<'a>>,
+    list: &mut Vec<ShownEntry<'a>>,
     is: bool,
     entry: &'a IndexEntry,
     sign: Sign,
@@ -40,14 +41,14 @@ fn push_shown_entry_if<'a>(
         ≡ list.old.items ++ words.shown_entry_if is entry.now sign) }
 {
     if is {
-        list.push(Shown::new(entry, sign))?;
+        list.push(ShownEntry::new(entry, sign))?;
     }
     Ok(())
 }
 
 /// Adds an entry as often as it is shown.
 fn push_kept_gone_and_modified<'a>(
-    list: &mut Vec<Shown<'a>>,
+    list: &mut Vec<ShownEntry<'a>>,
     asked: Standings,
     listing: &Listing,
     entry: &'a IndexEntry,
@@ -73,7 +74,7 @@ fn push_kept_gone_and_modified<'a>(
 
 /// Adds an entry as it is shown first.
 fn push_first_of_kept_gone_modified<'a>(
-    list: &mut Vec<Shown<'a>>,
+    list: &mut Vec<ShownEntry<'a>>,
     asked: Standings,
     listing: &Listing,
     entry: &'a IndexEntry,
@@ -99,7 +100,7 @@ fn push_first_of_kept_gone_modified<'a>(
 /// Adds what is shown of an entry.
 #[tactic(auto, unfolding(crate::specs::Changed::entry_signs_by_deduplication))]
 fn push_entry_signs_by_deduplication<'a>(
-    list: &mut Vec<Shown<'a>>,
+    list: &mut Vec<ShownEntry<'a>>,
     asked: Standings,
     listing: &Listing,
     entry: &'a IndexEntry,
@@ -116,7 +117,7 @@ fn push_entry_signs_by_deduplication<'a>(
 
 /// Adds what is shown of an entry, unless a form is not answered.
 fn push_signs_unless_unsupported<'a>(
-    list: &mut Vec<Shown<'a>>,
+    list: &mut Vec<ShownEntry<'a>>,
     asked: Standings,
     listing: &Listing,
     entry: &'a IndexEntry,
@@ -175,7 +176,7 @@ fn read_entries_as_kept_gone_or_modified<'a, W: Worktree, S: Stats>(
     query: &ChangeQuery<'_>,
     entries: &'a [IndexEntry],
     details: &[Detail],
-) -> Result<Vec<Shown<'a>>, ChangedError>
+) -> Result<Vec<ShownEntry<'a>>, ChangedError>
     ensures gives { (o : TreeAndStats) → Tells (W.told worktree.old) (S.told stats.old) o
         → IfOk result (λ shown. words.entries_as_kept_gone_or_modified o query.now entries.now details.now
         ≡ Ok shown.items) }
@@ -225,7 +226,7 @@ fn append_shown_line_if_specs_match(
     listing: &Listing,
     prefix: &[u8],
     specs: &Search,
-    shown: &Shown<'_>,
+    shown: &ShownEntry<'_>,
 ) -> Result<(), OutOfMemory>
     ensures { OnOk result (text.new.items ≡ text.old.items
         ++ words.shown_line_if_specs_match listing.now prefix.now specs.now shown.now) }
@@ -243,7 +244,7 @@ fn append_shown_lines(
     listing: &Listing,
     prefix: &[u8],
     specs: &Search,
-    shown: &[Shown<'_>],
+    shown: &[ShownEntry<'_>],
 ) -> Result<(), OutOfMemory>
     ensures { OnOk result (text.new.items ≡ text.old.items
         ++ words.text_of_shown_entries listing.now prefix.now specs.now shown.now) }
@@ -260,7 +261,7 @@ fn text_of_shown_entries(
     listing: &Listing,
     prefix: &[u8],
     specs: &Search,
-    shown: &[Shown<'_>],
+    shown: &[ShownEntry<'_>],
 ) -> Result<Bytes, OutOfMemory>
     ensures { IfOk result
         (λ text. text ≡ words.text_of_shown_entries listing.now prefix.now specs.now shown.now) }
@@ -271,7 +272,7 @@ fn text_of_shown_entries(
 }
 
 /// The path of an entry, and whether it is that of a directory.
-fn path_with_directory_flag_of_shown_entry<'a>(shown: &Shown<'a>) -> Place<'a>
+fn path_with_directory_flag_of_shown_entry<'a>(shown: &ShownEntry<'a>) -> Place<'a>
     ensures { result ≡ words.path_with_directory_flag_of_shown_entry shown.now }
 {
     place_of_index_entry(shown.entry())
@@ -280,7 +281,7 @@ fn path_with_directory_flag_of_shown_entry<'a>(shown: &Shown<'a>) -> Place<'a>
 /// The places of entries.
 fn places_of_shown_entries<'a>(
     alloc: Global,
-    shown: &[Shown<'a>],
+    shown: &[ShownEntry<'a>],
 ) -> Result<Vec<Place<'a>>, OutOfMemory>
     ensures { IfOk result (λ places. places.items ≡ map words.path_with_directory_flag_of_shown_entry shown.now) }
 {
@@ -296,7 +297,7 @@ fn unmatched_specs_text_for_shown(
     alloc: Global,
     listing: &Listing,
     named: &[NamedSpec],
-    shown: &[Shown<'_>],
+    shown: &[ShownEntry<'_>],
 ) -> Result<Bytes, OutOfMemory>
     ensures { IfOk result (λ text. text ≡ words.unmatched_specs_text_for_shown listing.now named.now
         shown.now) }
@@ -316,7 +317,7 @@ fn output_and_errors_of_shown(
     prefix: &[u8],
     named: &[NamedSpec],
     specs: &Search,
-    shown: &[Shown<'_>],
+    shown: &[ShownEntry<'_>],
 ) -> Result<Listed, OutOfMemory>
     ensures { IfOk result (λ made. made
         ≡ words.output_and_errors_of_shown listing.now prefix.now named.now specs.now shown.now) }
@@ -328,14 +329,14 @@ fn output_and_errors_of_shown(
 
 /// Whether an entry stands for all that is beneath a directory.
 fn is_sparse_directory_mode(entry: &IndexEntry) -> bool
-    ensures { result ≡ files.is_sparse_directory_entry entry.now }
+    ensures { result ≡ is_sparse_directory_entry entry.now }
 {
     entry.mode.is_sparse()
 }
 
 /// Whether an entry does.
 fn has_sparse_directory_mode(entries: &[IndexEntry]) -> bool
-    ensures { result ≡ list_any files.is_sparse_directory_entry entries.now }
+    ensures { result ≡ list_any is_sparse_directory_entry entries.now }
 {
     entries.iter().any(|entry| is_sparse_directory_mode(entry))
 }

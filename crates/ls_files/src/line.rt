@@ -6,7 +6,7 @@ ghost use Rattle.ls_files.specs.Lines as lines;
 
 use crate::names::append_relative_path_line;
 use crate::options::Listing;
-use crate::shown::{Shown, Sign};
+use crate::shown::{ShownEntry, Sign};
 use gitbase_core::{Flags, IndexEntry, Mode, OutOfMemory};
 use std::alloc::Global;
 
@@ -191,7 +191,7 @@ fn lowercase_tag_of_kept_gone_modified(sign: Sign, entry: &IndexEntry) -> u8
 }
 
 /// The letter of an entry, as it is shown.
-fn tag_letter_of_shown(listing: &Listing, shown: &Shown<'_>) -> u8
+fn tag_letter_of_shown(listing: &Listing, shown: &ShownEntry<'_>) -> u8
     ensures { result ≡ lines.tag_letter_of_shown listing.now shown.now }
 {
     if is_tag_lowercase(listing, shown.entry()) {
@@ -207,7 +207,7 @@ pub fn append_shown_entry_line(
     text: &mut Vec<u8>,
     listing: &Listing,
     prefix: &[u8],
-    shown: &Shown<'_>,
+    shown: &ShownEntry<'_>,
 ) -> Result<(), OutOfMemory>
     ensures { OnOk result (text.new.items
         ≡ text.old.items ++ lines.line_of_shown_entry listing.now prefix.now shown.now) }

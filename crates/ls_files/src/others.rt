@@ -249,7 +249,7 @@ fn may_path_prefix_stand_for_contents(
 }
 
 /// The highest directory above a path that is shown in the place of what it holds.
-fn top<'a>(
+fn highest_directory_standing_for_contents<'a>(
     alloc: Global,
     index: &State,
     specs: &Search,
@@ -257,7 +257,7 @@ fn top<'a>(
     path: &'a [u8],
 ) -> Result<Option<&'a [u8]>, OutOfMemory>
     ensures { IfOk result
-        (λ found. option_copied found ≡ words.top index.now specs.now ignored path.now) }
+        (λ found. option_copied found ≡ words.highest_directory_standing_for_contents index.now specs.now ignored path.now) }
 {
     let mut at = 0;
     while at < path.len() {
@@ -302,7 +302,13 @@ fn directory_standing_for_entry<'a>(
         return Ok(None);
     }
     let ignored = may_parent_be_ignored(listing, entry.status);
-    match top(alloc, index, specs, ignored, entry.rela_path.as_bytes())? {
+    match highest_directory_standing_for_contents(
+        alloc,
+        index,
+        specs,
+        ignored,
+        entry.rela_path.as_bytes(),
+    )? {
         Some(path) => directory_place_unless_skipped(alloc, index, all, path),
         None => Ok(None),
     }

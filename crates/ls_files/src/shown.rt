@@ -19,12 +19,12 @@ pub enum Sign {
 ///
 /// Contracts see the two.
 #[derive(Drop)]
-pub struct Shown<'a> {
+pub struct ShownEntry<'a> {
     entry: &'a IndexEntry,
     sign: Sign,
 }
 
-impl<'a> Model for Shown<'a> {
+impl<'a> Model for ShownEntry<'a> {
     ghost use Rattle.ls_files.specs.Places as specs;
 
     ghost Value = { specs.EntryAsKeptGoneOrModified };
@@ -32,13 +32,13 @@ impl<'a> Model for Shown<'a> {
     ghost view = { λ shown. record { entry = shown.entry.now; sign = shown.sign } };
 }
 
-impl<'a> Shown<'a> {
+impl<'a> ShownEntry<'a> {
     /// An entry, as what it is shown.
-    pub fn new(entry: &'a IndexEntry, sign: Sign) -> Shown<'a>
+    pub fn new(entry: &'a IndexEntry, sign: Sign) -> ShownEntry<'a>
         ensures entry { result.entry ≡ entry.now }
         ensures sign { result.sign ≡ sign }
     {
-        Shown { entry, sign }
+        ShownEntry { entry, sign }
     }
 
     /// The entry.

@@ -20,8 +20,8 @@ fn is_excluded_match(found: Option<Match>) -> bool
 }
 
 /// Whether a spec takes out a path, that of a directory or not.
-fn excludes(named: &NamedSpec, path: &[u8], is_dir: bool) -> bool
-    ensures { result ≡ words.excludes named.now path.now is_dir }
+fn spec_excludes_path(named: &NamedSpec, path: &[u8], is_dir: bool) -> bool
+    ensures { result ≡ words.spec_excludes_path named.now path.now is_dir }
 {
     let found = named
         .spec
@@ -54,17 +54,17 @@ fn ends_in_double_star_slash(named: &NamedSpec) -> bool
 fn spec_excludes_path_as_directory(named: &NamedSpec, directory: &[u8]) -> bool
     ensures { result ≡ words.spec_excludes_path_as_directory named.now directory.now }
 {
-    if !excludes(named, directory, true) {
+    if !spec_excludes_path(named, directory, true) {
         return false;
     }
-    ends_in_dot_component(named) || !excludes(named, directory, false)
+    ends_in_dot_component(named) || !spec_excludes_path(named, directory, false)
 }
 
 /// Whether a spec takes out a directory of this name itself.
 fn excludes_directory_itself(name: &[u8], directory: &[u8], named: &NamedSpec) -> bool
     ensures { result ≡ words.excludes_directory_itself name.now directory.now named.now }
 {
-    excludes(named, name, ends_in_double_star_slash(named))
+    spec_excludes_path(named, name, ends_in_double_star_slash(named))
         || spec_excludes_path_as_directory(named, directory)
 }
 

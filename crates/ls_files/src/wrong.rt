@@ -1,6 +1,7 @@
 //! Which listings there are not.
 ghost use Rattle.std.specs.Prelude.{◌≡◌};
 ghost use Rattle.std.specs.List.{list_any};
+ghost use Rattle.gitbase_core.specs.Entry.{is_sparse_directory_entry};
 ghost use Rattle.ls_files.specs.Wrong as words;
 
 use crate::alone::has_only_given_patterns;
@@ -134,14 +135,14 @@ fn refusal_if_patterns_stand_alone(listing: &Listing) -> Option<WrongListing>
 
 /// Whether an entry stands for all that is beneath a directory.
 fn is_sparse_directory_entry(entry: &IndexEntry) -> bool
-    ensures { result ≡ words.is_sparse_index_directory entry.now }
+    ensures { result ≡ is_sparse_directory_entry entry.now }
 {
     entry.mode.is_sparse()
 }
 
 /// Whether an entry does.
 pub fn has_sparse_directory_entry(entries: &[IndexEntry]) -> bool
-    ensures { result ≡ list_any words.is_sparse_index_directory entries.now }
+    ensures { result ≡ list_any is_sparse_directory_entry entries.now }
 {
     entries.iter().any(|entry| is_sparse_directory_entry(entry))
 }

@@ -23,7 +23,7 @@ pub struct Here<'a> {
 }
 
 /// That nothing is at the directory that is named.
-fn absent(alloc: Global, name: &[u8]) -> Result<HereRefusal, OutOfMemory>
+fn absent_directory_refusal(alloc: Global, name: &[u8]) -> Result<HereRefusal, OutOfMemory>
     ensures { IfOk result (λ e. e ≡ HereRefusal.Absent name.now) }
 {
     Ok(HereRefusal::Absent {
@@ -55,7 +55,7 @@ fn require_directory_at_real_path<W: Worktree>(
     match worktree.kind_following(alloc, real.as_bytes())? {
         Some(NodeKind::Directory) => Ok(real),
         Some(_) => Err(refusal_not_a_directory(alloc, name)?),
-        None => Err(absent(alloc, name)?),
+        None => Err(absent_directory_refusal(alloc, name)?),
     }
 }
 
@@ -83,6 +83,6 @@ pub fn resolve_named_directory<W: Worktree>(
     }
     match worktree.real_path(alloc, name, current)? {
         Some(real) => require_directory_at_real_path(alloc, worktree, name, real),
-        None => Err(absent(alloc, name)?),
+        None => Err(absent_directory_refusal(alloc, name)?),
     }
 }

@@ -22,7 +22,7 @@ use Rattle.dir_walk.specs.Puts.{count_hidden_emissions}
 use Rattle.dir_walk.specs.Reports.{IsReportFromNormalizedRoot, IsSafeReport}
 use Rattle.dir_walk.specs.Root.{rooted, find_traversal_root, walk_over_sources}
 use Rattle.dir_walk.specs.Unopened.{count_unlisted_in_answer}
-use Rattle.dir_walk.specs.WalkRefused.{default_recursion, IsUnenteredNonDirectoryRoot, HoldsIfRootIsFileError, DelegateRecursion, IsWholeWalkErrorByInput, IsWholeWalkErrorByTree, IsWholeWalkErrorBySources}
+use Rattle.dir_walk.specs.WalkRefused.{default_without_refusals, IsUnenteredNonDirectoryRoot, HoldsIfRootIsFileError, DelegateDefaultAndRefusalCounts, IsWholeWalkErrorByInput, IsWholeWalkErrorByTree, IsWholeWalkErrorBySources}
 use Rattle.dir_walk.specs.Walkable.{HasReportOrIsWalkable}
 use Rattle.dir_walk.specs.Walks.{most_opened_in_walk, Tells, WalksWorktreeWithCauses}
 use Rattle.worktree_report.specs.declared.setup.Setup.{Setup}
@@ -41,7 +41,7 @@ asked_is composes root setup options has_lookup git_dir current_dir options_are 
     ∙ ap (λ (x : List ℕ). walk_setting_of_parts setup.specs root (walk_options_of_setup composes setup) setup.index setup.options.ignore_case (git_dir_or_default root setup.git_dir) x) current_dir_is
 
 -- and so a walk of what it is given is one of what the setup asks for
-pub walks-asked : {W F I T : Type 0} {w : WorktreeOf W} {f : FindOf F} {i : InterruptOf I} {w0 w1 : W} {o0 o1 : F} {i0 i1 : I} {old new : Option StackModel} {strategy : Strategy} {explicit : Option (List ℕ)} {limit : ℕ} {recursion : DelegateRecursion} {outcome_of : T → Outcome} {path_of : T → List ℕ} {result : Result T Error} {x y : WalkSetting}
+pub walks-asked : {W F I T : Type 0} {w : WorktreeOf W} {f : FindOf F} {i : InterruptOf I} {w0 w1 : W} {o0 o1 : F} {i0 i1 : I} {old new : Option StackModel} {strategy : Strategy} {explicit : Option (List ℕ)} {limit : ℕ} {recursion : DelegateDefaultAndRefusalCounts} {outcome_of : T → Outcome} {path_of : T → List ℕ} {result : Result T Error} {x y : WalkSetting}
     → x ≡ y → WalksWorktreeWithCauses w f i w0 w1 o0 o1 i0 i1 old new strategy x explicit limit recursion outcome_of path_of result → WalksWorktreeWithCauses w f i w0 w1 o0 o1 i0 i1 old new strategy y explicit limit recursion outcome_of path_of result
 walks-asked {w = w} {f = f} {i = i} {w0 = w0} {w1 = w1} {o0 = o0} {o1 = o1} {i0 = i0} {i1 = i1} {old = old} {new = new} {strategy = strategy} {explicit = explicit} {limit = limit} {recursion = recursion} {outcome_of = outcome_of} {path_of = path_of} {result = result} e h =
     subst (λ (x : WalkSetting). WalksWorktreeWithCauses w f i w0 w1 o0 o1 i0 i1 old new strategy x explicit limit recursion outcome_of path_of result) e h
@@ -58,7 +58,7 @@ pub Reports-walked : {W F I : Type 0} {w : WorktreeOf W} {f : FindOf F} {i : Int
     → IfOk result (λ r. IsStrictlyAscendingByPath r.entries) → IfOk result (λ r. r.outcome.returned_entries ≡ min (length r.entries) (2 ^ 64 - 1))
     → IfOk result (λ r. min r.outcome.returned_entries (2 ^ 32 - 1) ≤ r.outcome.seen_entries)
     → IfOk result (λ r. count_hidden_emissions (walk_options_of_setup (w.precomposes w0) setup) r.entries ≡ 0) → IfOk result (IsReportFromNormalizedRoot (walk_setting_of_setup (w.precomposes w0) root setup) setup.root)
-    → WalksWorktreeWithCauses w f i w0 w1 o0 o1 i0 i1 old new setup.options.strategy (walk_setting_of_setup (w.precomposes w0) root setup) setup.root setup.depth default_recursion (λ (r : Report). r.outcome) (λ (r : Report). r.root) result
+    → WalksWorktreeWithCauses w f i w0 w1 o0 o1 i0 i1 old new setup.options.strategy (walk_setting_of_setup (w.precomposes w0) root setup) setup.root setup.depth default_without_refusals (λ (r : Report). r.outcome) (λ (r : Report). r.root) result
     → WalksBySetup w f i w0 w1 o0 o1 i0 i1 root setup result
 Reports-walked {w = w} {f = f} {w0 = w0} {o0 = o0} {o1 = o1} {root = root} {setup = setup} {result = result} made step gives ordered counted seen filtered once walks =
     record {
@@ -76,7 +76,7 @@ Reports-walked {w = w} {f = f} {w0 = w0} {o0 = o0} {o1 = o1} {root = root} {setu
       listing = walks.listing;
       no_root = λ t told quiet.
           subst
-          (λ m. IfErr result (HoldsIfRootIsFileError ((find_traversal_root (walk_setting_of_setup (w.precomposes w0) root setup) t setup.root ≡ rooted []) × IsUnenteredNonDirectoryRoot (walk_setting_of_setup (w.precomposes w0) root setup) m (sources_of_tree_and_setup t setup) default_recursion)))
+          (λ m. IfErr result (HoldsIfRootIsFileError ((find_traversal_root (walk_setting_of_setup (w.precomposes w0) root setup) t setup.root ≡ rooted []) × IsUnenteredNonDirectoryRoot (walk_setting_of_setup (w.precomposes w0) root setup) m (sources_of_tree_and_setup t setup) default_without_refusals)))
           made (walks.no_root (sources_of_tree_and_setup t setup) told quiet);
       refused = λ s told quiet.
           subst (λ m. IfErr result (IsWholeWalkErrorBySources (walk_setting_of_setup (w.precomposes w0) root setup) m s setup.root setup.depth (CountIncreasedOrSaturated (f.faults o0) (f.faults o1)))) made

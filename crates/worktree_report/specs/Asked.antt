@@ -17,7 +17,7 @@ use Rattle.dir_walk.specs.declared.report.Report.{Report as WalkReport}
 use Rattle.dir_walk.specs.Opens.{CountsListingsByStrategy, reads_files_for_rules_only}
 use Rattle.dir_walk.specs.Report.{report}
 use Rattle.dir_walk.specs.Reports.{IsSafeReport}
-use Rattle.dir_walk.specs.WalkRefused.{default_recursion, IsUnenteredNonDirectoryRoot, HoldsIfRootIsFileError, IsWholeWalkErrorByInput, IsWholeWalkErrorByTree, IsWholeWalkErrorBySources}
+use Rattle.dir_walk.specs.WalkRefused.{default_without_refusals, IsUnenteredNonDirectoryRoot, HoldsIfRootIsFileError, IsWholeWalkErrorByInput, IsWholeWalkErrorByTree, IsWholeWalkErrorBySources}
 use Rattle.dir_walk.specs.Rooting.{IsNormalizedRoot}
 use Rattle.dir_walk.specs.Root.{rooted, find_traversal_root, walk_over_sources}
 use Rattle.dir_walk.specs.Walkable.{HasReportOrIsWalkable}
@@ -181,7 +181,7 @@ abbrev pub IsErrorOfUnenteredRoot : Bool → Names → List ℕ → Setup → Er
 IsErrorOfUnenteredRoot composes t root setup error =
     HoldsIfRootIsFileError
     ((find_traversal_root (walk_setting_of_setup composes root setup) t setup.root ≡ rooted [])
-    × IsUnenteredNonDirectoryRoot (walk_setting_of_setup composes root setup) (stack_setup_if_excludes_option root setup) (sources_of_tree_and_setup t setup) default_recursion)
+    × IsUnenteredNonDirectoryRoot (walk_setting_of_setup composes root setup) (stack_setup_if_excludes_option root setup) (sources_of_tree_and_setup t setup) default_without_refusals)
     error
 
 -- and of what was handed in

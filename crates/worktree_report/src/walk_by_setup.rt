@@ -8,7 +8,7 @@ ghost use Rattle.dir_classify.specs.Layers.{IsLookupOfIndexIfGiven};
 ghost use Rattle.dir_walk.specs.Distinct.{IsStrictlyAscendingByPath};
 ghost use Rattle.dir_walk.specs.Puts.{count_hidden_emissions};
 ghost use Rattle.dir_walk.specs.Reports.{IsReportFromNormalizedRoot, IsSafeReport};
-ghost use Rattle.dir_walk.specs.WalkRefused.{default_recursion};
+ghost use Rattle.dir_walk.specs.WalkRefused.{default_without_refusals};
 ghost use Rattle.dir_walk.specs.Walks.{Tells, WalksWorktreeWithCauses};
 ghost use Rattle.worktree_report.specs.Asked.{walk_options_of_setup, git_dir_or_default, current_dir_or_root, walk_setting_of_setup};
 ghost use Rattle.worktree_report.specs.Reported.{WalksBySetup, MakesTextBySetup};
@@ -65,7 +65,7 @@ pub fn index_lookup_if_ignore_case(
     if !setup.options.ignore_case {
         return Ok(None);
     }
-    Ok(Some(AccelerateLookup::new(alloc, &setup.index)?))
+    Ok(Some(AccelerateLookup::from_state(alloc, &setup.index)?))
 }
 
 /// The git directory of the work tree at `root`.
@@ -129,7 +129,7 @@ fn walk_with_rules_and_lookup<'a, W: Worktree, F: Find, I: Interrupt>(
     ensures walks_worktree { WalksWorktreeWithCauses W.Worktree F.Find I.Interrupt worktree.old
         worktree.new objects.old objects.new interrupt.old interrupt.new excludes.old excludes.new
         setup.now.options.strategy (walk_setting_of_setup (W.precomposes worktree.old) root.now
-        setup.now) setup.now.root setup.now.depth default_recursion (λ r. r.outcome) (λ r. r.root)
+        setup.now) setup.now.root setup.now.depth default_without_refusals (λ r. r.outcome) (λ r. r.root)
         result }
 {
     let options = walk_options_of_setup(worktree.precomposes(), setup);

@@ -113,7 +113,7 @@ pub record PushesRulesOfCurrent {W F T : Type 0} (w : WorktreeOf W) (f : FindOf 
       before.stack.attributes now.stack.attributes result
 
 -- A stack stands where it stood, at the same path.
-pub record KeepsStackPosition (old new : StackModel) : Type 0 where
+pub record KeepsStackExceptRulesAndReadCounts (old new : StackModel) : Type 0 where
   pub made : setup_of_stack new ≡ setup_of_stack old
   pub at : new.at ≡ old.at
   pub current : new.current ≡ old.current

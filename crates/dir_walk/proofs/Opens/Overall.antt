@@ -25,7 +25,7 @@ use Rattle.dir_walk.specs.Puts.{AddsAtMostPerPath, AddsEmissionsWithinRoom, Adds
 use Rattle.dir_walk.proofs.Opens.FromRoot.{listed-later, listed-none}
 use Rattle.dir_walk.specs.Root.{rooted, find_traversal_root}
 use Rattle.dir_walk.specs.Unopened.{count_too_deep_in_answer, count_too_deep_error, count_too_deep_in_walk, count_unlisted_in_answer}
-use Rattle.dir_walk.specs.WalkRefused.{DelegateRecursion}
+use Rattle.dir_walk.specs.WalkRefused.{DelegateDefaultAndRefusalCounts}
 use Rattle.dir_walk.specs.Walks.{OpensAtMostWalkedFromRoot, OpensAtMostEnteredInWalk, AddsPathsFromNamedRootOnce, IsNormalizedRootNamedByAnswer, CountsOpenedInWholeWalk}
 use Rattle.dir_walk.proofs.Walked.WalkedAt.{most-walked}
 
@@ -60,7 +60,7 @@ module _ {W I T : Type 0} {w : WorktreeOf W} {i : InterruptOf I} {w0 w1 : W} {i0
       in_numbers opened (Err e) is so_far = tt
 
 -- no more are opened than the walk enters
-pub enters-walk : {W F D T : Type 0} (w : WorktreeOf W) (f : FindOf F) (d : DelegateOf D) {w0 w1 w2 : W} {o0 : F} {old : Option StackModel} {d0 : D} (recursion : DelegateRecursion) (given : WalkSetting) (explicit : Option (List ℕ)) (limit : ℕ) (root : List ℕ) (result : Result T Error) (less : ℕ)
+pub enters-walk : {W F D T : Type 0} (w : WorktreeOf W) (f : FindOf F) (d : DelegateOf D) {w0 w1 w2 : W} {o0 : F} {old : Option StackModel} {d0 : D} (recursion : DelegateDefaultAndRefusalCounts) (given : WalkSetting) (explicit : Option (List ℕ)) (limit : ℕ) (root : List ℕ) (result : Result T Error) (less : ℕ)
     → KeepsTreeAndListCounts w w0 w1 → w.faults w1 ≤ w.faults w2 → d.is_default d0 ≡ recursion.is_default
     → ((t : Names) → w.told w0 ≡ Some t → CountNotIncreased (w.faults w0) (w.faults w1) → find_traversal_root given t explicit ≡ rooted root) → less ≤ count_unlisted_in_answer result
     → (n : ℕ) → OpensAtMostWalkedFromRoot w f d w1 w2 o0 old d0 given root limit less n → OpensAtMostEnteredInWalk w f w0 w2 o0 old recursion given explicit limit result n

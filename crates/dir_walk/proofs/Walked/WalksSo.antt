@@ -26,7 +26,7 @@ use Rattle.dir_walk.specs.declared.strategy.Strategy.TheVariants.{Held}
 use Rattle.dir_walk.specs.Kept.{HoldsIfInterrupted, HoldsIfListingFault}
 use Rattle.dir_walk.specs.Root.{Walk, rooted, find_traversal_root, walk_over_sources}
 use Rattle.dir_walk.specs.Rooting.{IsErrorOfRootResult, IsNormalizedRoot, IsErrorOfTraversalRoot}
-use Rattle.dir_walk.specs.WalkRefused.{IsUnenteredNonDirectoryRoot, HoldsIfRootIsFileError, HoldsIfNothingStarted, DelegateRecursion, IsErrorFromRootWithinLimit, IsErrorFromRootByTree, IsErrorFromRootBySources}
+use Rattle.dir_walk.specs.WalkRefused.{IsUnenteredNonDirectoryRoot, HoldsIfRootIsFileError, HoldsIfNothingStarted, DelegateDefaultAndRefusalCounts, IsErrorFromRootWithinLimit, IsErrorFromRootByTree, IsErrorFromRootBySources}
 use Rattle.dir_walk.specs.Walks.{KeepsStateAtEnd, OpensAtMostEnteredInWalk, CountsOpenedInWholeWalk, most_opened_in_walk, ReadsAtMostPerDirectory, Tells, WalksWorktreeWithCauses}
 use Rattle.dir_walk.proofs.Refused.Refusals.{rose-or}
 use Rattle.dir_walk.proofs.Walked.CallByCall.{Before-asked, Ends-after, unlisted}
@@ -74,7 +74,7 @@ no_root-outside P given explicit (errors.ReadDir at why) h = tt
 no_root-outside P given explicit (errors.DirEntry at) h = tt
 no_root-outside P given explicit errors.OutOfMemory h = tt
 
-module _ {W F I T : Type 0} (w : WorktreeOf W) (f : FindOf F) (i : InterruptOf I) {w0 w1 : W} {o0 : F} {i0 : I} {r0 : Option StackModel} (strategy : Strategy) (given : WalkSetting) (explicit : Option (List ℕ)) (limit : ℕ) (recursion : DelegateRecursion) (outcome_of : T → Outcome) (path_of : T → List ℕ)
+module _ {W F I T : Type 0} (w : WorktreeOf W) (f : FindOf F) (i : InterruptOf I) {w0 w1 : W} {o0 : F} {i0 : I} {r0 : Option StackModel} (strategy : Strategy) (given : WalkSetting) (explicit : Option (List ℕ)) (limit : ℕ) (recursion : DelegateDefaultAndRefusalCounts) (outcome_of : T → Outcome) (path_of : T → List ℕ)
     (keeps : KeepsTreeAndListCounts w w0 w1) (reads : w.reads w1 ≡ w.reads w0) where
   pub walks-outside : (e : Error) → IsErrorOfTraversalRoot given explicit e → ((t : Names) → w.told w0 ≡ Some t → IsErrorOfRootResult (find_traversal_root given t explicit) e)
       → ((before now : ℕ) → HoldsIfFaultError (CountIncreasedOrSaturated (w.faults w0) (w.faults w1)) (CountIncreasedOrSaturated before now) e) → WalksWorktreeWithCauses w f i w0 w1 o0 o0 i0 i0 r0 r0 strategy given explicit limit recursion outcome_of path_of (Err e)
@@ -129,7 +129,7 @@ no_root-start P Q made top root limit (errors.DirEntry path) about f h = tt
 no_root-start P Q made top root limit errors.OutOfMemory about f h = tt
 
 module _ {W F I D T : Type 0} (w : WorktreeOf W) (f : FindOf F) (i : InterruptOf I) (d : DelegateOf D) {w0 w1 w2 : W} {o0 o2 : F} {i0 i2 : I} {r0 r2 : Option StackModel} {d0 d2 : D}
-    (strategy : Strategy) (given : WalkSetting) (explicit : Option (List ℕ)) (limit : ℕ) (recursion : DelegateRecursion) (outcome_of : T → Outcome) (path_of : T → List ℕ) (root : List ℕ) (keeps : KeepsTreeAndListCounts w w0 w1) (normalized_is : IsNormalizedRoot given explicit root)
+    (strategy : Strategy) (given : WalkSetting) (explicit : Option (List ℕ)) (limit : ℕ) (recursion : DelegateDefaultAndRefusalCounts) (outcome_of : T → Outcome) (path_of : T → List ℕ) (root : List ℕ) (keeps : KeepsTreeAndListCounts w w0 w1) (normalized_is : IsNormalizedRoot given explicit root)
     (rooted_is : (t : Names) → w.told w0 ≡ Some t → CountNotIncreased (w.faults w0) (w.faults w1) → find_traversal_root given t explicit ≡ rooted root) where
   pub walks-refused : (e : Error) → KeepsStateAtEnd {T = Unit {0}} w f i d w1 w2 o0 o2 i0 i2 r0 r2 d0 d2 (Err (Refused e)) → IsErrorFromRootWithinLimit (setup_of_optional_stack r0) given.root root limit e
       → ((s : TreeAndObjects) → w.told w1 ≡ Some s.tree → IsErrorFromRootByTree given.root (f.holds o0) s (setup_of_optional_stack r0) e)
@@ -219,7 +219,7 @@ reads-more : {S T : Type 0} (given : WalkSetting) (explicit : Option (List ℕ))
 reads-more given explicit path_of other_path_of r t before now opened path (inl same) = inl same
 reads-more given explicit path_of other_path_of r t before now opened path (inr h) = inr (h.0, record { normalized = h.1.normalized; named = path ∙ h.1.named }, h.2)
 
-module _ {W F I S T : Type 0} (w : WorktreeOf W) (f : FindOf F) (i : InterruptOf I) {w0 w1 : W} {o0 o1 : F} {i0 i1 : I} {r0 r1 : Option StackModel} (strategy : Strategy) (given : WalkSetting) (explicit : Option (List ℕ)) (limit : ℕ) (recursion : DelegateRecursion)
+module _ {W F I S T : Type 0} (w : WorktreeOf W) (f : FindOf F) (i : InterruptOf I) {w0 w1 : W} {o0 o1 : F} {i0 i1 : I} {r0 r1 : Option StackModel} (strategy : Strategy) (given : WalkSetting) (explicit : Option (List ℕ)) (limit : ℕ) (recursion : DelegateDefaultAndRefusalCounts)
     (outcome_of : S → Outcome) (path_of : S → List ℕ) (other_of : T → Outcome) (other_path_of : T → List ℕ) where
   -- what is refused is handed on
   pub walks-other : (e : Error) → WalksWorktreeWithCauses {T = S} w f i w0 w1 o0 o1 i0 i1 r0 r1 strategy given explicit limit recursion outcome_of path_of (Err e) → WalksWorktreeWithCauses {T = T} w f i w0 w1 o0 o1 i0 i1 r0 r1 strategy given explicit limit recursion other_of other_path_of (Err e)

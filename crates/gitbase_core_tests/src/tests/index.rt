@@ -237,7 +237,7 @@ fn of_folded(alloc: Global, question: &[u8], path: &[u8], want: &[u8]) -> bool {
     let Some(state) = index_of(alloc, FOLDED) else {
         return false;
     };
-    match AccelerateLookup::new(alloc, &state) {
+    match AccelerateLookup::from_state(alloc, &state) {
         Ok(lookup) => says_folded(&state, &lookup, question, path, want),
         Err(_) => false,
     }

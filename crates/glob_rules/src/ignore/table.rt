@@ -8,7 +8,7 @@ ghost use Rattle.gitbase_core.specs.Index.{compare_path_bytes};
 ghost use Rattle.glob_rules.specs.declared.Case.TheVariants.{Sensitive};
 ghost use Rattle.glob_rules.specs.Ignore.{last_matching_entry};
 ghost use Rattle.glob_rules.specs.Tables as tables;
-ghost use Rattle.glob_rules.specs.Tables.{IsTableOfRules, AreRulesFoundByCore, LastCountedPasses, BoundsMatchesWithCore, BoundsMatchesWithDottedEnding, BoundsPassingNumbers, core_of_numbered_rule, numbered_rule_matches_path, compare_rule_numbers_by_core};
+ghost use Rattle.glob_rules.specs.Tables.{IsTableOfRules, AreRulesFoundByCore, LastCountedPasses, AllMatchesWithCoreAreBelow, AllMatchesWithDottedEndingAreBelow, AllPassingNumbersAreBelow, core_of_numbered_rule, numbered_rule_matches_path, compare_rule_numbers_by_core};
 
 use super::line::Entry;
 use crate::Case;
@@ -98,7 +98,7 @@ fn is_rule_core_at_most(entries: &[Entry], number: usize, text: &[u8]) -> bool
 
 /// How many rules there are up to the last of those in the table that have this core and match; or
 /// `found` where that is more.
-fn rule_count_up_to_match_by_core(
+fn rule_count_through_last_match_with_core(
     entries: &[Entry],
     sorted: &[usize],
     text: &[u8],
@@ -113,7 +113,7 @@ fn rule_count_up_to_match_by_core(
     ensures ends { LastCountedPasses (numbered_rule_matches_path entries.now name.now
         (option_copied relative.entry) is_dir) result }
     ensures more { found ≤ result }
-    ensures all { BoundsMatchesWithCore (numbered_rule_matches_path entries.now name.now
+    ensures all { AllMatchesWithCoreAreBelow (numbered_rule_matches_path entries.now name.now
         (option_copied relative.entry) is_dir) (core_of_numbered_rule entries.now) sorted.now
         text.now result }
 {
@@ -149,7 +149,7 @@ fn rule_count_up_to_match_by_ending(
     ensures ends { LastCountedPasses (numbered_rule_matches_path entries.now name.now
         (option_copied relative.entry) is_dir) result }
     ensures more { found ≤ result }
-    ensures all { BoundsMatchesWithDottedEnding (numbered_rule_matches_path entries.now name.now
+    ensures all { AllMatchesWithDottedEndingAreBelow (numbered_rule_matches_path entries.now name.now
         (option_copied relative.entry) is_dir) (core_of_numbered_rule entries.now) sorted.now
         name.now (length name.now) result }
 {
@@ -157,7 +157,7 @@ fn rule_count_up_to_match_by_ending(
     for at in 0..name.len() {
         if name[at] == b'.' {
             let (_, ending) = name.split_at(at);
-            last = rule_count_up_to_match_by_core(
+            last = rule_count_through_last_match_with_core(
                 entries, sorted, ending, name, relative, is_dir, last,
             );
         }
@@ -166,7 +166,7 @@ fn rule_count_up_to_match_by_ending(
 }
 
 /// The same of all rules in the table.
-fn rule_count_up_to_match_in_sorted(
+fn rule_count_through_last_match_in_sorted(
     entries: &[Entry],
     sorted: &[usize],
     name: &[u8],
@@ -177,13 +177,15 @@ fn rule_count_up_to_match_in_sorted(
     requires cores { AreRulesFoundByCore entries.now sorted.now }
     ensures ends { LastCountedPasses (numbered_rule_matches_path entries.now name.now
         (option_copied relative.entry) is_dir) result }
-    ensures all { BoundsPassingNumbers (numbered_rule_matches_path entries.now name.now
+    ensures all { AllPassingNumbersAreBelow (numbered_rule_matches_path entries.now name.now
         (option_copied relative.entry) is_dir) sorted.now result }
 {
-    let found = rule_count_up_to_match_by_core(entries, sorted, name, name, relative, is_dir, 0);
+    let found = rule_count_through_last_match_with_core(
+        entries, sorted, name, name, relative, is_dir, 0,
+    );
     let found = rule_count_up_to_match_by_ending(entries, sorted, name, relative, is_dir, found);
     match relative {
-        Some(path) => rule_count_up_to_match_by_core(
+        Some(path) => rule_count_through_last_match_with_core(
             entries, sorted, path, name, relative, is_dir, found,
         ),
         None => found,
@@ -205,7 +207,7 @@ fn rule_count_up_to_match_in_rest(
     ensures ends { LastCountedPasses (numbered_rule_matches_path entries.now name.now
         (option_copied relative.entry) is_dir) result }
     ensures more { found ≤ result }
-    ensures all { BoundsPassingNumbers (numbered_rule_matches_path entries.now name.now
+    ensures all { AllPassingNumbersAreBelow (numbered_rule_matches_path entries.now name.now
         (option_copied relative.entry) is_dir) rest.now result }
 {
     let mut at = rest.len();
@@ -313,7 +315,13 @@ impl Table {
         ensures { option_copied result ≡ last_matching_entry entries.now name.now
             (option_copied relative.entry) is_dir Sensitive }
     {
-        let found = rule_count_up_to_match_in_sorted(entries, &self.sorted, name, relative, is_dir);
+        let found = rule_count_through_last_match_in_sorted(
+            entries,
+            &self.sorted,
+            name,
+            relative,
+            is_dir,
+        );
         let found = rule_count_up_to_match_in_rest(
             entries, &self.rest, name, relative, is_dir, found,
         );

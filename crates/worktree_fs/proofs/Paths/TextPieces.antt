@@ -9,15 +9,13 @@ use Rattle.std.proofs.lemmas.List.{append-nil, length-append, drop_at, get_or_at
 use Rattle.std.proofs.Math.Seq.{take-append_seam}
 use Rattle.std.proofs.lemmas.Str.{IsUtf8-nil, IsUtf8-append, IsUtf8-take, IsUtf8-drop, IsCharBoundary-before_ascii, IsCharBoundary-after_ascii, IsUtf8-from_is_utf8, is_utf8-from_IsUtf8}
 use Rattle.gitbase_core.specs.Path.{is_slash, is_empty, pieces_between_slashes, components}
+use Rattle.gitbase_core.specs.Text.{is_nul}
 use Rattle.worktree_fs.specs.Tree.{is_utf8_without_nul, is_dot, is_dot_dot}
 use Rattle.worktree_fs.specs.Grow.{is_absolute_path_of_valid_names}
 use Rattle.worktree_fs.specs.Naming.{IsValidEntryName, is_valid_entry_name}
 use Rattle.worktree_fs.proofs.Paths.NameParts.{name_parts}
 use Rattle.worktree_fs.proofs.Paths.Parts.{all_names}
 use Rattle.worktree_fs.proofs.Paths.Texts.{is_text-slash}
-
-abbrev is_nul : ℕ → Bool
-is_nul b = b == 0
 
 abbrev HasNoNul : List ℕ → Type 0
 HasNoNul bytes = list_any is_nul bytes ≡ false

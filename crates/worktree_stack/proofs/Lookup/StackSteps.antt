@@ -13,7 +13,7 @@ use Rattle.worktree_stack.specs.Lookups.{stack_setup_reads_worktree}
 use Rattle.worktree_stack.specs.Moments.{WorktreeStoreAndStack}
 use Rattle.worktree_stack.specs.Reading.{TreeAndObjects, Tells}
 use Rattle.worktree_stack.specs.Setup.{StackSetup}
-use Rattle.worktree_stack.specs.StackSteps.{KeepsStackPosition, PopsDirectoriesOnly, KeepsStackInStepAndLevel, PushKeepsSetupAndTree, CarriesOutOrStopsCalls, SeesNamesReadByCalls}
+use Rattle.worktree_stack.specs.StackSteps.{KeepsStackExceptRulesAndReadCounts, PopsDirectoriesOnly, KeepsStackInStepAndLevel, PushKeepsSetupAndTree, CarriesOutOrStopsCalls, SeesNamesReadByCalls}
 use Rattle.worktree_stack.specs.Stacked.{CountsMatchDirectories, HoldsRulesOfTree, IsInStepWithTree, HasCountsOfPushedDirectories, StackModel, setup_of_stack, pushed_directories}
 use Rattle.worktree_stack.specs.Steps.{CarriesOutCalls, StopsLookupByError}
 use Rattle.worktree_stack.proofs.Lookup.Carrying.{carries-then, stops-after}
@@ -70,7 +70,7 @@ module _ {W F : Type 0} (w : WorktreeOf W) (f : FindOf F) where
       }
 
   -- the current path, whose rules are pushed, is the deepest directory then
-  pub holds-entered : (a b : WorktreeStoreAndStack W F) (mid : StackModel) → b.stack ≡ record mid { at = Some mid.current } → KeepsStackPosition a.stack mid → pushed_directories a.stack.at ≡ proper_ancestor_directories a.stack.current
+  pub holds-entered : (a b : WorktreeStoreAndStack W F) (mid : StackModel) → b.stack ≡ record mid { at = Some mid.current } → KeepsStackExceptRulesAndReadCounts a.stack mid → pushed_directories a.stack.at ≡ proper_ancestor_directories a.stack.current
       → ((s : TreeAndObjects) → Tells (w.told a.worktree) (f.holds a.objects) s → HoldsRulesOfTree (setup_of_stack a.stack) s (proper_ancestor_directories a.stack.current) a.stack.attributes a.stack.ignore
       → HoldsRulesOfTree (setup_of_stack a.stack) s (all_prefixes_shortest_first a.stack.current) mid.attributes mid.ignore)
       → (CountsMatchDirectories (proper_ancestor_directories a.stack.current) a.stack.attributes a.stack.ignore → CountsMatchDirectories (all_prefixes_shortest_first a.stack.current) mid.attributes mid.ignore)

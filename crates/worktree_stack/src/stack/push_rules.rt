@@ -12,7 +12,7 @@ ghost use Rattle.worktree_stack.specs.Placed.{AnswersReadings};
 ghost use Rattle.worktree_stack.specs.Reading.{TreeAndObjects, Tells, attribute_readings_of_directory, gitattributes_readings_of_directory, info_file_readings_of_setup, ignore_readings_of_directory, readings_of_directory, rulebook_of_stack_setup, ignore_rules_of_text, rules_text_if_found, attribute_list_of_text, attribute_lists_of_setup, gitattributes_lists_of_setup, info_file_lists_of_setup};
 ghost use Rattle.worktree_stack.specs.SeenNames.{AppendsReadNamesAsSeen, info_file_names_of_setup, attribute_names_of_text, attribute_names_of_setup, gitattributes_names_of_setup};
 ghost use Rattle.worktree_stack.specs.Setup.{gitattributes_file_name, setup_of_held_attributes, held_attribute_lists, seen_attribute_names, push_list, HasListsAppended};
-ghost use Rattle.worktree_stack.specs.StackSteps.{KeepsStackPosition, PushesRulesOfCurrent};
+ghost use Rattle.worktree_stack.specs.StackSteps.{KeepsStackExceptRulesAndReadCounts, PushesRulesOfCurrent};
 ghost use Rattle.worktree_stack.specs.Stacked.{HoldsRulesOfTree, HoldsIgnoreRulesOfTree, CountsMatchDirectories, HasRulesCountOfDirectories, held_attributes_of_state, checkout_of_state, held_ignore_rules_of_state, number_of_info_lists_of_setup, number_of_gitattributes_lists, number_of_lists_of_directory, setup_of_stack};
 
 use super::Stack;
@@ -342,7 +342,7 @@ impl Stack {
         objects: &mut F,
     ) -> Result<(), AtPathError>
         // The stack stands where it stood.
-        ensures place { KeepsStackPosition self.old self.new }
+        ensures place { KeepsStackExceptRulesAndReadCounts self.old self.new }
         // The directory is counted.
         ensures delegate { self.new.statistics.delegate ≡ delegate_counts_after_call
             self.old.statistics.delegate

@@ -12,7 +12,7 @@ use Rattle.dir_walk.specs.Opens.{count_refused_walk}
 use Rattle.dir_walk.specs.Root.{rooted, find_traversal_root}
 use Rattle.dir_walk.specs.Rooting.{IsNormalizedRoot}
 use Rattle.dir_walk.specs.Unopened.{count_too_deep_error, count_too_deep_in_walk, count_unlisted_error, count_unlisted_in_walk}
-use Rattle.dir_walk.specs.WalkRefused.{recursion_of_delegate}
+use Rattle.dir_walk.specs.WalkRefused.{default_and_refusal_counts_of_delegate}
 use Rattle.dir_walk.specs.Walks.{IsNormalizedRootNamedByAnswer}
 use Rattle.dir_walk.proofs.Gives.FeedsSo.{feeds-broken, feeds-done, feeds-nothing, feeds-refused}
 use Rattle.dir_walk.proofs.Opens.Overall.{enters-walk, opens-whole, refused-most}
@@ -29,7 +29,7 @@ returns-in_err-root-clause-walks g c =
     rw (p.1, p.2)
     (record {
       walks_worktree =
-          walks-outside g.W.Worktree g.F.Find g.I.Interrupt a.strategy given a.explicit.now a.depth_limit (recursion_of_delegate g.D.Delegate a.parts.now.delegate.now a.parts.now.delegate.now) (λ r. r.0) (λ r. r.1) refused.keeps refused.reads c.in_err-root.field-0.0
+          walks-outside g.W.Worktree g.F.Find g.I.Interrupt a.strategy given a.explicit.now a.depth_limit (default_and_refusal_counts_of_delegate g.D.Delegate a.parts.now.delegate.now a.parts.now.delegate.now) (λ r. r.0) (λ r. r.1) refused.keeps refused.reads c.in_err-root.field-0.0
           refused.about refused.refused refused.fault;
       feeds = feeds-nothing g.W.Worktree g.F.Find g.D.Delegate given a.explicit.now a.depth_limit c.in_err-root.field-0.0;
     })
@@ -43,7 +43,7 @@ returns-in_err-full-clause-walks g c =
     rw (p.1, p.2)
     (record {
       walks_worktree =
-          walks-outside g.W.Worktree g.F.Find g.I.Interrupt a.strategy given a.explicit.now a.depth_limit (recursion_of_delegate g.D.Delegate a.parts.now.delegate.now a.parts.now.delegate.now) (λ r. r.0) (λ r. r.1) found.keeps found.reads errors.OutOfMemory tt
+          walks-outside g.W.Worktree g.F.Find g.I.Interrupt a.strategy given a.explicit.now a.depth_limit (default_and_refusal_counts_of_delegate g.D.Delegate a.parts.now.delegate.now a.parts.now.delegate.now) (λ r. r.0) (λ r. r.1) found.keeps found.reads errors.OutOfMemory tt
           (λ t told. tt) (λ before now. tt);
       feeds = feeds-nothing g.W.Worktree g.F.Find g.D.Delegate given a.explicit.now a.depth_limit errors.OutOfMemory;
     })
@@ -55,7 +55,7 @@ returns-in-Ok-clause-walks g c =
     let f = g.F.Find in
     let i = g.I.Interrupt in
     let d = g.D.Delegate in
-    let recursion = recursion_of_delegate d a.parts.now.delegate.now c.walk_from_traversal_root.new.parts.delegate.now in
+    let recursion = default_and_refusal_counts_of_delegate d a.parts.now.delegate.now c.walk_from_traversal_root.new.parts.delegate.now in
     let given = setting_of_shared g.M.Matcher a.shared.now in
     let root = c.as_bytes-2.result.now in
     let found = c.in_ok-root.ensures in
@@ -87,7 +87,7 @@ returns-in-Err-Broken-clause-walks g c =
     let f = g.F.Find in
     let i = g.I.Interrupt in
     let d = g.D.Delegate in
-    let recursion = recursion_of_delegate d a.parts.now.delegate.now c.walk_from_traversal_root.new.parts.delegate.now in
+    let recursion = default_and_refusal_counts_of_delegate d a.parts.now.delegate.now c.walk_from_traversal_root.new.parts.delegate.now in
     let given = setting_of_shared g.M.Matcher a.shared.now in
     let root = c.as_bytes-2.result.now in
     let found = c.in_ok-root.ensures in
@@ -119,7 +119,7 @@ returns-clause-walks g c =
     let f = g.F.Find in
     let i = g.I.Interrupt in
     let d = g.D.Delegate in
-    let recursion = recursion_of_delegate d a.parts.now.delegate.now c.walk_from_traversal_root.new.parts.delegate.now in
+    let recursion = default_and_refusal_counts_of_delegate d a.parts.now.delegate.now c.walk_from_traversal_root.new.parts.delegate.now in
     let given = setting_of_shared g.M.Matcher a.shared.now in
     let root = c.as_bytes-2.result.now in
     let found = c.in_ok-root.ensures in

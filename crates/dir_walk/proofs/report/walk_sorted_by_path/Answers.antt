@@ -8,7 +8,7 @@ use Rattle.dir_classify.specs.Layers.{setting_of_context}
 use Rattle.dir_walk.specs.declared.report.Report.{Report}
 use Rattle.dir_walk.specs.Emissions.{Emission, is_entry_shown_by_options}
 use Rattle.dir_walk.specs.Puts.{count_hidden_emissions}
-use Rattle.dir_walk.specs.WalkRefused.{default_recursion}
+use Rattle.dir_walk.specs.WalkRefused.{default_without_refusals}
 use Rattle.dir_walk.specs.Walks.{GivesReportOfWalk}
 use Rattle.dir_walk.proofs.Gives.ByPath.{ascends-given, distinct-given, from-root, is-report}
 use Rattle.dir_walk.proofs.Walked.WalksSo.{walks-memory, walks-more, walks-other}
@@ -31,7 +31,7 @@ returns-in_err-outcome-clause-walks_worktree g c =
     let a = c.args in
     let p = err_from_is_err_and c.from_residual.result c.from_residual.ensures.1 in
     rw (p.1, p.2)
-    (walks-other g.W.Worktree g.F.Find g.I.Interrupt a.strategy (setting_of_context g.M.Matcher a.worktree_root.now a.options a.ctx) a.ctx.explicit_traversal_root.now a.ctx.depth_limit default_recursion (λ r. r.0) (λ r. r.1) (λ r. r.outcome) (λ r. r.root) c.in_err-outcome.field-0.0
+    (walks-other g.W.Worktree g.F.Find g.I.Interrupt a.strategy (setting_of_context g.M.Matcher a.worktree_root.now a.options a.ctx) a.ctx.explicit_traversal_root.now a.ctx.depth_limit default_without_refusals (λ r. r.0) (λ r. r.1) (λ r. r.outcome) (λ r. r.root) c.in_err-outcome.field-0.0
     c.in_err-outcome.ensures.walks_worktree)
 
 pub returns-in_err-entries-clause-walks_worktree : goal.returns-in_err-entries-clause-walks_worktree
@@ -39,14 +39,14 @@ returns-in_err-entries-clause-walks_worktree g c =
     let a = c.args in
     let p = err_from_is_err_and c.from_residual-in_err-entries.result c.from_residual-in_err-entries.ensures.1 in
     rw (p.1, p.2)
-    (walks-memory g.W.Worktree g.F.Find g.I.Interrupt a.strategy (setting_of_context g.M.Matcher a.worktree_root.now a.options a.ctx) a.ctx.explicit_traversal_root.now a.ctx.depth_limit default_recursion (λ r. r.0) (λ r. r.1) (λ r. r.outcome) (λ r. r.root)
+    (walks-memory g.W.Worktree g.F.Find g.I.Interrupt a.strategy (setting_of_context g.M.Matcher a.worktree_root.now a.options a.ctx) a.ctx.explicit_traversal_root.now a.ctx.depth_limit default_without_refusals (λ r. r.0) (λ r. r.1) (λ r. r.outcome) (λ r. r.root)
     (c.in_ok-outcome.outcome, c.in_ok-outcome.root) c.in_ok-outcome.ensures.walks_worktree)
 
 pub returns-clause-walks_worktree : goal.returns-clause-walks_worktree
 returns-clause-walks_worktree g c =
     let a = c.args in
     let made : Report = record { outcome = c.in_ok-outcome.outcome; root = c.in_ok-outcome.root; entries = c.in_ok-entries.entries } in
-    walks-more g.W.Worktree g.F.Find g.I.Interrupt a.strategy (setting_of_context g.M.Matcher a.worktree_root.now a.options a.ctx) a.ctx.explicit_traversal_root.now a.ctx.depth_limit default_recursion (λ r. r.0) (λ r. r.1) (λ r. r.outcome) (λ r. r.root)
+    walks-more g.W.Worktree g.F.Find g.I.Interrupt a.strategy (setting_of_context g.M.Matcher a.worktree_root.now a.options a.ctx) a.ctx.explicit_traversal_root.now a.ctx.depth_limit default_without_refusals (λ r. r.0) (λ r. r.1) (λ r. r.outcome) (λ r. r.root)
     (c.in_ok-outcome.outcome, c.in_ok-outcome.root) made refl refl c.in_ok-outcome.ensures.walks_worktree
 
 pub returns-clause-ordered : goal.returns-clause-ordered

@@ -11,7 +11,7 @@ use Rattle.dir_walk.specs.Given.{CountsRecursionRefusal, HoldsOfErrorIfRefused}
 use Rattle.dir_walk.specs.Refused.{IsErrorOfEnteredDirectory, IsWalkErrorFromRoot}
 use Rattle.dir_walk.specs.Root.{enters_traversal_root}
 use Rattle.dir_walk.specs.Starts.{IsNonDirectoryRootError}
-use Rattle.dir_walk.specs.WalkRefused.{IsUnenteredNonDirectoryRoot, HoldsIfRootIsFileError, HoldsIfNothingStarted, IsErrorFromRootBySources, recursion_of_delegate}
+use Rattle.dir_walk.specs.WalkRefused.{IsUnenteredNonDirectoryRoot, HoldsIfRootIsFileError, HoldsIfNothingStarted, IsErrorFromRootBySources, default_and_refusal_counts_of_delegate}
 use Rattle.dir_walk.specs.Unopened.{count_unlisted_in_walk}
 use Rattle.dir_walk.specs.Walked.{WalkResult}
 use Rattle.dir_walk.specs.Walks.{most_opened_in_walk_result}
@@ -288,7 +288,7 @@ returns-clause-no_root g c = λ s told quiet.
     let second : CountNotIncreased (w.faults c.classify_way_to_traversal_root.new.worktree) (w.faults c.enters_traversal_root.new.worktree) = omega (arith, quiet, way.keeps.faults) in
     let asked = c.in_ok-enters_traversal_root.ensures in
     let shape = c.requires.root in
-    let none : Type 0 = IsUnenteredNonDirectoryRoot given made s (recursion_of_delegate g.D.Delegate a.parts.now.delegate.now c.emit_unentered_root_entry.new.delegate) in
+    let none : Type 0 = IsUnenteredNonDirectoryRoot given made s (default_and_refusal_counts_of_delegate g.D.Delegate a.parts.now.delegate.now c.emit_unentered_root_entry.new.delegate) in
     let way_is : is_empty a.root.now ≡ true → enters_traversal_root given.options (evidence_from_setting_and_sources given made s) (end_of_way_to_root given made s []) ≡ enters_traversal_root given.options (evidence_from_setting_and_sources given made s) (reached_of_root_outcome r false) =
     λ empty.
     ap (λ (p : List ℕ). enters_traversal_root given.options (evidence_from_setting_and_sources given made s) (end_of_way_to_root given made s p)) (sym (bare a.root.now empty))

@@ -5,8 +5,8 @@ use Rattle.gitbase_core.proofs.PathSearch.{got}
 use Rattle.glob_rules.proofs.Tabled.{are_found, others-rise, last_of_both, last_is_none, last_is}
 use Rattle.glob_rules.proofs.ignore.table.Table.last_matching_entry.Goals as goal
 
-pub rule_count_up_to_match_in_sorted-found-requires-clause-cores : goal.rule_count_up_to_match_in_sorted-found-requires-clause-cores
-rule_count_up_to_match_in_sorted-found-requires-clause-cores c = λ k there.
+pub rule_count_through_last_match_in_sorted-found-requires-clause-cores : goal.rule_count_through_last_match_in_sorted-found-requires-clause-cores
+rule_count_through_last_match_in_sorted-found-requires-clause-cores c = λ k there.
     are_found c.args.entries.now c.args.self.now.sorted.items c.args.self.now.rest.items c.requires k (subst (λ (l : List ℕ). Contains l k) c.deref.ensures.value there)
 
 pub rule_count_up_to_match_in_rest-found-requires-clause-rises : goal.rule_count_up_to_match_in_rest-found-requires-clause-rises
@@ -20,7 +20,7 @@ returns-then-found-eq0 c =
     last_is_none c.args.name.now (option_copied c.args.relative) c.args.is_dir c.args.entries.now c.rule_count_up_to_match_in_rest-found.result
     (last_of_both c.args.name.now (option_copied c.args.relative) c.args.is_dir c.args.entries.now c.args.self.now.sorted.items c.args.self.now.rest.items
     c.rule_count_up_to_match_in_rest-found.result c.requires
-    (λ k there pass. omega (arith, c.rule_count_up_to_match_in_sorted-found.ensures.all k (subst (λ (l : List ℕ). Contains l k) (sym c.deref.ensures.value) there) pass, more))
+    (λ k there pass. omega (arith, c.rule_count_through_last_match_in_sorted-found.ensures.all k (subst (λ (l : List ℕ). Contains l k) (sym c.deref.ensures.value) there) pass, more))
     (λ k there pass. c.rule_count_up_to_match_in_rest-found.ensures.all k (subst (λ (l : List ℕ). Contains l k) (sym c.deref-2.ensures.value) there) pass))
     (omega (arith, c.if-found-eq0.true))
 
@@ -31,6 +31,6 @@ returns c =
     ∙ last_is c.args.name.now (option_copied c.args.relative) c.args.is_dir c.args.entries.now c.rule_count_up_to_match_in_rest-found.result
     (last_of_both c.args.name.now (option_copied c.args.relative) c.args.is_dir c.args.entries.now c.args.self.now.sorted.items c.args.self.now.rest.items
     c.rule_count_up_to_match_in_rest-found.result c.requires
-    (λ k there pass. omega (arith, c.rule_count_up_to_match_in_sorted-found.ensures.all k (subst (λ (l : List ℕ). Contains l k) (sym c.deref.ensures.value) there) pass, more))
+    (λ k there pass. omega (arith, c.rule_count_through_last_match_in_sorted-found.ensures.all k (subst (λ (l : List ℕ). Contains l k) (sym c.deref.ensures.value) there) pass, more))
     (λ k there pass. c.rule_count_up_to_match_in_rest-found.ensures.all k (subst (λ (l : List ℕ). Contains l k) (sym c.deref-2.ensures.value) there) pass))
     c.rule_count_up_to_match_in_rest-found.ensures.ends (λ is. omega (arith, is, c.if-found-eq0.false))

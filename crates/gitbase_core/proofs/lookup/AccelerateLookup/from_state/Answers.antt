@@ -7,7 +7,7 @@ use Rattle.std.proofs.lemmas.Fn.{always_returns_same}
 use Rattle.gitbase_core.specs.Lookup.{compare_entry_numbers_by_folded_path}
 use Rattle.gitbase_core.specs.declared.entry.IndexEntry.{IndexEntry}
 use Rattle.gitbase_core.proofs.FoldedSearch.{number_cmp_total}
-use Rattle.gitbase_core.proofs.lookup.AccelerateLookup.new.Goals as goal
+use Rattle.gitbase_core.proofs.lookup.AccelerateLookup.from_state.Goals as goal
 
 pub returns : goal.returns
 returns c =

@@ -2,7 +2,7 @@ use Rattle.std.proofs.Common.{ℕ, length, ◌≤◌, ◌<◌, ◌≡◌, true, 
 use Rattle.std.specs.Ordering.{is_le}
 use Rattle.gitbase_core.specs.Index.{compare_path_bytes}
 use Rattle.glob_rules.specs.Tables.{core_of_numbered_rule, numbered_rule_matches_path}
-use Rattle.glob_rules.proofs.ignore.table.rule_count_up_to_match_by_core.Given as goal
+use Rattle.glob_rules.proofs.ignore.table.rule_count_through_last_match_with_core.Given as goal
 
 abbrev pub invariant-loop-at : goal.invariant-loop-at
 invariant-loop-at l = record {

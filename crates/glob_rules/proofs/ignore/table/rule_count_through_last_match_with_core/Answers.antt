@@ -5,7 +5,7 @@ use Rattle.std.proofs.lemmas.List.Sorted.{IsPartitionPoint-from_clause}
 use Rattle.gitbase_core.specs.Index.{compare_path_bytes}
 use Rattle.glob_rules.specs.Tables.{core_of_numbered_rule, numbered_rule_matches_path}
 use Rattle.glob_rules.proofs.Tabled.{parted, up_to_point, none_from_point, at_none, at_other, at_core, within}
-use Rattle.glob_rules.proofs.ignore.table.rule_count_up_to_match_by_core.Goals as goal
+use Rattle.glob_rules.proofs.ignore.table.rule_count_through_last_match_with_core.Goals as goal
 
 pub loop-at-init : goal.loop-at-init
 loop-at-init c =

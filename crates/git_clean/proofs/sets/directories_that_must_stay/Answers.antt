@@ -1,7 +1,7 @@
 use Rattle.std.proofs.Common.{◌∙◌, arith}
 use Rattle.git_clean.specs.Directories.{directories_above_if_entry_kept}
 use Rattle.git_clean.proofs.Ordered.{taken}
-use Rattle.git_clean.proofs.sets.held.Goals as goal
+use Rattle.git_clean.proofs.sets.directories_that_must_stay.Goals as goal
 
 pub loop-entry-preserved : goal.loop-entry-preserved
 loop-entry-preserved c =
