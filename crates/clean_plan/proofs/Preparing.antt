@@ -9,7 +9,7 @@ use Rattle.dir_classify.specs.declared.options.ForDeletionMode.TheVariants.{Igno
 use Rattle.worktree_report.specs.declared.setup.SetupOptions.{SetupOptions}
 use Rattle.clean_plan.specs.declared.what.Finding.{Finding}
 use Rattle.clean_plan.specs.declared.what.Finding.TheVariants.{NonBare, All}
-use Rattle.clean_plan.specs.Prepared.{for_deletion_mode_of_finding, finds_bare_repositories, bare_option_fits_finding, is_for_deletion_mode_of_finding, has_deletion_options_of_finding, is_matching_emission_mode, is_some_matching_emission_mode, emits_pruned_tracked_and_empty, is_prepared, omits_submodules_and_origins, emits_each_path_uncollapsed, options_prepared_for_plan}
+use Rattle.clean_plan.specs.Prepared.{for_deletion_mode_of_finding, finds_bare_repositories, bare_option_fits_finding, for_deletion_mode_matches_finding, has_deletion_options_of_finding, is_matching_emission_mode, is_some_matching_emission_mode, emits_pruned_tracked_and_empty, is_prepared, omits_submodules_and_origins, emits_each_path_uncollapsed, options_prepared_for_plan}
 use Rattle.clean_plan.proofs.Directories.{and_both}
 
 -- ---- what a test of an option says
@@ -31,7 +31,7 @@ is-matching-if None h = absurd (cc h)
 is-matching-if (Some Matching) h = refl
 is-matching-if (Some CollapseDirectory) h = absurd (cc h)
 
-is-deletion : (finding : Finding) (mode : Option ForDeletionMode) → is_for_deletion_mode_of_finding finding mode ≡ true → mode ≡ Some (for_deletion_mode_of_finding finding)
+is-deletion : (finding : Finding) (mode : Option ForDeletionMode) → for_deletion_mode_matches_finding finding mode ≡ true → mode ≡ Some (for_deletion_mode_of_finding finding)
 is-deletion finding None h = absurd (cc h)
 is-deletion finding (Some IgnoredDirectoriesCanHideNestedRepositories) h = absurd (cc h)
 is-deletion NonBare (Some FindNonBareRepositoriesInIgnoredDirectories) h = refl
@@ -76,7 +76,7 @@ prepared-same finding o is =
     let folds = and_both (is_some_matching_emission_mode o.emit_ignored) (is_none o.emit_collapsed) unfolded.1 in
     let opened = and_both o.emit_pruned (o.emit_tracked && o.emit_empty_directories) more.0 in
     let shown = and_both o.emit_tracked o.emit_empty_directories opened.1 in
-    let deletion = and_both (is_for_deletion_mode_of_finding finding o.for_deletion) (bare_option_fits_finding finding o.classify_untracked_bare_repositories && not o.recurse_repositories) last.0 in
+    let deletion = and_both (for_deletion_mode_matches_finding finding o.for_deletion) (bare_option_fits_finding finding o.classify_untracked_bare_repositories && not o.recurse_repositories) last.0 in
     let found = and_both (bare_option_fits_finding finding o.classify_untracked_bare_repositories) (not o.recurse_repositories) deletion.1 in
     let short = and_both (not o.submodules) (not o.origins) last.1 in
     with-same o (Some (for_deletion_mode_of_finding finding)) (finds_bare_repositories finding) false false false Matching (Some Matching) None true true true

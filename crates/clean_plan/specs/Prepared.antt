@@ -37,11 +37,11 @@ options_prepared_for_plan finding options =
     }
 
 -- repositories are found so in ignored directories
-abbrev pub is_for_deletion_mode_of_finding : Finding → Option ForDeletionMode → Bool
-is_for_deletion_mode_of_finding finding None = false
-is_for_deletion_mode_of_finding finding (Some IgnoredDirectoriesCanHideNestedRepositories) = false
-is_for_deletion_mode_of_finding finding (Some FindNonBareRepositoriesInIgnoredDirectories) = not (finds_bare_repositories finding)
-is_for_deletion_mode_of_finding finding (Some FindRepositoriesInIgnoredDirectories) = finds_bare_repositories finding
+abbrev pub for_deletion_mode_matches_finding : Finding → Option ForDeletionMode → Bool
+for_deletion_mode_matches_finding finding None = false
+for_deletion_mode_matches_finding finding (Some IgnoredDirectoriesCanHideNestedRepositories) = false
+for_deletion_mode_matches_finding finding (Some FindNonBareRepositoriesInIgnoredDirectories) = not (finds_bare_repositories finding)
+for_deletion_mode_matches_finding finding (Some FindRepositoriesInIgnoredDirectories) = finds_bare_repositories finding
 
 -- bare repositories are looked for just where they are to be found
 abbrev pub bare_option_fits_finding : Finding → Bool → Bool
@@ -69,7 +69,7 @@ emits_pruned_tracked_and_empty options = options.emit_pruned && (options.emit_tr
 -- paths are to be deleted, with repositories found as asked and not looked into
 abbrev pub has_deletion_options_of_finding : Finding → SetupOptions → Bool
 has_deletion_options_of_finding finding options =
-    is_for_deletion_mode_of_finding finding options.for_deletion
+    for_deletion_mode_matches_finding finding options.for_deletion
     && (bare_option_fits_finding finding options.classify_untracked_bare_repositories && not options.recurse_repositories)
 
 -- nothing is told of submodules and of the rules that decided

@@ -39,8 +39,8 @@ pub fn prepare(options: &mut SetupOptions, finding: Finding)
 }
 
 /// Whether repositories are found so in ignored directories.
-fn is_for_deletion_mode_of_finding(finding: Finding, mode: Option<ForDeletionMode>) -> bool
-    ensures { result ≡ prepared.is_for_deletion_mode_of_finding finding mode }
+fn for_deletion_mode_matches_finding(finding: Finding, mode: Option<ForDeletionMode>) -> bool
+    ensures { result ≡ prepared.for_deletion_mode_matches_finding finding mode }
 {
     match mode {
         None | Some(ForDeletionMode::IgnoredDirectoriesCanHideNestedRepositories) => false,
@@ -83,7 +83,7 @@ fn emits_pruned_tracked_and_empty(options: &SetupOptions) -> bool
 fn has_deletion_options_of_finding(options: &SetupOptions, finding: Finding) -> bool
     ensures { result ≡ prepared.has_deletion_options_of_finding finding options.now }
 {
-    is_for_deletion_mode_of_finding(finding, options.for_deletion)
+    for_deletion_mode_matches_finding(finding, options.for_deletion)
         && bare_option_fits_finding(finding, options.classify_untracked_bare_repositories)
         && !options.recurse_repositories
 }

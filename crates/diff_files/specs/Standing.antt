@@ -19,7 +19,7 @@ use Rattle.diff_files.specs.declared.stats.node_stat.NodeStat.{NodeStat}
 use Rattle.diff_files.specs.Fields.{differs_from_entry_mode, is_changed_by_mode_or_stat, is_racy}
 use Rattle.diff_files.specs.KeptStats.{TreeAndStats}
 use Rattle.diff_files.specs.Modes.{is_directory_mode}
-use Rattle.diff_files.specs.States.{addition_of_node, change_to_differing_node, is_effectively_skipped_at_path, has_submodule_file_type, judge_racy_node, resolve_judged_change}
+use Rattle.diff_files.specs.States.{addition_of_node, change_to_differing_node, is_skipped_unless_present_in_sparse, has_submodule_file_type, judge_racy_node, resolve_judged_change}
 use Rattle.diff_files.specs.Stats.{StatsByPath}
 use Rattle.diff_files.specs.There.{has_node_named_dot_git}
 
@@ -81,4 +81,4 @@ change_for_ls_files_deleted told root e = deleted_unless_present (told.stat_at (
 
 -- the entry is passed over, by what stands at its path below a root
 abbrev pub is_effectively_skipped_below_root : StatsByPath → List ℕ → Comparison → IndexEntry → Bool
-is_effectively_skipped_below_root told root o e = is_effectively_skipped_at_path told o (path_joined_with_slash root e.path) e
+is_effectively_skipped_below_root told root o e = is_skipped_unless_present_in_sparse told o (path_joined_with_slash root e.path) e

@@ -95,12 +95,12 @@ judge_entry_by_stat told o full e d (Some at) = if is_directory_mode at.mode the
 -- ---- of an entry
 
 -- a skipped entry is not looked at; in a sparse checkout git takes the mark from one whose path is there
-abbrev pub is_effectively_skipped_at_path : StatsByPath → Comparison → List ℕ → IndexEntry → Bool
-is_effectively_skipped_at_path told o full e = entry_has_flag skip_worktree_flag e && not (o.sparse_checkout && is_some (told.stat_at full))
+abbrev pub is_skipped_unless_present_in_sparse : StatsByPath → Comparison → List ℕ → IndexEntry → Bool
+is_skipped_unless_present_in_sparse told o full e = entry_has_flag skip_worktree_flag e && not (o.sparse_checkout && is_some (told.stat_at full))
 
 -- nor is one that is to be taken as unchanged
 abbrev pub is_assumed_valid_or_skipped : StatsByPath → Comparison → List ℕ → IndexEntry → Bool
-is_assumed_valid_or_skipped told o full e = entry_has_flag assume_valid_flag e || is_effectively_skipped_at_path told o full e
+is_assumed_valid_or_skipped told o full e = entry_has_flag assume_valid_flag e || is_skipped_unless_present_in_sparse told o full e
 
 -- changes of submodules are told
 abbrev pub are_submodules_reported : Submodules → Bool

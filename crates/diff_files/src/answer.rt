@@ -10,7 +10,7 @@ ghost use Rattle.diff_files.specs.Rows.{rows_of_remaining_entries};
 use crate::comparison::Comparison;
 use crate::error::{DiffError, Unsupported, unanswered_form_of_entry};
 use crate::line::append_row_lines;
-use crate::parts::change_parts_of_entry;
+use crate::parts::{DetailedEntry, change_parts_of_entry};
 use crate::row::{Row, push_rows_of_parts};
 use crate::stats::Stats;
 use crate::taken::{
@@ -65,8 +65,16 @@ fn rows_of_entries<'a, W: Worktree, S: Stats>(
         left = rest;
         if is_included_or_has_last_path(specs, last, entry) {
             let first = !has_last_unmerged_path(last, entry);
+            let entry_of_path = DetailedEntry { entry, detail };
             let parts = change_parts_of_entry(
-                alloc, worktree, stats, root, comparison, &mut known, first, entry, detail,
+                alloc,
+                worktree,
+                stats,
+                root,
+                comparison,
+                &mut known,
+                first,
+                &entry_of_path,
             )?;
             push_rows_of_parts(alloc, &mut rows, entry, parts)?;
             last = path_if_unmerged(entry);

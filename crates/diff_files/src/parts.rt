@@ -24,6 +24,13 @@ pub struct Parts {
     pub change: PathChange,
 }
 
+/// An entry of an index, with what the index says of the node at its path.
+#[derive(Clone, Copy)]
+pub struct DetailedEntry<'a> {
+    pub entry: &'a IndexEntry,
+    pub detail: &'a Detail,
+}
+
 /// Both, or the first form that is not answered.
 fn parts_unless_unsupported(
     unmerged: Result<PathChange, Unsupported>,
@@ -48,13 +55,13 @@ pub fn change_parts_of_entry<W: Worktree, S: Stats>(
     comparison: &Comparison,
     known: &mut Bytes,
     first: bool,
-    entry: &IndexEntry,
-    detail: &Detail,
+    detailed: &DetailedEntry<'_>,
 ) -> Result<Result<Parts, Unsupported>, ReadError>
     requires known { LeadsKnownPathThroughDirectories (S.told stats.old) root.now known.old }
     ensures parts { (o : TreeAndStats) → Tells (W.told worktree.old) (S.told stats.old) o
         → IfOk result (λ parts. parts
-        ≡ rows.change_parts_of_entry o root.now comparison.now first entry.now detail.now) }
+        ≡ rows.change_parts_of_entry o root.now comparison.now first detailed.now.entry.now
+        detailed.now.detail.now) }
     ensures known { LeadsKnownPathThroughDirectories (S.told stats.old) root.now known.new }
     ensures worktree { KeepsTreeAndListCounts W.Worktree worktree.old worktree.new }
     ensures stats { KeepsToldStats S.Stats stats.old stats.new }
@@ -63,6 +70,7 @@ pub fn change_parts_of_entry<W: Worktree, S: Stats>(
     ensures unfaulted { HoldsUnlessFault result
         (KeepsFaultCounts W.Worktree S.Stats worktree.old worktree.new stats.old stats.new) }
 {
+    let DetailedEntry { entry, detail } = *detailed;
     let told = judge_unmerged_entry(alloc, stats, root, comparison, known, first, entry)?;
     let judged = judge_merged_or_ours_entry(alloc, stats, root, comparison, known, entry, detail)?;
     let told = resolve_judged_change(alloc, worktree, root, entry, told)?;

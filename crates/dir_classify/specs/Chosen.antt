@@ -76,8 +76,8 @@ finds_bare_repositories_in_ignored (Some FindNonBareRepositoriesInIgnoredDirecto
 finds_bare_repositories_in_ignored (Some FindRepositoriesInIgnoredDirectories) = true
 
 -- deletion does not look into ignored directories, which may hide repositories
-abbrev pub ignored_may_hide_repositories : Option ForDeletionMode → Bool
-ignored_may_hide_repositories None = false
-ignored_may_hide_repositories (Some IgnoredDirectoriesCanHideNestedRepositories) = true
-ignored_may_hide_repositories (Some FindNonBareRepositoriesInIgnoredDirectories) = false
-ignored_may_hide_repositories (Some FindRepositoriesInIgnoredDirectories) = false
+abbrev pub deletion_skips_search_of_ignored_directories : Option ForDeletionMode → Bool
+deletion_skips_search_of_ignored_directories None = false
+deletion_skips_search_of_ignored_directories (Some IgnoredDirectoriesCanHideNestedRepositories) = true
+deletion_skips_search_of_ignored_directories (Some FindNonBareRepositoriesInIgnoredDirectories) = false
+deletion_skips_search_of_ignored_directories (Some FindRepositoriesInIgnoredDirectories) = false

@@ -15,7 +15,7 @@ use Rattle.dir_classify.specs.declared.entry.PathspecMatch.{PathspecMatch}
 use Rattle.dir_classify.specs.declared.entry.PathspecMatch.TheVariants.{Prefix}
 use Rattle.dir_classify.specs.declared.classify.Outcome.{Outcome}
 use Rattle.dir_classify.specs.declared.index.InIndex.{InIndex}
-use Rattle.dir_classify.specs.Chosen.{WalkOptions, finds_repositories_in_ignored, finds_bare_repositories_in_ignored, ignored_may_hide_repositories}
+use Rattle.dir_classify.specs.Chosen.{WalkOptions, finds_repositories_in_ignored, finds_bare_repositories_in_ignored, deletion_skips_search_of_ignored_directories}
 use Rattle.dir_classify.specs.declared.excludes.Ruling.{Ruling}
 use Rattle.dir_classify.specs.Evidence.{PathEvidence, ruling_without_rule, RepositoryTestResult, is_foreign_repository}
 use Rattle.std.specs.Option.{option_or}
@@ -291,7 +291,7 @@ abbrev pub kind_after_bare_repository_test : PathEvidence → Option Kind → Li
 kind_after_bare_repository_test ev kind path = kind_after_repository_test false true kind (ev.repository_at path) (ev.repository_in path)
 
 abbrev pub is_ignored_directory_hiding_repositories : WalkOptions → Outcome → Bool
-is_ignored_directory_hiding_repositories o c = is_ignored_status c.status && is_plain_directory_kind c.disk_kind && ignored_may_hide_repositories o.for_deletion
+is_ignored_directory_hiding_repositories o c = is_ignored_status c.status && is_plain_directory_kind c.disk_kind && deletion_skips_search_of_ignored_directories o.for_deletion
 
 unfoldable pub outcome_of_unentered_path : WalkOptions → PathEvidence → List ℕ → Outcome → Outcome
 outcome_of_unentered_path o ev path c = if is_ignored_directory_hiding_repositories o c then record c { disk_kind = kind_after_bare_repository_test ev c.disk_kind path } else c

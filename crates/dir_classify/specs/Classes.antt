@@ -1,22 +1,40 @@
 -- What a call does that gives the class of a path.
-use Rattle.std.specs.Prelude.{◌≡◌, ℕ, Bool, true, false, ◌&&◌, if◌then◌else◌, List, Option, Some, None, Result, IfOk, IfErr, OnOk}
+use Rattle.std.specs.Prelude.{◌≡◌, ◌≤◌, ◌+◌, ℕ, Bool, true, false, ◌&&◌, if◌then◌else◌, List, Option, Some, None, Result, IfOk, IfErr, OnOk}
 use Rattle.gitbase_core.specs.declared.find.Find.{Ghosts as FindOf}
+use Rattle.gitbase_core.specs.declared.out_of_memory.OutOfMemory.{OutOfMemory}
 use Rattle.worktree_fs.specs.declared.worktree.Worktree.{Ghosts as WorktreeOf}
 use Rattle.worktree_fs.specs.Causes.{CountNotIncreased, CountIncreasedOrSaturated}
-use Rattle.worktree_fs.specs.Kept.{KeepsStoredObjects}
+use Rattle.worktree_fs.specs.Kept.{KeepsStoredObjects, KeepsTreeAndListCounts}
 use Rattle.worktree_stack.specs.Reading.{TreeAndObjects}
+use Rattle.worktree_stack.specs.Setup.{StackSetup}
 use Rattle.worktree_stack.specs.Stacked.{StackModel}
 use Rattle.dir_classify.specs.declared.classify.Outcome.{Outcome}
 use Rattle.dir_classify.specs.declared.entry.Kind.{Kind}
 use Rattle.dir_classify.specs.declared.error.Error.{Error}
 use Rattle.dir_classify.specs.Class.{may_have_tested_for_repository}
 use Rattle.dir_classify.specs.Excludes.{setup_of_optional_stack, maps_rules_files_to_blobs, TellsTreeAndObjects, IsStackInStepIfGiven}
-use Rattle.dir_classify.specs.Faults.{IsRefusedByKindAsRead, IsOutcomeWithRulesReadOrUnasked}
+use Rattle.dir_classify.specs.Evidence.{PathEvidence}
+use Rattle.dir_classify.specs.Faults.{IsOutcomeAsRead, IsRefusedByKindAsRead, IsOutcomeWithRulesReadOrUnasked}
 use Rattle.dir_classify.specs.Kept.{AsksWorktreeForRules, KeepsRulesInStep, AsksRulesAtMostOnce, LeavesAllUnchanged, LeavesRulesUnasked}
 use Rattle.dir_classify.specs.Layers.{WalkSetting, evidence_from_setting_and_sources, kind_on_disk_if_asked}
 use Rattle.dir_classify.specs.Question.{ClassQuestion, question_about_path}
 use Rattle.dir_classify.specs.Reads.{most_reads_to_classify_path}
 use Rattle.dir_classify.specs.Refused.{IsClassErrorAboutPath, IsErrorOfUnreadableRules, HoldsIfExcludesError, HoldsIfFaultError, HoldsOfExcludesError, StopsAtRefusedDirectoryIfGiven}
+
+-- What a question about a class that looks for a repository at the path answers, and leaves of the worktree, which was `w0` and is `w1`.
+-- `judge` is the class by the evidence; where `idle` is true, no repository is looked for.
+pub record ClassifiesByRepositoryTest {W : Type 0} (w : WorktreeOf W) (w0 w1 : W) (given : WalkSetting) (judge : PathEvidence → Outcome) (idle : Bool)
+    (result : Result Outcome OutOfMemory) : Type 0 where
+  -- Over a told tree and without a fault it is exactly the class. With faults it is the class by what was read.
+  pub class : (s : TreeAndObjects) → w.told w0 ≡ Some s.tree → CountNotIncreased (w.faults w0) (w.faults w1) → (made : Option StackSetup)
+      → IfOk result (λ c. c ≡ judge (evidence_from_setting_and_sources given made s))
+  pub swallowed : (s : TreeAndObjects) → w.told w0 ≡ Some s.tree → (made : Option StackSetup) → (on_disk : Option Kind)
+      → IfOk result (IsOutcomeAsRead (w.faults w0) (w.faults w1) (λ _ ev. judge ev) (evidence_from_setting_and_sources given made s) on_disk)
+  -- The tree stays, and the worktree is read only so often, and not at all where no repository is looked for.
+  pub keeps : KeepsTreeAndListCounts w w0 w1
+  pub reads_most : w.reads w1 ≤ w.reads w0 + most_reads_to_classify_path given.options
+  pub unasked : idle ≡ true → w1 ≡ w0
+  pub sought : IfOk result (λ c. may_have_tested_for_repository given.options c ≡ false → w1 ≡ w0)
 
 -- What is asked of the ignore rules about a path, and of a worktree and a store for them, whatever is answered: a worktree was `w0`
 -- and is `w1`, a store was `o0` and is `o1`, and the rules were `old` and are `new`. To find repositories the worktree is read at most

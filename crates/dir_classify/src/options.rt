@@ -4,7 +4,7 @@ ghost use Rattle.std.specs.Prelude.{◌≡◌, is_some};
 ghost use Rattle.std.specs.List.{list_any};
 ghost use Rattle.std.specs.Str.{bytes_eq};
 ghost use Rattle.gitbase_core.specs.Path.{is_beneath_directory};
-ghost use Rattle.dir_classify.specs.Chosen.{walk_options_of, finds_repositories_in_ignored, finds_bare_repositories_in_ignored, ignored_may_hide_repositories};
+ghost use Rattle.dir_classify.specs.Chosen.{walk_options_of, finds_repositories_in_ignored, finds_bare_repositories_in_ignored, deletion_skips_search_of_ignored_directories};
 ghost use Rattle.dir_classify.specs.Class.{is_in_worktree_set, has_worktree_beneath};
 
 use gitbase_core::{PathText, is_beneath_directory};
@@ -183,8 +183,8 @@ pub(crate) fn finds_bare_repositories_in_ignored(mode: Option<ForDeletionMode>) 
 }
 
 /// Whether deletion does not look into ignored directories.
-pub fn ignored_may_hide_repositories(mode: Option<ForDeletionMode>) -> bool
-    ensures { result ≡ ignored_may_hide_repositories mode }
+pub fn deletion_skips_search_of_ignored_directories(mode: Option<ForDeletionMode>) -> bool
+    ensures { result ≡ deletion_skips_search_of_ignored_directories mode }
 {
     match mode {
         Some(ForDeletionMode::IgnoredDirectoriesCanHideNestedRepositories) => true,

@@ -8,8 +8,9 @@ ghost use Rattle.worktree_fs.specs.Tree.{Names};
 ghost use Rattle.worktree_stack.specs.Reading.{TreeAndObjects};
 ghost use Rattle.worktree_stack.specs.Setup.{StackSetup};
 ghost use Rattle.dir_classify.specs.Chosen.{walk_options_of};
-ghost use Rattle.dir_classify.specs.Class.{outcome_of_indexed_path, outcome_of_unindexed_path, pathspec_match_of_path, kind_after_repository_test, dot_git_bytes, outcome_of_ignored_path, outcome_by_ignore_kind, outcome_of_untracked_directory, outcome_of_unignored_path, outcome_of_index_entry, outcome_of_ignored_kind, disk_kind_of_ignored_path, disk_kind_of_indexed_path, deletion_finds_repositories_in_ignored, is_directory_of_indexed_submodule, tests_unindexed_for_repository, skips_repository_test, may_have_tested_for_repository};
-ghost use Rattle.dir_classify.specs.Faults.{IsOutcomeAsRead, IsKindTestedAsRead};
+ghost use Rattle.dir_classify.specs.Class.{outcome_of_indexed_path, outcome_of_unindexed_path, pathspec_match_of_path, kind_after_repository_test, dot_git_bytes, outcome_of_ignored_path, outcome_by_ignore_kind, outcome_of_untracked_directory, outcome_of_unignored_path, outcome_of_index_entry, outcome_of_ignored_kind, disk_kind_of_ignored_path, disk_kind_of_indexed_path, deletion_finds_repositories_in_ignored, is_directory_of_indexed_submodule, tests_unindexed_for_repository, skips_repository_test};
+ghost use Rattle.dir_classify.specs.Classes.{ClassifiesByRepositoryTest};
+ghost use Rattle.dir_classify.specs.Faults.{IsKindTestedAsRead};
 ghost use Rattle.dir_classify.specs.Kinds.{is_some_directory_kind};
 ghost use Rattle.dir_classify.specs.Reads.{most_reads_to_classify_path, most_reads_of_repository_test};
 ghost use Rattle.dir_classify.specs.Layers.{setting_of_shared, evidence_from_setting_and_sources, index_kinds_by_setting, repository_test_of_path};
@@ -169,24 +170,10 @@ pub(crate) fn classify_indexed_path<W: Worktree, M: Matcher>(
         rela_path.now }
     requires entry { entry ≡ index_kinds_by_setting (setting_of_shared M.Matcher shared.now)
         rela_path.now }
-    ensures class { (s : TreeAndObjects) → W.told worktree.old ≡ Some s.tree → CountNotIncreased
-        (W.faults worktree.old) (W.faults worktree.new) → (made : Option StackSetup)
-        → IfOk result (λ c. c ≡ outcome_of_indexed_path (walk_options_of shared.now.options)
-        (evidence_from_setting_and_sources (setting_of_shared M.Matcher shared.now) made s)
-        rela_path.now kind) }
-    ensures swallowed { (s : TreeAndObjects) → W.told worktree.old ≡ Some s.tree
-        → (made : Option StackSetup) → (on_disk : Option Kind)
-        → IfOk result (IsOutcomeAsRead (W.faults worktree.old) (W.faults worktree.new)
-        (λ _ ev. outcome_of_indexed_path (walk_options_of shared.now.options) ev rela_path.now kind)
-        (evidence_from_setting_and_sources (setting_of_shared M.Matcher shared.now) made s)
-        on_disk) }
-    ensures keeps { KeepsTreeAndListCounts W.Worktree worktree.old worktree.new }
-    ensures reads_most { W.reads worktree.new
-        ≤ W.reads worktree.old + most_reads_to_classify_path (walk_options_of shared.now.options) }
-    ensures unasked { skips_repository_test (walk_options_of shared.now.options)
-        (is_directory_of_indexed_submodule entry kind) ≡ true → worktree.new ≡ worktree.old }
-    ensures sought { IfOk result (λ c. may_have_tested_for_repository
-        (walk_options_of shared.now.options) c ≡ false → worktree.new ≡ worktree.old) }
+    ensures classifies { ClassifiesByRepositoryTest W.Worktree worktree.old worktree.new
+        (setting_of_shared M.Matcher shared.now) (λ ev. outcome_of_indexed_path (walk_options_of
+        shared.now.options) ev rela_path.now kind) (skips_repository_test (walk_options_of
+        shared.now.options) (is_directory_of_indexed_submodule entry kind)) result }
     ensures certain { skips_repository_test (walk_options_of shared.now.options)
         (is_directory_of_indexed_submodule entry kind) ≡ true → (made : Option StackSetup)
         (s : TreeAndObjects) → IfOk result (λ c. c ≡ outcome_of_indexed_path
@@ -213,25 +200,11 @@ pub(crate) fn classify_ignored_path<W: Worktree, M: Matcher>(
         rela_path.now }
     requires entry { entry ≡ index_kinds_by_setting (setting_of_shared M.Matcher shared.now)
         rela_path.now }
-    ensures class { (s : TreeAndObjects) → W.told worktree.old ≡ Some s.tree → CountNotIncreased
-        (W.faults worktree.old) (W.faults worktree.new) → (made : Option StackSetup)
-        → IfOk result (λ c. c ≡ outcome_of_ignored_path (walk_options_of shared.now.options)
-        (evidence_from_setting_and_sources (setting_of_shared M.Matcher shared.now) made s)
-        rela_path.now kind excluded) }
-    ensures swallowed { (s : TreeAndObjects) → W.told worktree.old ≡ Some s.tree
-        → (made : Option StackSetup) → (on_disk : Option Kind)
-        → IfOk result (IsOutcomeAsRead (W.faults worktree.old) (W.faults worktree.new)
-        (λ _ ev. outcome_of_ignored_path (walk_options_of shared.now.options) ev rela_path.now kind
-        excluded) (evidence_from_setting_and_sources (setting_of_shared M.Matcher shared.now) made
-        s) on_disk) }
-    ensures keeps { KeepsTreeAndListCounts W.Worktree worktree.old worktree.new }
-    ensures reads_most { W.reads worktree.new
-        ≤ W.reads worktree.old + most_reads_to_classify_path (walk_options_of shared.now.options) }
-    ensures unasked { skips_repository_test (walk_options_of shared.now.options)
-        (deletion_finds_repositories_in_ignored (walk_options_of shared.now.options)) ≡ true
-        → worktree.new ≡ worktree.old }
-    ensures sought { IfOk result (λ c. may_have_tested_for_repository
-        (walk_options_of shared.now.options) c ≡ false → worktree.new ≡ worktree.old) }
+    ensures classifies { ClassifiesByRepositoryTest W.Worktree worktree.old worktree.new
+        (setting_of_shared M.Matcher shared.now) (λ ev. outcome_of_ignored_path (walk_options_of
+        shared.now.options) ev rela_path.now kind excluded) (skips_repository_test (walk_options_of
+        shared.now.options) (deletion_finds_repositories_in_ignored (walk_options_of
+        shared.now.options))) result }
 {
     let found = pathspec_match_of_path(shared, rela_path, kind);
     let disk_kind = disk_kind_of_ignored_path(alloc, full, kind, shared, worktree)?;
@@ -260,24 +233,10 @@ pub(crate) fn classify_untracked_directory<W: Worktree, M: Matcher>(
     requires entry { entry ≡ index_kinds_by_setting (setting_of_shared M.Matcher shared.now)
         rela_path.now }
     requires directory { is_some_directory_kind kind ≡ true }
-    ensures class { (s : TreeAndObjects) → W.told worktree.old ≡ Some s.tree → CountNotIncreased
-        (W.faults worktree.old) (W.faults worktree.new) → (made : Option StackSetup)
-        → IfOk result (λ c. c ≡ outcome_of_untracked_directory (walk_options_of shared.now.options)
-        (evidence_from_setting_and_sources (setting_of_shared M.Matcher shared.now) made s)
-        rela_path.now kind) }
-    ensures swallowed { (s : TreeAndObjects) → W.told worktree.old ≡ Some s.tree
-        → (made : Option StackSetup) → (on_disk : Option Kind)
-        → IfOk result (IsOutcomeAsRead (W.faults worktree.old) (W.faults worktree.new)
-        (λ _ ev. outcome_of_untracked_directory (walk_options_of shared.now.options) ev
-        rela_path.now kind) (evidence_from_setting_and_sources (setting_of_shared M.Matcher
-        shared.now) made s) on_disk) }
-    ensures keeps { KeepsTreeAndListCounts W.Worktree worktree.old worktree.new }
-    ensures reads_most { W.reads worktree.new
-        ≤ W.reads worktree.old + most_reads_to_classify_path (walk_options_of shared.now.options) }
-    ensures unasked { skips_repository_test (walk_options_of shared.now.options) true ≡ true
-        → worktree.new ≡ worktree.old }
-    ensures sought { IfOk result (λ c. may_have_tested_for_repository
-        (walk_options_of shared.now.options) c ≡ false → worktree.new ≡ worktree.old) }
+    ensures classifies { ClassifiesByRepositoryTest W.Worktree worktree.old worktree.new
+        (setting_of_shared M.Matcher shared.now) (λ ev. outcome_of_untracked_directory
+        (walk_options_of shared.now.options) ev rela_path.now kind) (skips_repository_test
+        (walk_options_of shared.now.options) true) result }
     ensures certain { skips_repository_test (walk_options_of shared.now.options) true ≡ true
         → (made : Option StackSetup) (s : TreeAndObjects)
         → IfOk result (λ c. c ≡ outcome_of_untracked_directory (walk_options_of shared.now.options)
@@ -304,24 +263,10 @@ pub(crate) fn classify_unignored_path<W: Worktree, M: Matcher>(
         rela_path.now }
     requires entry { entry ≡ index_kinds_by_setting (setting_of_shared M.Matcher shared.now)
         rela_path.now }
-    ensures class { (s : TreeAndObjects) → W.told worktree.old ≡ Some s.tree → CountNotIncreased
-        (W.faults worktree.old) (W.faults worktree.new) → (made : Option StackSetup)
-        → IfOk result (λ c. c ≡ outcome_by_ignore_kind (walk_options_of shared.now.options)
-        (evidence_from_setting_and_sources (setting_of_shared M.Matcher shared.now) made s)
-        rela_path.now kind None) }
-    ensures swallowed { (s : TreeAndObjects) → W.told worktree.old ≡ Some s.tree
-        → (made : Option StackSetup) → (on_disk : Option Kind)
-        → IfOk result (IsOutcomeAsRead (W.faults worktree.old) (W.faults worktree.new)
-        (λ _ ev. outcome_by_ignore_kind (walk_options_of shared.now.options) ev rela_path.now kind
-        None) (evidence_from_setting_and_sources (setting_of_shared M.Matcher shared.now) made s)
-        on_disk) }
-    ensures keeps { KeepsTreeAndListCounts W.Worktree worktree.old worktree.new }
-    ensures reads_most { W.reads worktree.new
-        ≤ W.reads worktree.old + most_reads_to_classify_path (walk_options_of shared.now.options) }
-    ensures unasked { skips_repository_test (walk_options_of shared.now.options)
-        (is_some_directory_kind kind) ≡ true → worktree.new ≡ worktree.old }
-    ensures sought { IfOk result (λ c. may_have_tested_for_repository
-        (walk_options_of shared.now.options) c ≡ false → worktree.new ≡ worktree.old) }
+    ensures classifies { ClassifiesByRepositoryTest W.Worktree worktree.old worktree.new
+        (setting_of_shared M.Matcher shared.now) (λ ev. outcome_by_ignore_kind (walk_options_of
+        shared.now.options) ev rela_path.now kind None) (skips_repository_test (walk_options_of
+        shared.now.options) (is_some_directory_kind kind)) result }
     ensures certain { skips_repository_test (walk_options_of shared.now.options)
         (is_some_directory_kind kind) ≡ true → (made : Option StackSetup) (s : TreeAndObjects)
         → IfOk result (λ c. c ≡ outcome_by_ignore_kind (walk_options_of shared.now.options)
@@ -358,25 +303,11 @@ pub(crate) fn classify_unindexed_path<W: Worktree, M: Matcher>(
         rela_path.now }
     requires entry { entry ≡ index_kinds_by_setting (setting_of_shared M.Matcher shared.now)
         rela_path.now }
-    ensures class { (s : TreeAndObjects) → W.told worktree.old ≡ Some s.tree → CountNotIncreased
-        (W.faults worktree.old) (W.faults worktree.new) → (made : Option StackSetup)
-        → IfOk result (λ c. c ≡ outcome_of_unindexed_path (walk_options_of shared.now.options)
-        (evidence_from_setting_and_sources (setting_of_shared M.Matcher shared.now) made s)
-        rela_path.now kind ruling) }
-    ensures swallowed { (s : TreeAndObjects) → W.told worktree.old ≡ Some s.tree
-        → (made : Option StackSetup) → (on_disk : Option Kind)
-        → IfOk result (IsOutcomeAsRead (W.faults worktree.old) (W.faults worktree.new)
-        (λ _ ev. outcome_of_unindexed_path (walk_options_of shared.now.options) ev rela_path.now
-        kind ruling) (evidence_from_setting_and_sources (setting_of_shared M.Matcher shared.now)
-        made s) on_disk) }
-    ensures keeps { KeepsTreeAndListCounts W.Worktree worktree.old worktree.new }
-    ensures reads_most { W.reads worktree.new
-        ≤ W.reads worktree.old + most_reads_to_classify_path (walk_options_of shared.now.options) }
-    ensures unasked { skips_repository_test (walk_options_of shared.now.options)
-        (tests_unindexed_for_repository (walk_options_of shared.now.options) kind ruling.kind)
-        ≡ true → worktree.new ≡ worktree.old }
-    ensures sought { IfOk result (λ c. may_have_tested_for_repository
-        (walk_options_of shared.now.options) c ≡ false → worktree.new ≡ worktree.old) }
+    ensures classifies { ClassifiesByRepositoryTest W.Worktree worktree.old worktree.new
+        (setting_of_shared M.Matcher shared.now) (λ ev. outcome_of_unindexed_path (walk_options_of
+        shared.now.options) ev rela_path.now kind ruling) (skips_repository_test (walk_options_of
+        shared.now.options) (tests_unindexed_for_repository (walk_options_of shared.now.options)
+        kind ruling.kind)) result }
     ensures certain { ruling.kind ≡ None → skips_repository_test
         (walk_options_of shared.now.options) (is_some_directory_kind kind) ≡ true
         → (made : Option StackSetup) (s : TreeAndObjects)

@@ -9,7 +9,7 @@ use Rattle.worktree_fs.specs.Paths.{longest_common_prefix}
 use Rattle.worktree_stack.specs.Reading.{TreeAndObjects}
 use Rattle.worktree_stack.specs.Setup.{StackSetup}
 use Rattle.worktree_stack.specs.Stacked.{StackModel}
-use Rattle.dir_classify.specs.Chosen.{WalkOptions, ignored_may_hide_repositories}
+use Rattle.dir_classify.specs.Chosen.{WalkOptions, deletion_skips_search_of_ignored_directories}
 use Rattle.dir_classify.specs.Excludes.{setup_of_optional_stack, directories_pushed_in_stack, has_attributes_if_given}
 use Rattle.dir_classify.specs.Layers.{WalkSetting}
 use Rattle.dir_walk.specs.declared.delegate.Delegate.{Ghosts as DelegateOf}
@@ -39,7 +39,7 @@ count_pushed_on_way (Some pushed) names = length (longest_common_prefix pushed n
 -- Files are read for their rules alone: repositories are walked into like directories, and the mode of deletion is not the one in which
 -- ignored directories can hide repositories.
 abbrev pub reads_files_for_rules_only : WalkOptions → Bool
-reads_files_for_rules_only o = o.recurse_repositories && not (ignored_may_hide_repositories o.for_deletion)
+reads_files_for_rules_only o = o.recurse_repositories && not (deletion_skips_search_of_ignored_directories o.for_deletion)
 
 -- Some directories were opened, of which `Within` says how many, and `deep` more were found too deep. Reads are bounded where files are
 -- read for their rules alone, and the rules are ignore rules alone; `names` lead to the directory that the step stands in, and `own` is

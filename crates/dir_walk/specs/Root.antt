@@ -26,9 +26,9 @@ common_directory_or_worktree_root given t None = []
 common_directory_or_worktree_root given t (Some directory) = if is_plain_directory_kind (kind_of_node_at t (root_joined_with_relative given.root directory) true) then directory else []
 
 -- the traversal root before it is normalised: the one that is handed in, if one is
-abbrev pub traversal_root_before_normalizing : WalkSetting → Names → Option (List ℕ) → List ℕ
-traversal_root_before_normalizing given t (Some root) = root
-traversal_root_before_normalizing given t None = common_directory_or_worktree_root given t given.common
+abbrev pub explicit_or_common_root_before_normalizing : WalkSetting → Names → Option (List ℕ) → List ℕ
+explicit_or_common_root_before_normalizing given t (Some root) = root
+explicit_or_common_root_before_normalizing given t None = common_directory_or_worktree_root given t given.common
 
 -- A traversal root: one that is absolute or leads out of the worktree; one of which a component is not there, with its
 -- whole path; one of which a component is a link, with the component's number, from 0; or one that is walked, with its
@@ -65,7 +65,7 @@ traversal_root_unless_outside given t asked (Some path) = if is_absolute path th
 
 -- The traversal root over a tree, for the one that is handed in, if one is.
 unfoldable pub find_traversal_root : WalkSetting → Names → Option (List ℕ) → TraversalRootResult
-find_traversal_root given t explicit = let asked = traversal_root_before_normalizing given t explicit in traversal_root_unless_outside given t asked (normalized asked)
+find_traversal_root given t explicit = let asked = explicit_or_common_root_before_normalizing given t explicit in traversal_root_unless_outside given t asked (normalized asked)
 
 -- ---- from there
 

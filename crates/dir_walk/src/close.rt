@@ -4,7 +4,7 @@ ghost use Rattle.worktree_fs.specs.Causes.{CountNotIncreased};
 ghost use Rattle.worktree_fs.specs.Kept.{KeepsTreeAndListCounts};
 ghost use Rattle.worktree_stack.specs.Reading.{TreeAndObjects};
 ghost use Rattle.worktree_stack.specs.Setup.{StackSetup};
-ghost use Rattle.dir_classify.specs.Chosen.{walk_options_of, ignored_may_hide_repositories};
+ghost use Rattle.dir_classify.specs.Chosen.{walk_options_of, deletion_skips_search_of_ignored_directories};
 ghost use Rattle.dir_classify.specs.Class.{outcome_of_unentered_path, is_ignored_directory_hiding_repositories};
 ghost use Rattle.dir_classify.specs.Entries.{entry_with_outcome};
 ghost use Rattle.dir_classify.specs.Evidence.{PathEvidence, is_protected_current_directory, is_optional_path_equal};
@@ -23,7 +23,7 @@ use crate::open::for_deletion_mode;
 use crate::outcome::Outcome;
 use crate::place::Place;
 use dir_classify::entry::entry_ref_with_outcome;
-use dir_classify::options::ignored_may_hide_repositories;
+use dir_classify::options::deletion_skips_search_of_ignored_directories;
 use dir_classify::{
     Kind, Options, PathspecMatch, Property, Shared, classify, maybe_upgrade_to_repository,
 };
@@ -55,8 +55,8 @@ pub(crate) fn outcome_of_unentered_path<W: Worktree, M: Matcher>(
         (evidence_from_setting_and_sources (setting_of_shared M.Matcher shared.now) made s)
         place.now.path class.now) }
     ensures worktree { KeepsTreeAndListCounts W.Worktree worktree.old worktree.new }
-    ensures reads { ignored_may_hide_repositories (walk_options_of shared.now.options).for_deletion
-        ≡ false → W.reads worktree.new ≡ W.reads worktree.old }
+    ensures reads { deletion_skips_search_of_ignored_directories
+        (walk_options_of shared.now.options).for_deletion ≡ false → W.reads worktree.new ≡ W.reads worktree.old }
 {
     if !ignored_directory_may_hide_repositories(&shared.options, class) {
         return Ok(*class);
@@ -83,7 +83,7 @@ fn ignored_directory_may_hide_repositories(options: &Options<'_>, class: &classi
     ensures { result ≡ is_ignored_directory_hiding_repositories (walk_options_of options.now)
         class.now }
 {
-    let may_hide = ignored_may_hide_repositories(for_deletion_mode(options));
+    let may_hide = deletion_skips_search_of_ignored_directories(for_deletion_mode(options));
     let is_directory = matches!(class.disk_kind, Some(Kind::Directory));
     class.status.is_ignored() & is_directory & may_hide
 }

@@ -7,7 +7,7 @@ ghost use Rattle.worktree_fs.specs.Tree.{Names};
 ghost use Rattle.dir_classify.specs.Kinds.{is_plain_directory_kind};
 ghost use Rattle.dir_classify.specs.Layers.{setting_of_shared, kind_of_node_at};
 ghost use Rattle.dir_classify.specs.Refused.{HoldsIfFaultError};
-ghost use Rattle.dir_walk.specs.Root.{common_directory_or_worktree_root, traversal_root_before_normalizing, traversal_root_of_normal_path, rooted, find_traversal_root};
+ghost use Rattle.dir_walk.specs.Root.{common_directory_or_worktree_root, explicit_or_common_root_before_normalizing, traversal_root_of_normal_path, rooted, find_traversal_root};
 ghost use Rattle.dir_walk.specs.Rooting.{IsErrorOfRootResult, IsCommonDirectoryOrEmpty, IsNormalizedRoot, IsAbsentErrorAtPath, IsLinkTestOfExistingNode, IsMetadataErrorAtPath, IsNormalRootPath, IsExplicitOrCommonRoot, IsErrorOfTraversalRoot, IsErrorOfRootComponents};
 
 use dir_classify::{Error, MetadataWhy, Shared, join_worktree_root};
@@ -56,7 +56,7 @@ pub(crate) fn find_traversal_root<W: Worktree, M: Matcher>(
     ensures keeps { KeepsTreeAndListCounts W.Worktree worktree.old worktree.new }
     ensures reads { W.reads worktree.new ≡ W.reads worktree.old }
 {
-    let asked = traversal_root_before_normalizing(alloc, shared, explicit, worktree)?;
+    let asked = explicit_or_common_root_before_normalizing(alloc, shared, explicit, worktree)?;
     match asked.normalize(alloc)? {
         None => Err(Error::NormalizeRoot { root: asked }),
         Some(path) => {
@@ -70,7 +70,7 @@ pub(crate) fn find_traversal_root<W: Worktree, M: Matcher>(
 }
 
 /// The traversal root before it is normalised.
-fn traversal_root_before_normalizing<W: Worktree, M: Matcher>(
+fn explicit_or_common_root_before_normalizing<W: Worktree, M: Matcher>(
     alloc: Global,
     shared: &Shared<'_, M>,
     explicit: &Option<Bytes>,
@@ -78,10 +78,10 @@ fn traversal_root_before_normalizing<W: Worktree, M: Matcher>(
 ) -> Result<PathText, OutOfMemory>
     ensures root { (t : Names) → W.told worktree.old ≡ Some t → CountNotIncreased
         (W.faults worktree.old) (W.faults worktree.new) → IfOk result (λ root. root
-        ≡ traversal_root_before_normalizing (setting_of_shared M.Matcher shared.now) t
+        ≡ explicit_or_common_root_before_normalizing (setting_of_shared M.Matcher shared.now) t
         explicit.now) }
     ensures fault { (t : Names) → W.told worktree.old ≡ Some t
-        → IfOk result (λ root. (root ≡ traversal_root_before_normalizing
+        → IfOk result (λ root. (root ≡ explicit_or_common_root_before_normalizing
         (setting_of_shared M.Matcher shared.now) t explicit.now) ⊎ (root ≡ [])) }
     ensures asked { IfOk result (IsExplicitOrCommonRoot (setting_of_shared M.Matcher shared.now)
         explicit.now) }

@@ -113,7 +113,7 @@ pub fn directories_marked_against_removal(
 }
 
 /// Adds the directories above an entry, if that stays.
-fn add_directories_above_if_entry_kept(
+fn add_parents_if_repository_or_dot_git_kept(
     alloc: Global,
     directories: &mut BTreeSet<Bytes>,
     cleaning: &Cleaning,
@@ -149,11 +149,12 @@ pub fn directories_that_must_stay(
     prefix: &[u8],
     found: &[ReportEntry],
 ) -> Result<BTreeSet<Bytes>, OutOfMemory>
-    ensures { IfOk result (λ set. set.keys ≡ words.directories_that_must_stay cleaning.now prefix.now found.now) }
+    ensures { IfOk result (λ set. set.keys ≡ words.directories_that_must_stay cleaning.now
+        prefix.now found.now) }
 {
     let mut directories = current_directory_and_parents(alloc, prefix)?;
     for entry in found {
-        add_directories_above_if_entry_kept(alloc, &mut directories, cleaning, entry)?;
+        add_parents_if_repository_or_dot_git_kept(alloc, &mut directories, cleaning, entry)?;
     }
     Ok(directories)
 }

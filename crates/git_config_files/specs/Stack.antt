@@ -32,8 +32,8 @@ abbrev pub checked_out_branch : Names → List ℕ → Option (List ℕ)
 checked_out_branch t git = branch_named_by_head_text (bytes_of_file_lookup (look t (resolve_path_from_directory (codes "HEAD") git) true))
 
 -- the git directory as git spells it: `.git` in the top of the work tree, and another one without its links
-abbrev pub git_directory_as_git_spells : List ℕ → List ℕ → List ℕ → List ℕ
-git_directory_as_git_spells root git real = if bytes_eq git (dot_git_path root) then git else real
+abbrev pub dot_git_of_worktree_or_real_git_directory : List ℕ → List ℕ → List ℕ → List ℕ
+dot_git_of_worktree_or_real_git_directory root git real = if bytes_eq git (dot_git_path root) then git else real
 
 abbrev pub home_without_links : Names → List ℕ → Option (List ℕ) → Option (List ℕ)
 home_without_links t root None = None
@@ -43,7 +43,7 @@ abbrev pub repository_for_conditions : Names → RepositoryPlaces → Repository
 repository_for_conditions t layout =
     record {
       git = real_path_or_same t layout.git (47 ∷ []);
-      spelled = git_directory_as_git_spells layout.root layout.git (real_path_or_same t layout.git (47 ∷ []));
+      spelled = dot_git_of_worktree_or_real_git_directory layout.root layout.git (real_path_or_same t layout.git (47 ∷ []));
       branch = checked_out_branch t layout.git;
     }
 

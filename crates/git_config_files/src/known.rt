@@ -110,14 +110,14 @@ fn checked_out_branch<W: Worktree>(
 }
 
 /// The git directory as git spells it.
-fn git_directory_as_git_spells(
+fn dot_git_of_worktree_or_real_git_directory(
     alloc: Global,
     root: &[u8],
     git: &[u8],
     real: &[u8],
 ) -> Result<PathText, OutOfMemory>
-    ensures { IfOk result (λ path. path ≡ words.git_directory_as_git_spells root.now git.now
-        real.now) }
+    ensures { IfOk result (λ path. path ≡ words.dot_git_of_worktree_or_real_git_directory
+        root.now git.now real.now) }
 {
     let mut beside = PathText::from_bytes(alloc, root)?;
     beside.push_component(alloc, b".git".as_slice())?;
@@ -159,7 +159,7 @@ fn repository_for_conditions<W: Worktree>(
     let git_dir = places.git_dir.as_bytes();
     let git = real_path_or_same(alloc, worktree, git_dir, b"/")?;
     let branch = checked_out_branch(alloc, worktree, git_dir)?;
-    let spelled = git_directory_as_git_spells(
+    let spelled = dot_git_of_worktree_or_real_git_directory(
         alloc,
         places.root.as_bytes(),
         git_dir,

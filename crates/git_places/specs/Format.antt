@@ -33,8 +33,8 @@ parse_format_version path (Some text) =
     else if bytes_eq text (codes "1") then Ok (Some versions.One)
     else Err (errors.Version path text)
 
-abbrev pub format_version_of_config : List Section → Result (Option Version) PlacesError
-format_version_of_config sections =
+abbrev pub parse_format_version_if_configured : List Section → Result (Option Version) PlacesError
+parse_format_version_if_configured sections =
     parse_format_version (file_of_last_key_value (codes "core") (codes "repositoryformatversion") sections) (last_string_value (codes "core") None (codes "repositoryformatversion") sections)
 
 -- ---- extensions

@@ -9,7 +9,7 @@ use Rattle.git_config_lite.specs.Writers.{configuration_with_other_appended}
 use Rattle.worktree_fs.specs.Changes.{resolve_path_from_directory, real_path}
 use Rattle.worktree_fs.specs.Repository.{common_git_directory, bytes_of_file_lookup, is_lookup_of_directory}
 use Rattle.worktree_fs.specs.Tree.{Names, is_empty, look}
-use Rattle.git_places.specs.Format.{file_of_last_key_value, require_allowed_extensions, boolean_or_false, format_version_of_config}
+use Rattle.git_places.specs.Format.{file_of_last_key_value, require_allowed_extensions, boolean_or_false, parse_format_version_if_configured}
 use Rattle.git_places.specs.GitDirectory.{dot_git_path}
 use Rattle.gitbase_core.specs.Steps.{and_then}
 use Rattle.git_places.specs.Upward.{WorkTreeTop}
@@ -127,7 +127,7 @@ abbrev pub places_by_format_version : Names → WorkTreeTop → List ℕ → Con
 places_by_format_version t top common config version = and_then (places_with_root t top common config version) (has_worktree_config config.sections version)
 
 abbrev pub places_by_config : Names → WorkTreeTop → List ℕ → Configuration → Result RepositoryPlaces PlacesError
-places_by_config t top common config = and_then (places_by_format_version t top common config) (format_version_of_config config.sections)
+places_by_config t top common config = and_then (places_by_format_version t top common config) (parse_format_version_if_configured config.sections)
 
 abbrev pub places_of_work_tree_top : Names → WorkTreeTop → Result RepositoryPlaces PlacesError
 places_of_work_tree_top t top = and_then (places_by_config t top (common_git_directory t top.git)) (read_local_config t (shared_config_path (common_git_directory t top.git)))

@@ -93,11 +93,12 @@ fn parse_format_version(
 
 /// The version of a repository's format, by `core.repositoryFormatVersion`; none where nothing says
 /// so.
-pub fn format_version_of_config(
+pub fn parse_format_version_if_configured(
     alloc: Global,
     config: &File,
 ) -> Result<Option<Version>, PlacesError>
-    ensures { AnswersUnlessOutOfMemory result (words.format_version_of_config config.now.sections) }
+    ensures { AnswersUnlessOutOfMemory result
+        (words.parse_format_version_if_configured config.now.sections) }
 {
     parse_format_version(
         alloc,

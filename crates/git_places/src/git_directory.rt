@@ -33,7 +33,7 @@ fn git_file_form_error(alloc: Global, path: &[u8]) -> Result<PlacesError, OutOfM
 }
 
 /// The refusal of a path in such a line.
-fn git_file_target_error(alloc: Global, path: &[u8]) -> Result<PlacesError, OutOfMemory>
+fn bad_git_file_target_error(alloc: Global, path: &[u8]) -> Result<PlacesError, OutOfMemory>
     ensures { IfOk result (λ e. e ≡ PlacesError.GitFileTarget path.now) }
 {
     Ok(PlacesError::GitFileTarget {
@@ -66,7 +66,7 @@ fn require_git_file_target<W: Worktree>(
         git.now) result }
 {
     if !is_agreed_git_directory(alloc, worktree, git)? {
-        return Err(git_file_target_error(alloc, git)?);
+        return Err(bad_git_file_target_error(alloc, git)?);
     }
     Ok(Some(PathText::from_bytes(alloc, git)?))
 }

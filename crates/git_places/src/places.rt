@@ -9,7 +9,7 @@ ghost use Rattle.git_places.specs.Places as words;
 use crate::error::PlacesError;
 use crate::format::{
     Version, boolean_or_false, copy_optional_path, file_of_last_key_value,
-    format_version_of_config, require_allowed_extensions,
+    parse_format_version_if_configured, require_allowed_extensions,
 };
 use crate::git_directory::dot_git_path;
 use crate::upward::Top;
@@ -141,7 +141,7 @@ fn worktree_config_path(alloc: Global, git: &[u8]) -> Result<Bytes, OutOfMemory>
 }
 
 /// One configuration behind another.
-fn append_config(alloc: Global, config: File, more: File) -> Result<File, PlacesError>
+fn append_config_sections(alloc: Global, config: File, more: File) -> Result<File, PlacesError>
     ensures { AnswersUnlessOutOfMemory result (Ok (configuration_with_other_appended config more)) }
 {
     let mut both = config;
@@ -160,7 +160,7 @@ fn append_worktree_config<W: Worktree>(
         (λ t. words.config_deciding_work_tree t git.now config true) result }
 {
     let more = read_worktree_config(alloc, worktree, git)?;
-    append_config(alloc, config, more)
+    append_config_sections(alloc, config, more)
 }
 
 /// Of what `core.bare` and `core.worktree` are asked.
@@ -389,7 +389,7 @@ fn places_by_config<W: Worktree>(
     ensures { FindsInTree W.Worktree worktree.old worktree.new
         (λ t. words.places_by_config t top common.now config) result }
 {
-    let version = format_version_of_config(alloc, &config)?;
+    let version = parse_format_version_if_configured(alloc, &config)?;
     let own = has_worktree_config(alloc, &config, version)?;
     let root = root_by_format_version(alloc, worktree, &top, config, version, own)?;
     places_with_real_own_git_path(alloc, worktree, top, common, own, root)

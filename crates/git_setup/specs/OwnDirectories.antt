@@ -12,9 +12,9 @@ use Rattle.git_setup.specs.declared.own_directories.OwnDirectories.{OwnDirectori
 abbrev pub is_below_top_not_dot_git : List ℕ → Bool
 is_below_top_not_dot_git path = not (is_empty path) && not (is_dot_git_ignoring_case (basename path))
 
-abbrev pub path_below_top_unless_dot_git : Option (List ℕ) → Option (List ℕ)
-path_below_top_unless_dot_git None = None
-path_below_top_unless_dot_git (Some path) = if is_below_top_not_dot_git path then Some path else None
+abbrev pub relative_path_below_top_unless_dot_git : Option (List ℕ) → Option (List ℕ)
+relative_path_below_top_unless_dot_git None = None
+relative_path_below_top_unless_dot_git (Some path) = if is_below_top_not_dot_git path then Some path else None
 
 -- where a directory lies, links followed, if that is below the top
 abbrev pub real_path_below_top : Names → List ℕ → List ℕ → Option (List ℕ)
@@ -23,7 +23,7 @@ real_path_below_top t root directory = option_and_then (path_below_root root) (r
 -- the git directory of the work tree, and what it shares with others
 abbrev pub git_dirs_needing_protection : Names → RepositoryPlaces → OwnDirectories
 git_dirs_needing_protection t places =
-    record { git = path_below_top_unless_dot_git (real_path_below_top t places.root places.git); common = path_below_top_unless_dot_git (real_path_below_top t places.root places.common) }
+    record { git = relative_path_below_top_unless_dot_git (real_path_below_top t places.root places.git); common = relative_path_below_top_unless_dot_git (real_path_below_top t places.root places.common) }
 
 abbrev pub no_own_directories : OwnDirectories
 no_own_directories = record { git = None; common = None }

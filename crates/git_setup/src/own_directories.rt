@@ -29,12 +29,12 @@ fn is_below_top_not_dot_git(path: &[u8]) -> bool
 }
 
 /// A path from the top, of one below it that a deletion could take.
-fn path_below_top_unless_dot_git(
+fn relative_path_below_top_unless_dot_git(
     alloc: Global,
     root: &[u8],
     real: &[u8],
 ) -> Result<Option<PathText>, OutOfMemory>
-    ensures { IfOk result (λ found. found ≡ words.path_below_top_unless_dot_git
+    ensures { IfOk result (λ found. found ≡ words.relative_path_below_top_unless_dot_git
         (path_below_root root.now real.now)) }
 {
     match path_below_root(root, real) {
@@ -53,11 +53,11 @@ fn real_path_below_unless_dot_git<W: Worktree>(
     directory: &[u8],
 ) -> Result<Option<PathText>, GitRefusal>
     ensures { FindsOverToldTree W.Worktree worktree.old worktree.new
-        (λ t. Ok (words.path_below_top_unless_dot_git (words.real_path_below_top t root.now
+        (λ t. Ok (words.relative_path_below_top_unless_dot_git (words.real_path_below_top t root.now
         directory.now))) result }
 {
     match worktree.real_path(alloc, directory, b"/")? {
-        Some(real) => Ok(path_below_top_unless_dot_git(alloc, root, real.as_bytes())?),
+        Some(real) => Ok(relative_path_below_top_unless_dot_git(alloc, root, real.as_bytes())?),
         None => Ok(None),
     }
 }

@@ -80,7 +80,7 @@ fn records_of_all_entries(alloc: Global, state: &State, details: &[Detail]) -> i
 }
 
 /// Says why some bytes are no index file.
-fn print_file_refusal(rt: &HostRuntime, error: IndexFileError) -> io::Result<ExitCode> {
+fn print_index_parse_error(rt: &HostRuntime, error: IndexFileError) -> io::Result<ExitCode> {
     println!(rt; "refused: {error:?}")?;
     Ok(ExitCode::from(1))
 }
@@ -129,6 +129,6 @@ fn main(rt: HostRuntime) -> io::Result<ExitCode> {
             file.is_sparse(),
         ),
         Ok(file) => print_count_and_records(&rt, file),
-        Err(error) => print_file_refusal(&rt, error),
+        Err(error) => print_index_parse_error(&rt, error),
     }
 }

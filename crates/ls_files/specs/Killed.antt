@@ -49,8 +49,8 @@ abbrev pub is_merged_and_longer : List ℕ → IndexEntry → Bool
 is_merged_and_longer name e = not (is_unmerged_entry e) && not (bytes_eq e.path name)
 
 -- the next of them
-abbrev pub find_longer_merged_entry : List IndexEntry → List ℕ → Option IndexEntry
-find_longer_merged_entry entries name = find (is_merged_and_longer name) (entries_with_prefix entries name)
+abbrev pub find_merged_entry_with_proper_prefix : List IndexEntry → List ℕ → Option IndexEntry
+find_merged_entry_with_proper_prefix entries name = find (is_merged_and_longer name) (entries_with_prefix entries name)
 
 -- a slash stands behind the name with which its path begins
 abbrev pub continues_with_slash : List ℕ → Option IndexEntry → Bool
@@ -60,7 +60,7 @@ continues_with_slash name (Some e) = is_slash (slice_index e.path (length name))
 -- What is shown is to be a directory. Git looks at the next merged entry alone: with `a.c` and `a/b` in the index a file `a` is not told,
 -- since `.` stands before the slash.
 abbrev pub is_next_merged_entry_beneath_name : List IndexEntry → List ℕ → Bool
-is_next_merged_entry_beneath_name entries name = continues_with_slash name (find_longer_merged_entry entries name)
+is_next_merged_entry_beneath_name entries name = continues_with_slash name (find_merged_entry_with_proper_prefix entries name)
 
 abbrev pub is_file_name_directory_in_index : List IndexEntry → List ℕ → Bool
 is_file_name_directory_in_index entries name = not (ends_in_slash name) && is_next_merged_entry_beneath_name entries name

@@ -73,8 +73,8 @@ fn is_merged_and_longer(name: &[u8], entry: &IndexEntry) -> bool
 }
 
 /// The first such entry.
-fn find_longer_merged_entry<'a>(index: &'a State, name: &[u8]) -> Option<&'a IndexEntry>
-    ensures { option_copied result ≡ words.find_longer_merged_entry index.now name.now }
+fn find_merged_entry_with_proper_prefix<'a>(index: &'a State, name: &[u8]) -> Option<&'a IndexEntry>
+    ensures { option_copied result ≡ words.find_merged_entry_with_proper_prefix index.now name.now }
 {
     entries_with_prefix(index, name)
         .iter()
@@ -98,7 +98,7 @@ fn is_file_name_directory_in_index(index: &State, name: &[u8]) -> bool
     if ends_with_slash(name) {
         return false;
     }
-    continues_with_slash(name, find_longer_merged_entry(index, name))
+    continues_with_slash(name, find_merged_entry_with_proper_prefix(index, name))
 }
 
 /// Whether what has a name lies in the way of the index.

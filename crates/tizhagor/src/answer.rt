@@ -16,7 +16,7 @@ ghost use Rattle.tizhagor.specs.Refusals.{memory};
 ghost use Rattle.tizhagor.specs.Replies.{HoldsOfOutputOfPlainReply, plain_reply};
 ghost use Rattle.tizhagor.specs.declared.reply.Reply.{Reply as ReplyOf};
 
-use crate::both::list_walked_and_changed_files;
+use crate::both::{WalkAndChangesAsked, list_walked_and_changed_files};
 use crate::by_stat::answer_state_by_stat;
 use crate::call::Call;
 use crate::changed::answer_ls_files_changed;
@@ -221,8 +221,9 @@ fn answer_demand<W: CountsFaults, O: Owners, D: Stats, I: Interrupt>(
         }
         Demand::Changed(asked, files, standings) => {
             if needs_worktree_walk(&files.listing) {
+                let both = WalkAndChangesAsked { files, standings };
                 list_walked_and_changed_files(
-                    alloc, worktree, owners, stats, interrupt, here, &asked, files, standings,
+                    alloc, worktree, owners, stats, interrupt, here, &asked, both,
                 )
             } else {
                 answer_ls_files_changed(

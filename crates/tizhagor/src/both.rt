@@ -60,6 +60,15 @@ fn join_replies_unless_second_refused(
     Ok(join_replies(alloc, first, &second)?)
 }
 
+/// What `ls-files` is asked for with `-d` or `-m` and with `-o` or `-k`.
+#[derive(Debug, Drop)]
+pub struct WalkAndChangesAsked {
+    /// What is listed, by which rules.
+    pub files: FilesAsked,
+    /// Which changes are listed.
+    pub standings: Standings,
+}
+
 /// What `ls-files` with `-d` or `-m` and with `-o` or `-k` says of the work tree around the
 /// directory that is asked for, or why there is nothing of it: what a walk finds, and behind it
 /// what changed, with what is shown of the index beside. Each of the two finds the work tree and
@@ -77,19 +86,20 @@ pub fn list_walked_and_changed_files<W: CountsFaults, O: Owners, D: Stats, I: In
     interrupt: &mut I,
     here: &Here<'_>,
     asked: &Asked,
-    wants: FilesAsked,
-    standings: Standings,
+    both: WalkAndChangesAsked,
 ) -> Result<Reply, HereRefusal>
     ensures { AnswersTreeAndStatCommand W.Worktree I.Interrupt O.Owners D.Stats worktree.old
         worktree.new interrupt.old interrupt.new owners.old owners.new stats.old stats.new
         (λ t owned. found_checked_for_ls_files t owned here.now.current.now here.now.variables.now
-        here.now.directory.now (words.ls_files_request_of_walk_alone wants) asked.now)
-        (words.ls_files_command_of_walk_alone wants) words.join_replies
+        here.now.directory.now (words.ls_files_request_of_walk_alone both.files) asked.now)
+        (words.ls_files_command_of_walk_alone both.files) words.join_replies
         (λ t owned told. changed_files_reply_around_directory t owned told here.now.current.now
-        here.now.variables.now here.now.directory.now asked.now wants standings) result }
+        here.now.variables.now here.now.directory.now asked.now both.files both.standings)
+        result }
 {
+    let standings = both.standings;
+    let mut wants = both.files;
     let listing = wants.listing;
-    let mut wants = wants;
     wants.listing = ls_files_options_for_walk_alone(&listing);
     let first = answer_ls_files(alloc, worktree, owners, interrupt, here, &wants, asked)?;
     wants.listing = listing;

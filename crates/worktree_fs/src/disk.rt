@@ -7,7 +7,7 @@ ghost use Rattle.std.specs.List.Sorted.{IsStrictlySortedBy};
 ghost use Rattle.worktree_fs.specs.Changes.{resolve_path_from_directory};
 ghost use Rattle.worktree_fs.specs.Naming.{AreDistinctValidEntryNames};
 ghost use Rattle.worktree_fs.specs.Order.{compare_path_bytes};
-ghost use Rattle.worktree_fs.specs.Answers.{HoldsUnlessFileRead, HoldsUnlessFault, HoldsOnListFault, HoldsUnlessListFault};
+ghost use Rattle.worktree_fs.specs.Answers.{CountsFaultsOfCall, CountsFaultsOfListing, HoldsUnlessFileRead};
 
 mod listed;
 pub(crate) mod node;
@@ -196,10 +196,7 @@ impl<'a> Worktree for DiskWorktree<'a> {
         ensures named { KeepsFirstFaultPath (is_fault result) path.now self.old
             self.new.first_fault }
         ensures wants_none { IsErrOf result ReadError.OutOfMemory → ⊥ }
-        ensures later { self.old.faults ≤ self.new.faults }
-        ensures cause { IsErrOf result ReadError.Fault
-            → CountIncreasedOrSaturated self.old.faults self.new.faults }
-        ensures unfaulted { HoldsUnlessFault result (self.new.faults ≡ self.old.faults) }
+        ensures counts { CountsFaultsOfCall self.old.faults self.new.faults result }
         ensures unaskable { IsTrue (is_non_utf8_without_nul path.now)
             → IsErrOf result ReadError.Fault }
         ensures nowhere { IsTrue (has_nul path.now) → result ≡ Ok None }
@@ -216,10 +213,7 @@ impl<'a> Worktree for DiskWorktree<'a> {
         ensures named { KeepsFirstFaultPath (is_fault result) path.now self.old
             self.new.first_fault }
         ensures wants_none { IsErrOf result ReadError.OutOfMemory → ⊥ }
-        ensures later { self.old.faults ≤ self.new.faults }
-        ensures cause { IsErrOf result ReadError.Fault
-            → CountIncreasedOrSaturated self.old.faults self.new.faults }
-        ensures unfaulted { HoldsUnlessFault result (self.new.faults ≡ self.old.faults) }
+        ensures counts { CountsFaultsOfCall self.old.faults self.new.faults result }
         ensures unaskable { IsTrue (is_non_utf8_without_nul path.now)
             → IsErrOf result ReadError.Fault }
         ensures nowhere { IsTrue (has_nul path.now) → result ≡ Ok None }
@@ -240,16 +234,8 @@ impl<'a> Worktree for DiskWorktree<'a> {
         ensures kept { IfOk result (All (IsComposedIfComposing self.old.composes)) }
         ensures few { IfOk result (λ names. length names ≤ 1000000) }
         ensures sorted { IfOk result (IsStrictlySortedBy compare_path_bytes) }
-        ensures cause { HoldsOnListFault result (CountIncreasedOrSaturated self.old.faults
-            self.new.faults) }
-        ensures unfaulted { HoldsUnlessListFault result (self.new.faults ≡ self.old.faults) }
-        ensures faults { self.old.faults ≤ self.new.faults }
-        ensures list_cause { HoldsOnListFault result
-            (CountIncreasedOrSaturated self.old.list_faults self.new.list_faults) }
-        ensures list_faults { self.old.list_faults ≤ self.new.list_faults }
-        ensures list_faults_kept { HoldsUnlessListFault result
-            (self.new.list_faults ≡ self.old.list_faults) }
-        ensures lists_later { self.old.lists ≤ self.new.lists }
+        ensures counts { CountsFaultsOfListing self.old.faults self.new.faults self.old.list_faults
+            self.new.list_faults self.old.lists self.new.lists result }
         ensures unaskable { IsTrue (is_non_utf8_without_nul path.now)
             → IsErrOf result ListError.OpenFault }
         ensures nowhere { IsTrue (has_nul path.now) → IsErrOf result ListError.Absent }
@@ -281,10 +267,7 @@ impl<'a> Worktree for DiskWorktree<'a> {
             (disk_counts_after_read (is_fault result) self.old) }
         ensures named { KeepsFirstFaultPath (is_fault result) path.now self.old
             self.new.first_fault }
-        ensures later { self.old.faults ≤ self.new.faults }
-        ensures cause { IsErrOf result ReadError.Fault
-            → CountIncreasedOrSaturated self.old.faults self.new.faults }
-        ensures unfaulted { HoldsUnlessFault result (self.new.faults ≡ self.old.faults) }
+        ensures counts { CountsFaultsOfCall self.old.faults self.new.faults result }
         ensures unaskable { IsTrue (is_non_utf8_without_nul path.now)
             → IsErrOf result ReadError.Fault }
         ensures nowhere { IsTrue (has_nul path.now) → result ≡ Ok ReadAnswer.Absent }
@@ -310,10 +293,7 @@ impl<'a> Worktree for DiskWorktree<'a> {
             (disk_counts_after_call (is_fault result) self.old) }
         ensures named { KeepsFirstFaultPath (is_fault result) path.now self.old
             self.new.first_fault }
-        ensures later { self.old.faults ≤ self.new.faults }
-        ensures cause { IsErrOf result ReadError.Fault
-            → CountIncreasedOrSaturated self.old.faults self.new.faults }
-        ensures unfaulted { HoldsUnlessFault result (self.new.faults ≡ self.old.faults) }
+        ensures counts { CountsFaultsOfCall self.old.faults self.new.faults result }
         ensures unaskable { IsTrue (is_non_utf8_without_nul (resolve_path_from_directory path.now
             cwd.now)) → IfOk result (λ _. ⊥) }
         ensures nowhere { IsTrue (has_nul (resolve_path_from_directory path.now cwd.now))
@@ -330,10 +310,7 @@ impl<'a> Worktree for DiskWorktree<'a> {
             (disk_counts_after_call (is_fault result) self.old) }
         ensures named { KeepsFirstFaultPath (is_fault result) path.now self.old
             self.new.first_fault }
-        ensures later { self.old.faults ≤ self.new.faults }
-        ensures cause { IsErrOf result ReadError.Fault
-            → CountIncreasedOrSaturated self.old.faults self.new.faults }
-        ensures unfaulted { HoldsUnlessFault result (self.new.faults ≡ self.old.faults) }
+        ensures counts { CountsFaultsOfCall self.old.faults self.new.faults result }
         ensures unaskable { IsTrue (is_non_utf8_without_nul path.now)
             → IsErrOf result ReadError.Fault }
         ensures nowhere { IsTrue (has_nul path.now) → result ≡ Ok MakeAnswer.NoParent }
@@ -350,10 +327,7 @@ impl<'a> Worktree for DiskWorktree<'a> {
         ensures named { KeepsFirstFaultPath (is_fault result) path.now self.old
             self.new.first_fault }
         ensures wants_none { IsErrOf result ReadError.OutOfMemory → ⊥ }
-        ensures later { self.old.faults ≤ self.new.faults }
-        ensures cause { IsErrOf result ReadError.Fault
-            → CountIncreasedOrSaturated self.old.faults self.new.faults }
-        ensures unfaulted { HoldsUnlessFault result (self.new.faults ≡ self.old.faults) }
+        ensures counts { CountsFaultsOfCall self.old.faults self.new.faults result }
         ensures unaskable { IsTrue (is_non_utf8_without_nul path.now)
             → IsErrOf result ReadError.Fault }
         ensures nowhere { IsTrue (has_nul path.now) → result ≡ Ok RemoveAnswer.Absent }

@@ -4,8 +4,7 @@ ghost use Rattle.std.specs.List.{AllByRecursion, list_all};
 ghost use Rattle.gitbase_core.specs.Path.{components, pieces_between_slashes};
 ghost use Rattle.worktree_fs.specs.Tree.{directory, file, found, look, resolution_of_path, none};
 ghost use Rattle.worktree_fs.specs.Naming.{IsValidEntryName, is_valid_entry_name, AreDistinctValidEntryNames};
-ghost use Rattle.worktree_fs.specs.Answers.{kind_of_lookup, read_answer_of_lookup, HoldsUnlessFileRead, ListErrorFitsLookup, HoldsOnListFault, HoldsUnlessListFault};
-ghost use Rattle.worktree_fs.specs.Causes.{CountIncreasedOrSaturated};
+ghost use Rattle.worktree_fs.specs.Answers.{kind_of_lookup, read_answer_of_lookup, CountsFaultsOfListing, HoldsUnlessFileRead, ListErrorFitsLookup};
 ghost use Rattle.worktree_fs.specs.Ends.{saturating_increment, saturating_sum};
 ghost use Rattle.worktree_fs.specs.Changes.{real_path, answer_to_make_dir, entries_after_make_dir, answer_to_remove_node, entries_after_remove_node};
 ghost use Rattle.worktree_fs.specs.MadeAndRemoved.{AnswersMakeInExistingParent, NodeRemovedAtPath};
@@ -44,11 +43,9 @@ use std::marker::Model;
 /// Paths are followed by a loop, however deep the tree is. Adding, making and removing a node,
 /// forking, and letting the tree go take frames of the stack for each directory on the way.
 ///
-/// Contracts see all that it holds, the planned faults, and the counts.
-///
-/// See docs/DECISIONS.md#told-tree-is-names.
-/// See docs/DECISIONS.md#fork-copies-tree.
-/// See docs/DECISIONS.md#frames-of-a-tree.
+/// Contracts see all that it holds, the planned faults, and the counts. See
+/// docs/DECISIONS.md#told-tree-is-names, docs/DECISIONS.md#fork-copies-tree and
+/// docs/DECISIONS.md#frames-of-a-tree.
 #[derive(Drop)]
 pub struct MemoryWorktree {
     root: Root,
@@ -123,8 +120,7 @@ impl MemoryWorktree {
     ///
     /// The tree stays for each; the first that fits is the answer.
     ///
-    /// - `NotNormal` exactly where the path is not a slash and names with one slash between each
-    ///   two.
+    /// - `NotNormal` exactly where the path is no slash and names with one slash between two.
     /// - `NoParent` exactly where a node on the way is no directory.
     /// - `Exists` exactly where there is a node already.
     /// - `OutOfMemory` for want of memory.
@@ -323,16 +319,8 @@ impl Worktree for MemoryWorktree {
         ensures names { IfOk result AreDistinctValidEntryNames }
         ensures kept { IfOk result (All (IsComponentOfComposedText self.old.composes)) }
         ensures sorted { IfOk result (AreSortedForwardOrReversed self.old.is_reversed) }
-        ensures cause { HoldsOnListFault result (CountIncreasedOrSaturated self.old.faults
-            self.new.faults) }
-        ensures unfaulted { HoldsUnlessListFault result (self.new.faults ≡ self.old.faults) }
-        ensures faults { self.old.faults ≤ self.new.faults }
-        ensures list_cause { HoldsOnListFault result
-            (CountIncreasedOrSaturated self.old.list_faults self.new.list_faults) }
-        ensures list_faults { self.old.list_faults ≤ self.new.list_faults }
-        ensures list_faults_kept { HoldsUnlessListFault result (self.new.list_faults
-            ≡ self.old.list_faults) }
-        ensures lists_later { self.old.lists ≤ self.new.lists }
+        ensures counts { CountsFaultsOfListing self.old.faults self.new.faults self.old.list_faults
+            self.new.list_faults self.old.lists self.new.lists result }
     {
         self.lists = self.lists.saturating_add(1);
         if self.count_call_and_check_fault(CallKind::ListOpen) {

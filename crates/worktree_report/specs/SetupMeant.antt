@@ -66,8 +66,8 @@ abbrev pub permissions_from_options : List SetupOption → Permissions
 permissions_from_options options = if is_option_set_to (codes "permissions") (codes "isolated") options then isolated_permissions else all_permissions
 
 -- how the walk goes
-abbrev pub strategy_from_options : List SetupOption → Strategy
-strategy_from_options options = if is_option_set_to (codes "strategy") (codes "at_once") options then AtOnce else Held
+abbrev pub walk_strategy_of_setup_options : List SetupOption → Strategy
+walk_strategy_of_setup_options options = if is_option_set_to (codes "strategy") (codes "at_once") options then AtOnce else Held
 
 -- those that say how paths are looked at
 unfoldable pub classification_options : List SetupOption → Looking
@@ -82,7 +82,7 @@ classification_options options =
       strict_parents = is_option_set_to (codes "strict_parents") (codes "yes") options;
       for_deletion = for_deletion_from_options options;
       ignore_source = ignore_source_from_options options;
-      strategy = strategy_from_options options;
+      strategy = walk_strategy_of_setup_options options;
     }
 
 -- and those that say what is reported

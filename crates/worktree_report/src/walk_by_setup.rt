@@ -129,8 +129,8 @@ fn walk_with_rules_and_lookup<'a, W: Worktree, F: Find, I: Interrupt>(
     ensures walks_worktree { WalksWorktreeWithCauses W.Worktree F.Find I.Interrupt worktree.old
         worktree.new objects.old objects.new interrupt.old interrupt.new excludes.old excludes.new
         setup.now.options.strategy (walk_setting_of_setup (W.precomposes worktree.old) root.now
-        setup.now) setup.now.root setup.now.depth default_without_refusals (λ r. r.outcome) (λ r. r.root)
-        result }
+        setup.now) setup.now.root setup.now.depth default_without_refusals (λ r. r.outcome)
+        (λ r. r.root) result }
 {
     let options = walk_options_of_setup(worktree.precomposes(), setup);
     let ctx = Context {
@@ -150,7 +150,7 @@ fn walk_with_rules_and_lookup<'a, W: Worktree, F: Find, I: Interrupt>(
 }
 
 /// Walks the work tree at `root` as the setup asks for it, with ignore rules that are made for it.
-fn walk_with_rules_of_setup<W: Worktree, F: Find, I: Interrupt>(
+fn walk_with_ignore_rules_of_setup<W: Worktree, F: Find, I: Interrupt>(
     alloc: Global,
     worktree: &mut W,
     objects: &mut F,
@@ -199,7 +199,7 @@ pub fn walk_by_setup<W: Worktree, F: Find, I: Interrupt>(
 {
     let lookup = index_lookup_if_ignore_case(alloc, setup)?;
     let git_dir = git_dir_of_setup_or_default(alloc, root, setup)?;
-    walk_with_rules_of_setup(
+    walk_with_ignore_rules_of_setup(
         alloc,
         worktree,
         objects,

@@ -99,9 +99,9 @@ pub record RunsCheckoutCalls {W F : Type 0} (w : WorktreeOf W) (f : FindOf F) (w
 
 -- ---- in step on the way
 
--- A tree that came of another by directories that were made: a path that led to a directory still does, and what is new by its names is
--- a directory.
-pub record AddsOnlyDirectories (before now : Names) : Type 0 where
+-- Between two trees, as where directories were made: a path that led to a directory still leads to one, and what is at names where
+-- nothing was is a directory.
+pub record KeepsDirectoriesAndNewNodesAreDirectories (before now : Names) : Type 0 where
   pub stays : (path : List ℕ) (names : List (List ℕ)) (inner : Names) → resolution_of_path before path false ≡ reached names (directory inner)
       → (more : Names) × (resolution_of_path now path false ≡ reached names (directory more))
   pub holds : (names : List (List ℕ)) (inner : Names) → descendant_by_names (reverse names) (Some (directory before)) ≡ Some (directory inner)
@@ -124,7 +124,7 @@ IsTreeUnchangedOrDeepestEmpty true root t0 t at = IsDeepestDirectoryEmpty root t
 pub record HoldsForLaterTree (made : StackSetup) (s0 : TreeAndObjects) (t : Names) (at : Option (List (List ℕ))) (attributes : Option HeldAttributeLists) (ignore : Option HeldIgnoreRules) : Type 0 where
   pub changed : Bool
   pub at_hand : IsTreeUnchangedOrDeepestEmpty changed made.root s0.tree t at
-  pub holds : (end : TreeAndObjects) → end.objects ≡ s0.objects → (changed ≡ true → AddsOnlyDirectories t end.tree)
+  pub holds : (end : TreeAndObjects) → end.objects ≡ s0.objects → (changed ≡ true → KeepsDirectoriesAndNewNodesAreDirectories t end.tree)
       → ReadSameInDirectories made s0.tree end.tree (pushed_directories at) → HoldsRulesOfTree made end (pushed_directories at) attributes ignore
   pub there : AreDirectoriesBelowRoot made.root t (pushed_directories at)
 

@@ -36,6 +36,7 @@ use glob_rules::Case;
 use glob_rules::attributes::{MetadataCollection, Outcome};
 use std::alloc::Global;
 use std::marker::Model;
+use steps::entry_mode;
 use worktree_fs::{PathStack, Worktree, is_relative_without_dots};
 
 /// The directories above the path that was looked up last, with the rules of each; gitoxide's
@@ -494,20 +495,5 @@ impl Stack {
             worktree,
             objects,
         )
-    }
-}
-
-/// The mode of an entry of an index: without one, a path that ends in a slash is a directory.
-fn entry_mode(relative: &[u8], mode: Option<Mode>) -> Option<Mode>
-    ensures is_dir { is_dir_by_mode result ≡ is_dir_by_mode_or_slash relative.now mode }
-    ensures is_link { is_symlink_by_mode result ≡ is_symlink_by_mode mode }
-{
-    match mode {
-        Some(mode) => Some(mode),
-        None => if relative.ends_with(b"/") {
-            Some(Mode::DIR)
-        } else {
-            None
-        },
     }
 }

@@ -13,7 +13,7 @@ use Rattle.worktree_fs.proofs.Paths.Spelled.{without_last-snoc}
 use Rattle.worktree_stack.proofs.Lookup.Looking.{length-fronts}
 use Rattle.worktree_stack.specs.Lookups.{directories_kept_by_lookup, one_if_refused}
 use Rattle.worktree_stack.specs.Stacked.{StackModel, pushed_directories}
-use Rattle.dir_classify.specs.Chosen.{WalkOptions, ignored_may_hide_repositories}
+use Rattle.dir_classify.specs.Chosen.{WalkOptions, deletion_skips_search_of_ignored_directories}
 use Rattle.dir_classify.specs.Excludes.{setup_of_optional_stack, directories_pushed_in_stack, has_attributes_if_given}
 use Rattle.dir_classify.specs.Kept.{AsksRulesAtMostOnce}
 use Rattle.dir_classify.specs.Reads.{most_reads_to_classify_path}
@@ -193,8 +193,8 @@ pub opens-class : {W F I T E : Type 0} {w : WorktreeOf W} {i : InterruptOf I} {o
 opens-class {w = w} {o = o} {w0 = w0} {w1 = w1} {o0 = o0} {o1 = o1} {old = old} {new = new} d name {result = result} is lists asks =
     opens-none refl lists refl (omega arith) (λ on alone. asks-reads d name is (most_reads_to_classify_path o) (w.reads w0) (w.reads w1) o0 o1 old new result (most-none o (and_left o.recurse_repositories _ on)) alone asks)
 
-pub hides-none : (o : WalkOptions) → reads_files_for_rules_only o ≡ true → ignored_may_hide_repositories o.for_deletion ≡ false
-hides-none o on = go (ignored_may_hide_repositories o.for_deletion) (and_right o.recurse_repositories _ on)
+pub hides-none : (o : WalkOptions) → reads_files_for_rules_only o ≡ true → deletion_skips_search_of_ignored_directories o.for_deletion ≡ false
+hides-none o on = go (deletion_skips_search_of_ignored_directories o.for_deletion) (and_right o.recurse_repositories _ on)
   where
     go : (b : Bool) → not b ≡ true → b ≡ false
     go true e = absurd (cc e)

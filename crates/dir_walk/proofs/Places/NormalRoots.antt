@@ -16,7 +16,7 @@ use Rattle.dir_classify.specs.declared.error.Error.TheVariants as errors
 use Rattle.dir_classify.specs.declared.error.MetadataWhy.TheVariants as metadata
 use Rattle.dir_classify.specs.declared.entry.Kind.TheVariants.{Untrackable, File, Symlink, Directory, Repository}
 use Rattle.dir_classify.specs.Layers.{WalkSetting, kind_of_node_at}
-use Rattle.dir_walk.specs.Root.{TraversalRootResult, outside, continue_past_component, traversal_root_before_normalizing, traversal_root_of_normal_path, traversal_root_unless_outside, traversal_root_through_components, rooted, find_traversal_root}
+use Rattle.dir_walk.specs.Root.{TraversalRootResult, outside, continue_past_component, explicit_or_common_root_before_normalizing, traversal_root_of_normal_path, traversal_root_unless_outside, traversal_root_through_components, rooted, find_traversal_root}
 use Rattle.dir_walk.specs.Rooting.{IsErrorOfRootResult, IsNormalRootPath}
 
 some_is : {X : Type 0} {x y : X} → Some x ≡ Some y → x ≡ y
@@ -93,19 +93,19 @@ normal-root path root e relative = go (components_after_resolving_all [] (compon
 
 -- ---- the traversal root, by what was asked for
 
-pub root-outside : (given : WalkSetting) (t : Names) (explicit : Option (List ℕ)) (asked : List ℕ) → asked ≡ traversal_root_before_normalizing given t explicit → normalized asked ≡ None
+pub root-outside : (given : WalkSetting) (t : Names) (explicit : Option (List ℕ)) (asked : List ℕ) → asked ≡ explicit_or_common_root_before_normalizing given t explicit → normalized asked ≡ None
     → find_traversal_root given t explicit ≡ outside asked
 unfolding find_traversal_root
 root-outside given t explicit asked is none =
     ap (λ (a : List ℕ). traversal_root_unless_outside given t a (normalized a)) (sym is) ∙ ap (traversal_root_unless_outside given t asked) none
 
-pub root-absolute : (given : WalkSetting) (t : Names) (explicit : Option (List ℕ)) (asked path : List ℕ) → asked ≡ traversal_root_before_normalizing given t explicit → normalized asked ≡ Some path
+pub root-absolute : (given : WalkSetting) (t : Names) (explicit : Option (List ℕ)) (asked path : List ℕ) → asked ≡ explicit_or_common_root_before_normalizing given t explicit → normalized asked ≡ Some path
     → is_absolute path ≡ true → find_traversal_root given t explicit ≡ outside asked
 unfolding find_traversal_root
 root-absolute given t explicit asked path is some absolute =
     ap (λ (a : List ℕ). traversal_root_unless_outside given t a (normalized a)) (sym is) ∙ ap (traversal_root_unless_outside given t asked) some ∙ rw absolute refl
 
-pub root-normalized : (given : WalkSetting) (t : Names) (explicit : Option (List ℕ)) (asked path : List ℕ) → asked ≡ traversal_root_before_normalizing given t explicit → normalized asked ≡ Some path
+pub root-normalized : (given : WalkSetting) (t : Names) (explicit : Option (List ℕ)) (asked path : List ℕ) → asked ≡ explicit_or_common_root_before_normalizing given t explicit → normalized asked ≡ Some path
     → is_absolute path ≡ false → traversal_root_of_normal_path given t path ≡ find_traversal_root given t explicit
 unfolding find_traversal_root
 root-normalized given t explicit asked path is some relative =
@@ -114,7 +114,7 @@ root-normalized given t explicit asked path is some relative =
 -- a traversal root is one that was made normal
 pub root-shape : (given : WalkSetting) (t : Names) (explicit : Option (List ℕ)) (root : List ℕ) → find_traversal_root given t explicit ≡ rooted root → IsNormalRootPath root
 unfolding find_traversal_root
-root-shape given t explicit root e = by (normalized (traversal_root_before_normalizing given t explicit)) refl e
+root-shape given t explicit root e = by (normalized (explicit_or_common_root_before_normalizing given t explicit)) refl e
   where
     past : (full : List ℕ) (at : ℕ) (kind : Option Kind) (further : TraversalRootResult) → continue_past_component full at kind further ≡ rooted root → further ≡ rooted root
     past full at None further f = absurd (cc f)
@@ -130,12 +130,12 @@ root-shape given t explicit root e = by (normalized (traversal_root_before_norma
         through path (path_joined_with_slash directory name) (at + 1) names
         (past (root_joined_with_relative given.root (path_joined_with_slash directory name)) at (kind_of_node_at t (root_joined_with_relative given.root (path_joined_with_slash directory name)) false) (traversal_root_through_components given t (rooted path) (path_joined_with_slash directory name) (at + 1) names) f)
 
-    inside : (path : List ℕ) (b : Bool) → normalized (traversal_root_before_normalizing given t explicit) ≡ Some path → is_absolute path ≡ b
-        → (if b then outside (traversal_root_before_normalizing given t explicit) else traversal_root_of_normal_path given t path) ≡ rooted root → IsNormalRootPath root
+    inside : (path : List ℕ) (b : Bool) → normalized (explicit_or_common_root_before_normalizing given t explicit) ≡ Some path → is_absolute path ≡ b
+        → (if b then outside (explicit_or_common_root_before_normalizing given t explicit) else traversal_root_of_normal_path given t path) ≡ rooted root → IsNormalRootPath root
     inside path true is absolute f = absurd (cc f)
-    inside path false is relative f = subst IsNormalRootPath (through path [] 0 (components path) f) (normal-root (traversal_root_before_normalizing given t explicit) path is relative)
+    inside path false is relative f = subst IsNormalRootPath (through path [] 0 (components path) f) (normal-root (explicit_or_common_root_before_normalizing given t explicit) path is relative)
 
-    by : (o : Option (List ℕ)) → normalized (traversal_root_before_normalizing given t explicit) ≡ o → traversal_root_unless_outside given t (traversal_root_before_normalizing given t explicit) o ≡ rooted root → IsNormalRootPath root
+    by : (o : Option (List ℕ)) → normalized (explicit_or_common_root_before_normalizing given t explicit) ≡ o → traversal_root_unless_outside given t (explicit_or_common_root_before_normalizing given t explicit) o ≡ rooted root → IsNormalRootPath root
     by None is f = absurd (cc f)
     by (Some path) is f = inside path (is_absolute path) is refl f
 
@@ -154,18 +154,18 @@ only_top end (errors.SymlinkMetadata full metadata.Fault) h = tt
 only_top end (errors.TooDeep at) h = absurd h
 only_top end errors.OutOfMemory h = tt
 
-module _ (given : WalkSetting) (t : Names) (explicit : Option (List ℕ)) (asked : List ℕ) (is : (asked ≡ traversal_root_before_normalizing given t explicit) ⊎ (asked ≡ [])) where
+module _ (given : WalkSetting) (t : Names) (explicit : Option (List ℕ)) (asked : List ℕ) (is : (asked ≡ explicit_or_common_root_before_normalizing given t explicit) ⊎ (asked ≡ [])) where
   pub ends-outside : normalized asked ≡ None → find_traversal_root given t explicit ≡ outside asked
   ends-outside none = by is
     where
-      by : (asked ≡ traversal_root_before_normalizing given t explicit) ⊎ (asked ≡ []) → find_traversal_root given t explicit ≡ outside asked
+      by : (asked ≡ explicit_or_common_root_before_normalizing given t explicit) ⊎ (asked ≡ []) → find_traversal_root given t explicit ≡ outside asked
       by (inl same) = root-outside given t explicit asked same none
       by (inr top) = absurd (let f : normalized [] ≡ None = ap normalized (sym top) ∙ none in cc f)
 
   pub ends-absolute : (path : List ℕ) → normalized asked ≡ Some path → is_absolute path ≡ true → find_traversal_root given t explicit ≡ outside asked
   ends-absolute path some absolute = by is
     where
-      by : (asked ≡ traversal_root_before_normalizing given t explicit) ⊎ (asked ≡ []) → find_traversal_root given t explicit ≡ outside asked
+      by : (asked ≡ explicit_or_common_root_before_normalizing given t explicit) ⊎ (asked ≡ []) → find_traversal_root given t explicit ≡ outside asked
       by (inl same) = root-absolute given t explicit asked path same some absolute
       by (inr top) =
           let f : normalized [] ≡ Some path = ap normalized (sym top) ∙ some in
@@ -174,7 +174,7 @@ module _ (given : WalkSetting) (t : Names) (explicit : Option (List ℕ)) (asked
   pub ends-through : (path : List ℕ) (e : Error) → normalized asked ≡ Some path → is_absolute path ≡ false → IsErrorOfRootResult (traversal_root_of_normal_path given t path) e → IsErrorOfRootResult (find_traversal_root given t explicit) e
   ends-through path e some relative h = by is
     where
-      by : (asked ≡ traversal_root_before_normalizing given t explicit) ⊎ (asked ≡ []) → IsErrorOfRootResult (find_traversal_root given t explicit) e
+      by : (asked ≡ explicit_or_common_root_before_normalizing given t explicit) ⊎ (asked ≡ []) → IsErrorOfRootResult (find_traversal_root given t explicit) e
       by (inl same) = subst (λ (end : TraversalRootResult). IsErrorOfRootResult end e) (root-normalized given t explicit asked path same some relative) h
       by (inr top) =
           let f : normalized [] ≡ Some path = ap normalized (sym top) ∙ some in
@@ -184,6 +184,6 @@ module _ (given : WalkSetting) (t : Names) (explicit : Option (List ℕ)) (asked
   pub root-or-top : (path : List ℕ) → normalized asked ≡ Some path → is_absolute path ≡ false → traversal_root_of_normal_path given t path ≡ rooted path → (find_traversal_root given t explicit ≡ rooted path) ⊎ (path ≡ [])
   root-or-top path some relative through = by is
     where
-      by : (asked ≡ traversal_root_before_normalizing given t explicit) ⊎ (asked ≡ []) → (find_traversal_root given t explicit ≡ rooted path) ⊎ (path ≡ [])
+      by : (asked ≡ explicit_or_common_root_before_normalizing given t explicit) ⊎ (asked ≡ []) → (find_traversal_root given t explicit ≡ rooted path) ⊎ (path ≡ [])
       by (inl same) = inl (sym (root-normalized given t explicit asked path same some relative) ∙ through)
       by (inr top) = let f : normalized [] ≡ Some path = ap normalized (sym top) ∙ some in inr (sym (some_is f))

@@ -1,10 +1,11 @@
 -- How far a lookup has come in its loops.
 use Rattle.std.proofs.Common.{◌≡◌, ℕ, ◌+◌, ◌-◌, ◌<◌, ◌≤◌, Bool, true, false, List, [], ◌∷◌, ◌++◌, length, take, drop, get_or, Result, Ok, Err, OnOk, OnErr, replicate, Option, Some, refl, sym, ap, subst, ◌∙◌, arith, append_assoc}
+use Rattle.std.specs.Prelude.{IsErrAnd}
 use Rattle.std.proofs.lemmas.List.{append-nil, take_more, take_all}
 use Rattle.std.proofs.lemmas.Grind.{replicate_next}
 use Rattle.worktree_fs.specs.Paths.{slash_joined_components, is_nil, all_but_last}
 use Rattle.worktree_fs.specs.PathStack.{PathStackModel, CallWithRefusal, DelegateCall, pop_directory, push, call_with_refusal, parent_of_deepest_directory, deepest_components_or_root, stack_with_deepest_current, stack_after_lookup, number_of_directories_to_pop, shared_proper_ancestor_components, delegate_calls_to_push_root, delegate_calls_of_lookup, delegate_calls_of_component, delegate_calls_of_components, AppendsGrantedDelegateCalls, IsNothingOrProperAncestor}
-use Rattle.worktree_fs.specs.Stops.{StopsByLookupError, HoldsOfDelegateError, HoldsUnlessDelegateError}
+use Rattle.worktree_fs.specs.Stops.{CountsRefusalsAndKeepsDelegateRule, StopsByLookupError, HoldsOfDelegateError, HoldsUnlessDelegateError}
 use Rattle.worktree_fs.specs.Causes.{CountIncreasedOrSaturated}
 use Rattle.worktree_fs.specs.declared.path_stack.delegate.PathStackError.{PathStackError}
 use Rattle.worktree_fs.specs.declared.path_stack.delegate.PathStackError.TheVariants.{NotNormal, Delegate, OutOfMemory}
@@ -193,17 +194,53 @@ module _ (s0 s : PathStackModel) (old new : List CallWithRefusal) (whole rest : 
       so_far.calls ∙ ap (λ l. so_far.made ++ delegate_calls_of_components s.current l) none ∙ append-nil so_far.made in
       rw calls_is so_far.given
 
--- a count that rose in a later step rose from the first on
-pub risen : {E : Type 0} (before mid now : ℕ) (e : PathStackError E) → before ≤ mid → HoldsOfDelegateError (λ _. CountIncreasedOrSaturated mid now) e → HoldsOfDelegateError (λ _. CountIncreasedOrSaturated before now) e
-risen before mid now NotNormal low rose = tt
-risen before mid now (Delegate error) low rose = omega arith
-risen before mid now OutOfMemory low rose = tt
+-- a step after others that were granted counts refusals, and keeps the delegate's rule, from the first of them on
+module _ {D E : Type 0} (refusals : D → ℕ) (causes : D → E → Type 0) (rule : D → D → Type 0) (old mid new : D)
+    (unrefused : refusals mid ≡ refusals old) (later : refusals old ≤ refusals mid) (ruled : (first : D) → rule first old → rule first mid) where
+  rises-from_first : (e : PathStackError E) → HoldsOfDelegateError (λ _. CountIncreasedOrSaturated (refusals mid) (refusals new)) e → HoldsOfDelegateError (λ _. CountIncreasedOrSaturated (refusals old) (refusals new)) e
+  rises-from_first NotNormal rose = tt
+  rises-from_first (Delegate error) rose = omega (arith, later, rose)
+  rises-from_first OutOfMemory rose = tt
 
--- a count that stayed in a later step too stayed from the first on
-pub stayed : {E : Type 0} (before mid now : ℕ) (e : PathStackError E) → mid ≡ before → HoldsUnlessDelegateError (now ≡ mid) e → HoldsUnlessDelegateError (now ≡ before) e
-stayed before mid now NotNormal first then = then ∙ first
-stayed before mid now (Delegate error) first then = tt
-stayed before mid now OutOfMemory first then = then ∙ first
+  stays-from_first : (e : PathStackError E) → HoldsUnlessDelegateError (refusals new ≡ refusals mid) e → HoldsUnlessDelegateError (refusals new ≡ refusals old) e
+  stays-from_first NotNormal stayed = stayed ∙ unrefused
+  stays-from_first (Delegate error) stayed = tt
+  stays-from_first OutOfMemory stayed = stayed ∙ unrefused
+
+  pub counts-after : {T : Type 0} (r : Result T (PathStackError E)) → CountsRefusalsAndKeepsDelegateRule refusals causes rule mid new r → CountsRefusalsAndKeepsDelegateRule refusals causes rule old new r
+  counts-after (Ok x) step = record {
+    counted = tt;
+    uncounted = tt;
+    cause = tt;
+    unrefused = step.unrefused ∙ unrefused;
+    later = omega (arith, later, step.later);
+    ruled = λ first held. step.ruled first (ruled first held);
+  }
+  counts-after (Err e) step = record {
+    counted = rises-from_first e step.counted;
+    uncounted = stays-from_first e step.uncounted;
+    cause = step.cause;
+    unrefused = tt;
+    later = omega (arith, later, step.later);
+    ruled = λ first held. step.ruled first (ruled first held);
+  }
+
+  -- the same where its error is handed on
+  pub counts-handed_on : {T U : Type 0} (r : Result T (PathStackError E)) (e : PathStackError E) → IsErrAnd r (λ x. x ≡ e)
+      → CountsRefusalsAndKeepsDelegateRule {T = U} refusals causes rule mid new (Err e) → CountsRefusalsAndKeepsDelegateRule refusals causes rule old new r
+  counts-handed_on (Ok x) e same step = absurd same
+  counts-handed_on {T} {U} (Err x) e same step =
+      subst (λ (x : PathStackError E). CountsRefusalsAndKeepsDelegateRule {T = T} refusals causes rule old new (Err x)) (sym same) (of_any (counts-after (Err e) step))
+    where
+      of_any : CountsRefusalsAndKeepsDelegateRule {T = U} refusals causes rule old new (Err e) → CountsRefusalsAndKeepsDelegateRule {T = T} refusals causes rule old new (Err e)
+      of_any whole = record {
+        counted = whole.counted;
+        uncounted = whole.uncounted;
+        cause = whole.cause;
+        unrefused = tt;
+        later = whole.later;
+        ruled = whole.ruled;
+      }
 
 -- what holds where a call was refused
 pub on_err : {T E P : Type 0} (r : Result T E) → P → OnErr r P

@@ -9,7 +9,7 @@ ghost use Rattle.worktree_fs.specs.Disk.{has_nul, is_non_utf8_without_nul, IsCom
 ghost use Rattle.worktree_fs.specs.Naming.{AreDistinctValidEntryNames, is_valid_entry_name};
 ghost use Rattle.worktree_fs.specs.Order.{compare_path_bytes};
 
-use super::node::{is_path_absence_error, kind_at_path, system_path_from_current_dir};
+use super::node::{is_path_absence_error, kind_at_path, system_path_relative_to_cwd_if_beneath};
 use crate::composed::nfc_if_composing;
 use crate::names::{is_dot, is_dot_dot, is_valid_entry_name, split_once_at_byte};
 use crate::{ListError, NameList, NodeKind};
@@ -44,7 +44,7 @@ pub fn list_directory(
         → IsErrOf result ListError.OpenFault }
     ensures nowhere { IsTrue (has_nul path.now) → IsErrOf result ListError.Absent }
 {
-    let Ok(text) = system_path_from_current_dir(path, current) else {
+    let Ok(text) = system_path_relative_to_cwd_if_beneath(path, current) else {
         return Err(ListError::OpenFault);
     };
     let Some(text) = text else {

@@ -84,7 +84,7 @@ fn is_nonempty_relative_path(path: &str) -> bool
 /// # Errors
 ///
 /// - `Fault` exactly where std cannot ask the system for it.
-pub fn system_path_from_current_dir<'p>(
+pub fn system_path_relative_to_cwd_if_beneath<'p>(
     path: &'p [u8],
     current: &str,
 ) -> Result<Option<&'p str>, ReadError>
@@ -138,7 +138,7 @@ pub fn kind_at_path(
     ensures unaskable { IsTrue (is_non_utf8_without_nul path.now) → IsErrOf result ReadError.Fault }
     ensures nowhere { IsTrue (has_nul path.now) → result ≡ Ok None }
 {
-    let Some(text) = system_path_from_current_dir(path, current)? else {
+    let Some(text) = system_path_relative_to_cwd_if_beneath(path, current)? else {
         return Ok(None);
     };
     let metadata = if follow {
@@ -191,7 +191,7 @@ fn read_file_bytes(
 ) -> Result<Vec<u8>, ReadError>
     ensures { IfOk result (λ bytes. length bytes.items ≤ 2 ^ 30) }
 {
-    let Some(text) = system_path_from_current_dir(path, current)? else {
+    let Some(text) = system_path_relative_to_cwd_if_beneath(path, current)? else {
         return Err(ReadError::Fault);
     };
     let Ok(file) = File::open(rt, text) else {
@@ -309,7 +309,7 @@ pub fn remove_node(rt: &HostRuntime, current: &str, path: &[u8]) -> Result<Remov
         None => Ok(RemoveAnswer::Absent),
         Some(NodeKind::Directory) => Ok(RemoveAnswer::IsDirectory),
         Some(_) => {
-            let Some(text) = system_path_from_current_dir(path, current)? else {
+            let Some(text) = system_path_relative_to_cwd_if_beneath(path, current)? else {
                 return Ok(RemoveAnswer::Absent);
             };
             match rt.remove_file(text) {

@@ -1,6 +1,6 @@
 //! What the lines of a setup mean together.
 ghost use Rattle.std.specs.Prelude.{◌≡◌, [], IfOk};
-ghost use Rattle.worktree_report.specs.SetupMeant.{emit_untracked_from_options, emit_ignored_from_options, emit_collapsed_from_options, for_deletion_from_options, ignore_source_from_options, permissions_from_options, strategy_from_options, classification_options, reporting_options, setup_options_from_lines, value_of_named_option, depth_limit_from_options, insert_paths_in_order, setup_from_draft};
+ghost use Rattle.worktree_report.specs.SetupMeant.{emit_untracked_from_options, emit_ignored_from_options, emit_collapsed_from_options, for_deletion_from_options, ignore_source_from_options, permissions_from_options, walk_strategy_of_setup_options, classification_options, reporting_options, setup_options_from_lines, value_of_named_option, depth_limit_from_options, insert_paths_in_order, setup_from_draft};
 
 use crate::permissions::Permissions;
 use crate::setup::configs::Configs;
@@ -98,8 +98,8 @@ fn permissions_from_options(options: &[SetupOption]) -> Permissions
 }
 
 /// How the walk goes.
-fn strategy_from_options(options: &[SetupOption]) -> Strategy
-    ensures { result ≡ strategy_from_options options.now }
+fn walk_strategy_of_setup_options(options: &[SetupOption]) -> Strategy
+    ensures { result ≡ walk_strategy_of_setup_options options.now }
 {
     if is_option_set_to(b"strategy", b"at_once", options) {
         Strategy::AtOnce
@@ -160,7 +160,7 @@ fn classification_options(options: &[SetupOption]) -> Looking
         strict_parents: is_option_set_to(b"strict_parents", b"yes", options),
         for_deletion: for_deletion_from_options(options),
         ignore_source: ignore_source_from_options(options),
-        strategy: strategy_from_options(options),
+        strategy: walk_strategy_of_setup_options(options),
     }
 }
 

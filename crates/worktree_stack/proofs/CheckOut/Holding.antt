@@ -10,7 +10,7 @@ use Rattle.worktree_fs.specs.Tree.{Names, reached, directory, none, look, lookup
 use Rattle.worktree_fs.proofs.Paths.Spelled.{component_from}
 use Rattle.worktree_stack.specs.Checkout.{IsTreeAfterEnsuringDirectory, LeadsToDirectory}
 use Rattle.worktree_stack.specs.ChecksOut.{ReadSameInDirectories, AreDirectoriesBelowRoot, IsPathWithoutLinksOrDots, IsDirectoryBelowRoot, ReadSameAtPlaces}
-use Rattle.worktree_stack.specs.GoesOn.{IsTreeUnchangedOrDeepestEmpty, IsDeepestDirectoryEmpty, AddsOnlyDirectories, HoldsForLaterTree, HoldsForPresentTree}
+use Rattle.worktree_stack.specs.GoesOn.{IsTreeUnchangedOrDeepestEmpty, IsDeepestDirectoryEmpty, KeepsDirectoriesAndNewNodesAreDirectories, HoldsForLaterTree, HoldsForPresentTree}
 use Rattle.worktree_stack.specs.Reading.{TreeAndObjects, rules_texts_of_readings, places_of_directory, readings_of_directory, rules_texts_of_directory, is_read_without_refusal}
 use Rattle.worktree_stack.specs.Setup.{HeldAttributeLists, HeldIgnoreRules, StackSetup, held_attribute_lists, setup_of_held_ignore_rules}
 use Rattle.worktree_stack.specs.Stacked.{HoldsRulesOfTree, AppendsAttributeListsOfTree, pushed_directories}
@@ -59,7 +59,7 @@ module _ (made : StackSetup) (s0 : TreeAndObjects) (alone : made.ignore ≡ None
   -- what is held holds for the tree that is there now
   pub kept-now : (t : Names) (at : Option (List (List ℕ))) (attributes : Option HeldAttributeLists) (ignore : Option HeldIgnoreRules) → HoldsForLaterTree made s0 t at attributes ignore → HoldsForPresentTree made s0 t at attributes ignore
   kept-now t at attributes ignore k =
-      record { holds = λ end objects is same. k.holds end objects (λ changed. subst (λ (x : Names). AddsOnlyDirectories t x) (sym is) (later-refl t)) same; there = k.there }
+      record { holds = λ end objects is same. k.holds end objects (λ changed. subst (λ (x : Names). KeepsDirectoriesAndNewNodesAreDirectories t x) (sym is) (later-refl t)) same; there = k.there }
 
   -- a stack that is in step with the tree before anything is changed
   pub keeping-first : (at : Option (List (List ℕ))) (attributes : Option HeldAttributeLists) (ignore : Option HeldIgnoreRules) → setup_of_held_ignore_rules ignore ≡ None → HoldsRulesOfTree made s0 (pushed_directories at) attributes ignore → AreDirectoriesBelowRoot made.root s0.tree (pushed_directories at)
@@ -96,15 +96,15 @@ module _ (made : StackSetup) (s0 : TreeAndObjects) (alone : made.ignore ≡ None
     ]
 
     -- what was pushed is there in the new tree, which came of the old one by directories alone once something is changed
-    kept-there : (changed : Bool) → IsTreeUnchangedOrDeepestEmpty changed made.root s0.tree t (Some names) → (changed ≡ true → AddsOnlyDirectories t t1) × AreDirectoriesBelowRoot made.root t1 (pushed_directories (Some names))
+    kept-there : (changed : Bool) → IsTreeUnchangedOrDeepestEmpty changed made.root s0.tree t (Some names) → (changed ≡ true → KeepsDirectoriesAndNewNodesAreDirectories t t1) × AreDirectoriesBelowRoot made.root t1 (pushed_directories (Some names))
     kept-there changed hand = elim replaced [
-      | inl same ↦ ((λ e. subst (AddsOnlyDirectories t) (sym same) (later-refl t)), subst (λ (x : Names). AreDirectoriesBelowRoot made.root x (all_prefixes_shortest_first names)) (sym same) k.there)
+      | inl same ↦ ((λ e. subst (KeepsDirectoriesAndNewNodesAreDirectories t) (sym same) (later-refl t)), subst (λ (x : Names). AreDirectoriesBelowRoot made.root x (all_prefixes_shortest_first names)) (sym same) k.there)
       | inr (inl makes) ↦ ((λ e. later-made makes), there-later made.root t t1 (all_prefixes_shortest_first names) (later-made makes) k.there)
       | inr (inr (on, mid, removed, after)) ↦ gone changed hand on mid removed after
     ]
       where
         gone : (changed : Bool) → IsTreeUnchangedOrDeepestEmpty changed made.root s0.tree t (Some names) → unlinks ≡ true → (mid : Names) → NodeRemovedAtPath q t mid → (t1 ≡ mid) ⊎ DirectoryMadeAtPath q mid t1
-            → (changed ≡ true → AddsOnlyDirectories t t1) × AreDirectoriesBelowRoot made.root t1 (pushed_directories (Some names))
+            → (changed ≡ true → KeepsDirectoriesAndNewNodesAreDirectories t t1) × AreDirectoriesBelowRoot made.root t1 (pushed_directories (Some names))
         gone true fresh on mid removed after = absurd (lost-removed t mid q (lost fresh) removed)
         gone false same on mid removed after =
             let there : AreDirectoriesBelowRoot made.root mid (all_prefixes_shortest_first names) = still-there same on mid removed after in (
@@ -119,7 +119,7 @@ module _ (made : StackSetup) (s0 : TreeAndObjects) (alone : made.ignore ≡ None
     pub kept-step : HoldsForPresentTree made s0 t1 (Some names) attributes ignore
     kept-step =
         let x = kept-there k.changed k.at_hand in
-        record { holds = λ end objects is same. k.holds end objects (λ changed. subst (λ (y : Names). AddsOnlyDirectories t y) (sym is) (x.0 changed)) same; there = x.1 }
+        record { holds = λ end objects is same. k.holds end objects (λ changed. subst (λ (y : Names). KeepsDirectoriesAndNewNodesAreDirectories t y) (sym is) (x.0 changed)) same; there = x.1 }
 
     -- the directory is there, and its readings are done
     module _ (attributes1 : Option HeldAttributeLists) (ignore1 : Option HeldIgnoreRules) (none1 : setup_of_held_ignore_rules ignore1 ≡ None) (leads : LeadsToDirectory t1 q)
@@ -158,7 +158,7 @@ module _ (made : StackSetup) (s0 : TreeAndObjects) (alone : made.ignore ≡ None
           front-same end same = let x = same-split end (all_prefixes_shortest_first names) ((names ++ name ∷ []) ∷ []) (subst (ReadSameInDirectories made s0.tree end) below-is same) in (x.0, x.1.0)
 
           stayed : (changed : Bool) → IsTreeUnchangedOrDeepestEmpty changed made.root s0.tree t (Some names)
-              → ((end : TreeAndObjects) → end.objects ≡ s0.objects → (changed ≡ true → AddsOnlyDirectories t end.tree) → ReadSameInDirectories made s0.tree end.tree (all_prefixes_shortest_first names) → HoldsRulesOfTree made end (all_prefixes_shortest_first names) attributes ignore)
+              → ((end : TreeAndObjects) → end.objects ≡ s0.objects → (changed ≡ true → KeepsDirectoriesAndNewNodesAreDirectories t end.tree) → ReadSameInDirectories made s0.tree end.tree (all_prefixes_shortest_first names) → HoldsRulesOfTree made end (all_prefixes_shortest_first names) attributes ignore)
               → t1 ≡ t → HoldsForLaterTree made s0 t1 (Some (names ++ name ∷ [])) attributes1 ignore1
           stayed true fresh holds same = absurd (lost-leads t q (lost fresh) (subst (λ (x : Names). LeadsToDirectory x q) same leads))
           stayed false is holds same =
@@ -172,7 +172,7 @@ module _ (made : StackSetup) (s0 : TreeAndObjects) (alone : made.ignore ≡ None
                 there = there-all;
               }
 
-          anew : ((end : TreeAndObjects) → end.objects ≡ s0.objects → AddsOnlyDirectories t1 end.tree → ReadSameInDirectories made s0.tree end.tree (all_prefixes_shortest_first names) → HoldsRulesOfTree made end (all_prefixes_shortest_first names) attributes ignore)
+          anew : ((end : TreeAndObjects) → end.objects ≡ s0.objects → KeepsDirectoriesAndNewNodesAreDirectories t1 end.tree → ReadSameInDirectories made s0.tree end.tree (all_prefixes_shortest_first names) → HoldsRulesOfTree made end (all_prefixes_shortest_first names) attributes ignore)
               → (trail : List (List ℕ)) → resolution_of_path t1 q false ≡ reached trail (directory none) → HoldsForLaterTree made s0 t1 (Some (names ++ name ∷ [])) attributes1 ignore1
           anew holds trail is =
               record {
@@ -188,12 +188,12 @@ module _ (made : StackSetup) (s0 : TreeAndObjects) (alone : made.ignore ≡ None
               is-fresh (n ∷ front) e = (trail, e)
 
               new-same : (front : List (List ℕ)) → resolution_of_path t1 (root_joined_with_relative made.root (slash_joined_components (front ++ name ∷ []))) false ≡ reached trail (directory none) → gitbase.AreNames (front ++ name ∷ [])
-                  → (end : Names) → AddsOnlyDirectories t1 end → ReadSameAtPlaces t1 end (places_of_directory made (slash_joined_components (front ++ name ∷ [])))
+                  → (end : Names) → KeepsDirectoriesAndNewNodesAreDirectories t1 end → ReadSameAtPlaces t1 end (places_of_directory made (slash_joined_components (front ++ name ∷ [])))
               new-same [] e are end later = fresh-same made t1 end name [] alone are later (trail, e)
               new-same (n ∷ front) e are end later = fresh-same made t1 end n (front ++ name ∷ []) alone are later (trail, e)
 
           behind : (changed : Bool) → IsTreeUnchangedOrDeepestEmpty changed made.root s0.tree t (Some names)
-              → ((end : TreeAndObjects) → end.objects ≡ s0.objects → (changed ≡ true → AddsOnlyDirectories t end.tree) → ReadSameInDirectories made s0.tree end.tree (all_prefixes_shortest_first names) → HoldsRulesOfTree made end (all_prefixes_shortest_first names) attributes ignore)
+              → ((end : TreeAndObjects) → end.objects ≡ s0.objects → (changed ≡ true → KeepsDirectoriesAndNewNodesAreDirectories t end.tree) → ReadSameInDirectories made s0.tree end.tree (all_prefixes_shortest_first names) → HoldsRulesOfTree made end (all_prefixes_shortest_first names) attributes ignore)
               → (mid : Names) → NodeRemovedAtPath q t mid → (end : TreeAndObjects) → end.objects ≡ s0.objects → ReadSameInDirectories made s0.tree end.tree (all_prefixes_shortest_first names) → HoldsRulesOfTree made end (all_prefixes_shortest_first names) attributes ignore
           behind true fresh holds mid removed end objects same = absurd (lost-removed t mid q (lost fresh) removed)
           behind false is holds mid removed end objects same = holds end objects (λ e. absurd (cc e)) same

@@ -18,7 +18,7 @@ use Rattle.worktree_fs.proofs.Paths.Spelled.{AreNames-reverse, name_from, spelle
 use Rattle.worktree_fs.proofs.Paths.TextPieces.{AreParts, IsPart, name-from_part, parts-components}
 use Rattle.worktree_stack.specs.Checkout.{LeadsToDirectory}
 use Rattle.worktree_stack.specs.ChecksOut.{AreDirectoriesBelowRoot}
-use Rattle.worktree_stack.specs.GoesOn.{IsDeepestDirectoryEmpty, AddsOnlyDirectories}
+use Rattle.worktree_stack.specs.GoesOn.{IsDeepestDirectoryEmpty, KeepsDirectoriesAndNewNodesAreDirectories}
 use Rattle.worktree_stack.proofs.CheckOut.Plain.{components-behind}
 
 abbrev pub node_of_last : Option LastNameWithNode → Option Node
@@ -33,10 +33,10 @@ same-none : (o : Option Node) → None ≡ option_map node_without_children o �
 same-none None e = refl
 same-none (Some node) e = absurd (cc e)
 
-pub later-refl : (t : Names) → AddsOnlyDirectories t t
+pub later-refl : (t : Names) → KeepsDirectoriesAndNewNodesAreDirectories t t
 later-refl t = record { stays = λ path names inner e. (inner, e); holds = λ names inner e. (inner, e); grows = λ names none. inl none }
 
-pub later-then : (a b c : Names) → AddsOnlyDirectories a b → AddsOnlyDirectories b c → AddsOnlyDirectories a c
+pub later-then : (a b c : Names) → KeepsDirectoriesAndNewNodesAreDirectories a b → KeepsDirectoriesAndNewNodesAreDirectories b c → KeepsDirectoriesAndNewNodesAreDirectories a c
 later-then a b c first second =
     record {
       stays = λ path names inner e. let x = first.stays path names inner e in second.stays path names x.0 x.1;
@@ -47,7 +47,7 @@ later-then a b c first second =
       ];
     }
 
-pub later-made : {path : List ℕ} {before now : Names} → DirectoryMadeAtPath path before now → AddsOnlyDirectories before now
+pub later-made : {path : List ℕ} {before now : Names} → DirectoryMadeAtPath path before now → KeepsDirectoriesAndNewNodesAreDirectories before now
 later-made {path} {before} {now} made =
     record {
       stays = λ q names inner e. makes-directory made q false names inner e;
@@ -58,7 +58,7 @@ later-made {path} {before} {now} made =
       ];
     }
 
-pub there-later : (root : List ℕ) (t t1 : Names) (directories : List (List (List ℕ))) → AddsOnlyDirectories t t1 → AreDirectoriesBelowRoot root t directories → AreDirectoriesBelowRoot root t1 directories
+pub there-later : (root : List ℕ) (t t1 : Names) (directories : List (List (List ℕ))) → KeepsDirectoriesAndNewNodesAreDirectories t t1 → AreDirectoriesBelowRoot root t directories → AreDirectoriesBelowRoot root t1 directories
 there-later root t t1 [] later are = tt
 there-later root t t1 ([] ∷ directories) later are = (tt, there-later root t t1 directories later are.1)
 there-later root t t1 ((name ∷ names) ∷ directories) later are =

@@ -21,7 +21,7 @@ use Rattle.worktree_fs.proofs.Paths.Spelled.{AreNames-reverse, components-spelle
 use Rattle.worktree_stack.specs.declared.attributes_source.Source.{Source as AttributesSource}
 use Rattle.worktree_stack.specs.declared.attributes_source.Source.TheVariants as attributes_sources
 use Rattle.worktree_stack.specs.ChecksOut.{ReadSameAtPlaces}
-use Rattle.worktree_stack.specs.GoesOn.{IsDeepestDirectoryEmpty, AddsOnlyDirectories}
+use Rattle.worktree_stack.specs.GoesOn.{IsDeepestDirectoryEmpty, KeepsDirectoriesAndNewNodesAreDirectories}
 use Rattle.worktree_stack.specs.Reading.{RulesPlace, in_tree, in_store, RulesReading, list_bytes_of_file_lookup, places_of_readings, places_of_directory, attribute_places_by_source, attribute_places_of_directory, info_file_readings_at_root, attribute_readings_of_directory, gitattributes_readings_of_directory, ignore_readings_of_directory}
 use Rattle.worktree_stack.specs.Refused.{IsPlaceAmong}
 use Rattle.worktree_stack.specs.Setup.{AttributesSetup, StackSetup, Setup, gitattributes_file_name, blob_id_mapped_to_path}
@@ -105,7 +105,7 @@ rules-name : IsValidEntryName gitattributes_file_name
 unfolding is_utf8_without_nul
 rules-name = ap (λ b. (b && true) && true && true && true && true) (is_utf8-from_IsUtf8 gitattributes_file_name (IsUtf8-from_ascii gitattributes_file_name rules-ascii))
 
-module _ (t end : Names) (later : AddsOnlyDirectories t end) (above : List ℕ) (trail : List (List ℕ)) (fresh : resolution_of_path t above false ≡ reached trail (directory none)) where
+module _ (t end : Names) (later : KeepsDirectoriesAndNewNodesAreDirectories t end) (above : List ℕ) (trail : List (List ℕ)) (fresh : resolution_of_path t above false ≡ reached trail (directory none)) where
   named-rules : IsValidEntryName gitattributes_file_name
   named-rules = rules-name
 
@@ -138,7 +138,7 @@ no-info (Some path) [] some = absurd (some refl)
 no-info (Some path) (b ∷ bs) some = refl
 
 -- the readings of a directory that is new are the same later
-pub fresh-same : (made : StackSetup) (t end : Names) (name : List ℕ) (names : List (List ℕ)) → made.ignore ≡ None → gitbase.AreNames (name ∷ names) → AddsOnlyDirectories t end → IsDeepestDirectoryEmpty made.root t (Some (name ∷ names))
+pub fresh-same : (made : StackSetup) (t end : Names) (name : List ℕ) (names : List (List ℕ)) → made.ignore ≡ None → gitbase.AreNames (name ∷ names) → KeepsDirectoriesAndNewNodesAreDirectories t end → IsDeepestDirectoryEmpty made.root t (Some (name ∷ names))
     → ReadSameAtPlaces t end (places_of_directory made (slash_joined_components (name ∷ names)))
 fresh-same made t end name names alone are later fresh = all made.attributes made.ignore alone
   where

@@ -7,8 +7,8 @@ ghost use Rattle.worktree_fs.specs.PathStack.{deepest_components_or_root, parent
 ghost use Rattle.worktree_stack.specs.Counted.{with_lookup_counted, delegate_counts_after_call};
 ghost use Rattle.worktree_stack.specs.Excludes.{proper_ancestor_directories};
 ghost use Rattle.worktree_stack.specs.HeldOut.{AppendsListsOfCheckout};
-ghost use Rattle.worktree_stack.specs.Lookups.{IsChildOfDirectory, is_dir_by_mode, directories_kept_by_lookup, stack_after_pushing_component, one_if_refused};
-ghost use Rattle.worktree_stack.specs.Making.{CheckoutLookupOptions, mkdir_count_of_stack};
+ghost use Rattle.worktree_stack.specs.Lookups.{IsChildOfDirectory, is_dir_by_mode, is_dir_by_mode_or_slash, directories_kept_by_lookup, stack_after_pushing_component, one_if_refused};
+ghost use Rattle.worktree_stack.specs.Making.{CheckoutLookupOptions, is_symlink_by_mode, mkdir_count_of_stack};
 ghost use Rattle.worktree_stack.specs.Moments.{worktree_store_and_stack};
 ghost use Rattle.worktree_stack.specs.Reading.{TreeAndObjects, Tells};
 ghost use Rattle.worktree_stack.specs.Stacked.{setup_of_stack, pushed_directories};
@@ -394,6 +394,21 @@ pub(super) fn mode_is_dir(mode: Option<Mode>) -> Option<bool>
     match mode {
         Some(mode) => Some(mode.is_submodule() || mode.is_sparse()),
         None => None,
+    }
+}
+
+/// The mode of an entry of an index: without one, a path that ends in a slash is a directory.
+pub(super) fn entry_mode(relative: &[u8], mode: Option<Mode>) -> Option<Mode>
+    ensures is_dir { is_dir_by_mode result ≡ is_dir_by_mode_or_slash relative.now mode }
+    ensures is_link { is_symlink_by_mode result ≡ is_symlink_by_mode mode }
+{
+    match mode {
+        Some(mode) => Some(mode),
+        None => if relative.ends_with(b"/") {
+            Some(Mode::DIR)
+        } else {
+            None
+        },
     }
 }
 

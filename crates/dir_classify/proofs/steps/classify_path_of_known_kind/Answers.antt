@@ -45,7 +45,7 @@ returns-then-index_and_disk_agree_on_directory g c = λ ask_disk.
     let kind = c.args.kind in
     let none = sym c.is_in_worktree_set.ensures ∙ c.if-is_in_worktree_set.false in
     let is = sym c.index_and_disk_agree_on_directory.ensures ∙ c.if-index_and_disk_agree_on_directory.true in
-    let then = c.in_ok-class.ensures in
+    let then = c.in_ok-class.ensures.classifies in
     unruled g.W.Worktree g.F.Find c.args.worktree.now c.classify_indexed_path.new.worktree c.args.objects.now c.args.excludes.now given (question_about_known_kind o path kind ask_disk) c.in_ok-class.class
     then.keeps then.reads_most
     (λ s told quiet. then.class s told quiet made
@@ -62,7 +62,7 @@ returns-then-index_and_disk_agree_on_directory g c = λ ask_disk.
     (λ s no. let ev = evidence_from_setting_and_sources given made s in
     let idle = ap (λ (e : InIndex). skips_repository_test o (is_directory_of_indexed_submodule e kind)) (c.requires.entry ∙ sym (in_index-of given made s path))
     ∙ idle-indexed o ev path kind none (indexed-as given made s path c.args.entry kind true c.requires.entry is) no in
-    (then.unasked idle, then.certain idle made s ∙ indexed-case o ev path kind none (indexed-as given made s path c.args.entry kind true c.requires.entry is)))
+    (then.unasked idle, c.in_ok-class.ensures.certain idle made s ∙ indexed-case o ev path kind none (indexed-as given made s path c.args.entry kind true c.requires.entry is)))
 
 pub returns : goal.returns
 returns g c = λ ask_disk.
@@ -75,7 +75,7 @@ returns g c = λ ask_disk.
     let not_indexed = sym c.index_and_disk_agree_on_directory.ensures ∙ c.if-index_and_disk_agree_on_directory.false in
     let not_found = ap (λ (e : InIndex). index_and_disk_agree_on_directory e kind) (sym c.requires.entry) ∙ not_indexed in
     let first = c.in_ok-ruling.ensures in
-    let then = c.in_ok-class-2.ensures in
+    let then = c.in_ok-class-2.ensures.classifies in
     record {
       class = λ s tells step quiet.
           then.class s (first.asking.keeps.tree ∙ tells.tree_is) (quiet-second _ _ _ first.asking.keeps.faults then.keeps.faults quiet) made
@@ -134,7 +134,7 @@ returns g c = λ ask_disk.
       certain = λ s no.
           let parts = idle-unindexed given made s path kind none not_found no in
           let none_ruled = first.no_rules parts.0 in
-          then.certain (ap (λ (r : Ruling). r.kind) none_ruled) parts.1 made s
+          c.in_ok-class-2.ensures.certain (ap (λ (r : Ruling). r.kind) none_ruled) parts.1 made s
           ∙ ap (λ (r : Ruling). outcome_of_unindexed_path o (evidence_from_setting_and_sources given made s) path kind r) (none_ruled ∙ ruling-none given made s path kind parts.0)
           ∙ unindexed-case o (evidence_from_setting_and_sources given made s) path kind none (indexed-as given made s path c.args.entry kind false c.requires.entry not_indexed);
     }
@@ -201,7 +201,7 @@ returns-in_err-class-2 g c = λ ask_disk.
     let not_indexed = sym c.index_and_disk_agree_on_directory.ensures ∙ c.if-index_and_disk_agree_on_directory.false in
     let not_found = ap (λ (e : InIndex). index_and_disk_agree_on_directory e kind) (sym c.requires.entry) ∙ not_indexed in
     let first = c.in_ok-ruling.ensures in
-    let then = c.in_err-class-2.ensures in
+    let then = c.in_err-class-2.ensures.classifies in
     record {
       class = search rules;
       read = search rules;

@@ -31,7 +31,7 @@ returns-in_err-refuse_link_in_root_components-in-Some-clause-fault g c = λ befo
     let p = err_from_is_err_and c.from_residual-in_err-refuse_link_in_root_components-in-Some.result c.from_residual-in_err-refuse_link_in_root_components-in-Some.ensures.1 in
     rw (p.1, p.2)
     (through-fault c.args.shared.now.worktree_root.now c.as_bytes-in-Some.result.now c.in_err-refuse_link_in_root_components-in-Some.field-0.0
-    (CountIncreasedOrSaturated (g.W.Worktree.faults c.traversal_root_before_normalizing.new.worktree) (g.W.Worktree.faults c.refuse_link_in_root_components.new.worktree))
+    (CountIncreasedOrSaturated (g.W.Worktree.faults c.explicit_or_common_root_before_normalizing.new.worktree) (g.W.Worktree.faults c.refuse_link_in_root_components.new.worktree))
     (CountIncreasedOrSaturated (g.W.Worktree.faults c.args.worktree.now) (g.W.Worktree.faults c.refuse_link_in_root_components.new.worktree)) (CountIncreasedOrSaturated before now)
     c.in_err-refuse_link_in_root_components-in-Some.ensures.about
     (λ more. let k = c.in_ok-asked.ensures.keeps.faults in omega (arith, k, more))

@@ -15,7 +15,7 @@ returns-in_err-first g c =
       answer_is = refl;
       walks = subst
           (λ (l : Listing). AnswersWorkTreeCommand g.W.Worktree g.I.Interrupt g.O.Owners c.args.worktree.now c.answer_ls_files.new.worktree c.args.interrupt.now c.answer_ls_files.new.interrupt c.args.owners.now c.answer_ls_files.new.owners
-          (λ t owned. found_checked_for_ls_files t owned c.args.here.now.current.now c.args.here.now.variables.now c.args.here.now.directory.now (record c.args.wants { listing = l }) c.args.asked.now) (listing_of (record c.args.wants { listing = l })) (Err c.in_err-first.field-0.0))
+          (λ t owned. found_checked_for_ls_files t owned c.args.here.now.current.now c.args.here.now.variables.now c.args.here.now.directory.now (record c.args.both.files { listing = l }) c.args.asked.now) (listing_of (record c.args.both.files { listing = l })) (Err c.in_err-first.field-0.0))
           c.ls_files_options_for_walk_alone-wants.ensures c.in_err-first.ensures;
       stats = refl;
     }))
@@ -29,7 +29,7 @@ returns g c =
       second = c.answer_ls_files_changed-second.result;
       walks = subst
           (λ (l : Listing). AnswersWorkTreeCommand g.W.Worktree g.I.Interrupt g.O.Owners c.args.worktree.now c.answer_ls_files.new.worktree c.args.interrupt.now c.answer_ls_files.new.interrupt c.args.owners.now c.answer_ls_files.new.owners
-          (λ t owned. found_checked_for_ls_files t owned c.args.here.now.current.now c.args.here.now.variables.now c.args.here.now.directory.now (record c.args.wants { listing = l }) c.args.asked.now) (listing_of (record c.args.wants { listing = l })) (Ok c.in_ok-first.first))
+          (λ t owned. found_checked_for_ls_files t owned c.args.here.now.current.now c.args.here.now.variables.now c.args.here.now.directory.now (record c.args.both.files { listing = l }) c.args.asked.now) (listing_of (record c.args.both.files { listing = l })) (Ok c.in_ok-first.first))
           c.ls_files_options_for_walk_alone-wants.ensures c.in_ok-first.ensures;
       compares = c.answer_ls_files_changed-second.ensures;
       joined = c.join_replies_unless_second_refused.ensures;

@@ -26,15 +26,15 @@ list-tells c = record {
   names = c.ensures.names;
   composed = c.ensures.kept;
   tree = ap (λ (m : MemoryWorktreeModel). tree_if_valid m.tree) c.ensures.state;
-  cause = c.ensures.cause;
-  unfaulted = c.ensures.unfaulted;
-  faults = c.ensures.faults;
-  list_cause = c.ensures.list_cause;
-  list_faults = c.ensures.list_faults;
-  list_faults_kept = c.ensures.list_faults_kept;
+  cause = c.ensures.counts.cause;
+  unfaulted = c.ensures.counts.unfaulted;
+  faults = c.ensures.counts.faults_later;
+  list_cause = c.ensures.counts.list_cause;
+  list_faults = c.ensures.counts.list_faults_later;
+  list_faults_kept = c.ensures.counts.list_faults_kept;
   reads = ap (λ (m : MemoryWorktreeModel). m.reads) c.ensures.state;
   lists = ap (λ (m : MemoryWorktreeModel). m.lists) c.ensures.state;
-  lists_later = c.ensures.lists_later;
+  lists_later = c.ensures.counts.lists_later;
   precomposes = ap (λ (m : MemoryWorktreeModel). m.composes) c.ensures.state;
 }
 

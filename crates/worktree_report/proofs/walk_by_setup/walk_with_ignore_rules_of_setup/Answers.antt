@@ -1,6 +1,6 @@
 use Rattle.std.proofs.lemmas.Result.{err_from_is_err_and}
 use Rattle.worktree_report.proofs.Walks.{Reports-memory, Reports-walked}
-use Rattle.worktree_report.proofs.walk_by_setup.walk_with_rules_of_setup.Goals as goal
+use Rattle.worktree_report.proofs.walk_by_setup.walk_with_ignore_rules_of_setup.Goals as goal
 
 pub returns-in_err-excludes : goal.returns-in_err-excludes
 returns-in_err-excludes g c =
