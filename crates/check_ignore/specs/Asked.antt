@@ -23,6 +23,7 @@ begins_with_colon (b ∷ bytes) = b == 58
 abbrev pub rest_beneath_root : List ℕ → List ℕ → Option (List ℕ)
 rest_beneath_root root path = if bytes_eq path root then Some [] else strip_directory_prefix root path
 
+-- the same of a path that may be missing, as one that leads out above `/` is: then there is none
 abbrev pub rest_beneath_root_if_path_given : List ℕ → Option (List ℕ) → Option (List ℕ)
 rest_beneath_root_if_path_given root None = None
 rest_beneath_root_if_path_given root (Some path) = rest_beneath_root root path
@@ -54,6 +55,7 @@ parse_path_to_root_relative root prefix text =
 abbrev pub is_empty_dot_or_dot_dot : List ℕ → Bool
 is_empty_dot_or_dot_dot name = is_empty name || (bytes_eq name (codes ".") || bytes_eq name (codes ".."))
 
+-- a path asks for a directory, by how it was written (`text`) and by what it is from the top (`path`)
 abbrev pub is_top_or_ends_as_directory : List ℕ → List ℕ → Bool
 is_top_or_ends_as_directory text path = is_empty path || is_empty_dot_or_dot_dot (basename text)
 
@@ -65,19 +67,22 @@ path_with_slash_if_directory path directory = if directory then path_with_traili
 abbrev pub glob_or_literal_magic : List ℕ → List ℕ
 glob_or_literal_magic text = if has_pattern_special_byte text then codes "::" else codes ":(literal)"
 
+-- the text of a path spec for a path from the top; whether it is a pattern is told by the text as it was written
 abbrev pub path_spec_text_of_path : List ℕ → List ℕ → Bool → List ℕ
 path_spec_text_of_path text path directory = glob_or_literal_magic text ++ path_with_slash_if_directory path directory
 
-abbrev pub search_or_magic_error : List ℕ → Result PathSpec Error → Result (List PathSpec) Stop
-search_or_magic_error text (Ok spec) = Ok (spec ∷ [])
-search_or_magic_error text (Err (faults.Parse at)) = Err (stops.Magic text)
-search_or_magic_error text (Err faults.Normalize) = Err (stops.Magic text)
-search_or_magic_error text (Err faults.OutOfMemory) = Err stops.OutOfMemory
+-- that one path spec alone; one that is refused counts as magic, which is not answered here
+abbrev pub single_spec_or_magic_error : List ℕ → Result PathSpec Error → Result (List PathSpec) Stop
+single_spec_or_magic_error text (Ok spec) = Ok (spec ∷ [])
+single_spec_or_magic_error text (Err (faults.Parse at)) = Err (stops.Magic text)
+single_spec_or_magic_error text (Err faults.Normalize) = Err (stops.Magic text)
+single_spec_or_magic_error text (Err faults.OutOfMemory) = Err stops.OutOfMemory
 
 -- the path spec by which the index is asked
 abbrev pub parse_path_as_path_spec : List ℕ → List ℕ → Bool → Result (List PathSpec) Stop
-parse_path_as_path_spec text path directory = search_or_magic_error text (parse_path_spec false (path_spec_text_of_path text path directory))
+parse_path_as_path_spec text path directory = single_spec_or_magic_error text (parse_path_spec false (path_spec_text_of_path text path directory))
 
+-- what is kept of a path that is asked about: as written, from the top, and as a path spec
 abbrev pub asked_path_with_spec : List ℕ → List ℕ → List PathSpec → AskedPath
 asked_path_with_spec text path spec = record { text = text; path = path; names_directory = is_top_or_ends_as_directory text path; spec = spec }
 

@@ -61,6 +61,7 @@ tree_without_objects t = record { tree = t; objects = empty }
 abbrev pub are_rules_files_above_readable : StackSetup → TreeAndObjects → List (List ℕ) → Bool
 are_rules_files_above_readable made s names = list_all (λ directory. is_read_without_refusal (rules_texts_of_directory made s (slash_joined_components directory))) (all_prefixes_shortest_first (all_but_last names))
 
+-- a path can be looked up: it is relative without `.` and `..`, and every rules file on the way to it can be read
 abbrev pub is_normal_path_with_readable_rules : Names → StackSetup → List ℕ → Bool
 is_normal_path_with_readable_rules t made path = is_relative_without_dots path && are_rules_files_above_readable made (tree_without_objects t) (components path)
 
@@ -76,6 +77,7 @@ look_up_deciding_rule t made a is_dir = if is_normal_path_with_readable_rules t 
 abbrev pub is_asked_as_or_is_directory : Names → List ℕ → AskedPath → Bool
 is_asked_as_or_is_directory t root a = a.names_directory || is_directory_kind (kind_below_root_unfollowed t root a.path)
 
+-- a rule decides, and it is none with `!`
 abbrev pub is_excluding_rule : Option FoundRule → Bool
 is_excluding_rule None = false
 is_excluding_rule (Some rule) = not rule.is_negative
@@ -84,6 +86,7 @@ is_excluding_rule (Some rule) = not rule.is_negative
 abbrev pub is_asked_as_directory_and_top_or_unexcluded : AskedPath → Option FoundRule → Bool
 is_asked_as_directory_and_top_or_unexcluded a rule = a.names_directory && (is_empty a.path || not (is_excluding_rule rule))
 
+-- the rule that decides, unless git would ask its rules once more
 abbrev pub refuse_top_or_unexcluded_if_asked_as_directory : AskedPath → Option FoundRule → Result (Option FoundRule) Stop
 refuse_top_or_unexcluded_if_asked_as_directory a rule = if is_asked_as_directory_and_top_or_unexcluded a rule then Err (stops.Slash a.text) else Ok rule
 
@@ -111,6 +114,7 @@ deciding_rule_unless_tracked t root index outer c a = if is_any_entry_matched_by
 abbrev pub rule_if_positive_or_verbose : Checking → FoundRule → Option FoundRule
 rule_if_positive_or_verbose c rule = if rule.is_negative && not c.verbose then None else Some rule
 
+-- the same where a rule may decide or none
 abbrev pub drop_negative_unless_verbose : Checking → Option FoundRule → Option FoundRule
 drop_negative_unless_verbose c None = None
 drop_negative_unless_verbose c (Some rule) = rule_if_positive_or_verbose c rule
@@ -124,11 +128,13 @@ stop_of_rules_file_error text rules.LinkLimit = stops.Unread text
 stop_of_rules_file_error text rules.Special = stops.Unread text
 stop_of_rules_file_error text rules.Fault = stops.Fault
 
+-- the same for rules that the index has: an object that is missing or no blob is a rules file that is not read
 abbrev pub stop_of_blob_error : List ℕ → BlobWhy → Stop
 stop_of_blob_error text blobs.Missing = stops.Unread text
 stop_of_blob_error text blobs.NotABlob = stops.Unread text
 stop_of_blob_error text blobs.Fault = stops.Fault
 
+-- any refused lookup: all that is neither want of memory nor a fault counts as a rules file that is not read
 abbrev pub stop_of_lookup_error : List ℕ → AtPathError → Stop
 stop_of_lookup_error text lookups.NotNormal = stops.Unread text
 stop_of_lookup_error text (lookups.RulesFile path why) = stop_of_rules_file_error text why

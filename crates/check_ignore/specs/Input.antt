@@ -7,7 +7,7 @@ use Rattle.gitbase_core.specs.Text.{is_nul}
 use Rattle.worktree_fs.specs.Tree.{Names}
 use Rattle.check_ignore.specs.Checked.{check_ignore_answer, empty_answer, answer_with_other_appended}
 use Rattle.check_ignore.specs.Lines.{byte_or_nul_if_z}
-use Rattle.check_ignore.specs.Unquoted.{unquote_c_style}
+use Rattle.check_ignore.specs.Unquoted.{unquote_c_style_after_opening_quote}
 use Rattle.check_ignore.specs.declared.answer.Answered.{Answered}
 use Rattle.check_ignore.specs.declared.options.Checking.{Checking}
 use Rattle.check_ignore.specs.declared.options.OuterRules.{OuterRules}
@@ -24,6 +24,7 @@ line_feed_or_nul_if_z c = byte_or_nul_if_z c 10
 abbrev pub without_last_terminator : ℕ → List ℕ → List ℕ
 without_last_terminator end bytes = if slice_index bytes (length bytes - 1) == end then take (length bytes - 1) bytes else bytes
 
+-- what stands between the bytes that are `end`; one piece more than there are such bytes
 abbrev pub split_at_byte : ℕ → List ℕ → List (List ℕ)
 split_at_byte end bytes = slice_split (λ b. b == end) bytes
 
@@ -38,6 +39,7 @@ input_lines end (b ∷ bytes) = split_at_byte end (without_last_terminator end (
 abbrev pub bytes_before_nul : List ℕ → List ℕ
 bytes_before_nul bytes = before_first is_nul bytes
 
+-- what quotes gave, up to a NUL in it; quotes that are not closed, or an escape that means nothing, are refused
 abbrev pub path_or_bad_quotes_error : Option (List ℕ) → Result (List ℕ) Stop
 path_or_bad_quotes_error None = Err stops.BadQuotes
 path_or_bad_quotes_error (Some path) = Ok (bytes_before_nul path)
@@ -45,7 +47,7 @@ path_or_bad_quotes_error (Some path) = Ok (bytes_before_nul path)
 -- a path that begins with a double quote stands in quotes
 abbrev pub parse_maybe_quoted_path : List ℕ → Result (List ℕ) Stop
 parse_maybe_quoted_path [] = Ok []
-parse_maybe_quoted_path (b ∷ bytes) = if b == 34 then path_or_bad_quotes_error (unquote_c_style 0 bytes) else Ok (b ∷ bytes)
+parse_maybe_quoted_path (b ∷ bytes) = if b == 34 then path_or_bad_quotes_error (unquote_c_style_after_opening_quote 0 bytes) else Ok (b ∷ bytes)
 
 -- with `-z` a line is its path, as it stands
 abbrev pub parse_path_of_input_line : Checking → List ℕ → Result (List ℕ) Stop

@@ -24,13 +24,16 @@ bytes_of_found_file_or_empty (found other) = []
 bytes_of_found_file_or_empty absent = []
 bytes_of_found_file_or_empty too_many_links = []
 
+-- what is read at a path, links followed; no bytes where no file is there
 abbrev pub read_file_or_empty : Names → List ℕ → List ℕ
 read_file_or_empty t path = bytes_of_found_file_or_empty (look t path true)
 
+-- the rules are given, and their file is called so
 abbrev pub has_rules_name : Option NamedRules → List ℕ → Bool
 has_rules_name None name = false
 has_rules_name (Some given) name = bytes_eq given.name name
 
+-- the text of a file of rules; no bytes where it is not given
 abbrev pub bytes_of_rules_or_empty : Option NamedRules → List ℕ
 bytes_of_rules_or_empty None = []
 bytes_of_rules_or_empty (Some given) = given.bytes
@@ -45,9 +48,11 @@ text_of_source_by_group t outer source Overrides = read_file_or_empty t source
 text_of_source_by_group t outer source (Directory depth) = read_file_or_empty t source
 text_of_source_by_group t outer source Globals = repository_rules_if_named_else_user outer source
 
+-- all of the file in which the rule stands, in which its line is looked up again
 abbrev pub text_of_rule_source : Names → OuterRules → FoundRule → List ℕ
 text_of_rule_source t outer rule = text_of_source_by_group t outer rule.source rule.group
 
+-- the pieces between line feeds; a carriage return stays at the end of its line
 abbrev pub lines_at_line_feeds : List ℕ → List (List ℕ)
 lines_at_line_feeds text = slice_split (λ b. b == 10) text
 
@@ -59,6 +64,7 @@ without_negation_sign line = (strip_leading_byte 33 line).1
 abbrev pub begins_with_slash_past_negation : List ℕ → Bool
 begins_with_slash_past_negation line = (strip_leading_byte 47 (without_negation_sign line)).0
 
+-- no slash stands where there is no such line
 abbrev pub is_optional_line_anchored : Option (List ℕ) → Bool
 is_optional_line_anchored None = false
 is_optional_line_anchored (Some line) = begins_with_slash_past_negation line
@@ -76,6 +82,7 @@ abbrev pub pattern_with_negation_and_slashes : FoundRule → Bool → List ℕ
 pattern_with_negation_and_slashes rule anchored =
     bytes_or_empty_by_flag rule.is_negative (codes "!") ++ bytes_or_empty_by_flag anchored (codes "/") ++ rule.text ++ bytes_or_empty_by_flag rule.must_be_dir (codes "/")
 
+-- the pattern that `-v` prints, with its `!` and slashes; whether one stood in front is read from its file again
 abbrev pub written_pattern_of_rule : Names → OuterRules → FoundRule → List ℕ
 written_pattern_of_rule t outer rule = pattern_with_negation_and_slashes rule (is_line_at_number_anchored (text_of_rule_source t outer rule) rule.line)
 

@@ -16,6 +16,7 @@ use Rattle.check_ignore.specs.declared.stop.Stop.TheVariants as stops
 abbrev pub kind_below_root_unfollowed : Names → List ℕ → List ℕ → Option NodeKind
 kind_below_root_unfollowed t root path = kind_of_lookup (look t (path_joined_with_slash root path) false)
 
+-- a symbolic link stands there, whatever it leads to
 abbrev pub is_symlink_kind : Option NodeKind → Bool
 is_symlink_kind None = false
 is_symlink_kind (Some kinds.File) = false
@@ -23,6 +24,7 @@ is_symlink_kind (Some kinds.Symlink) = true
 is_symlink_kind (Some kinds.Directory) = false
 is_symlink_kind (Some kinds.Untrackable) = false
 
+-- a directory stands there; a link to one does not count
 abbrev pub is_directory_kind : Option NodeKind → Bool
 is_directory_kind None = false
 is_directory_kind (Some kinds.File) = false
@@ -30,6 +32,7 @@ is_directory_kind (Some kinds.Symlink) = false
 is_directory_kind (Some kinds.Directory) = true
 is_directory_kind (Some kinds.Untrackable) = false
 
+-- a link stands at a path from the top itself; here it is always answered
 abbrev pub is_symlink_below_root : Names → List ℕ → List ℕ → Result Bool Stop
 is_symlink_below_root t root path = Ok (is_symlink_kind (kind_below_root_unfollowed t root path))
 
@@ -39,6 +42,7 @@ directories_above_rest_of_path passed [] = []
 directories_above_rest_of_path passed (b ∷ rest) =
     if is_slash b then passed ∷ directories_above_rest_of_path (passed ++ b ∷ []) rest else directories_above_rest_of_path (passed ++ b ∷ []) rest
 
+-- all that lead to a path, for `a/b/c` both `a` and `a/b`; a slash at its end makes it one of them
 abbrev pub directories_above_path : List ℕ → List (List ℕ)
 directories_above_path path = directories_above_rest_of_path [] path
 
@@ -51,9 +55,11 @@ is_any_directory_symlink t root (d ∷ ds) = and_then (λ now. if now then Ok tr
 abbrev pub is_behind_symlink : Names → List ℕ → List ℕ → Result Bool Stop
 is_behind_symlink t root path = is_any_directory_symlink t root (directories_above_path path)
 
+-- a path, or git's refusal of one that is beyond a symbolic link
 abbrev pub asked_path_or_beyond_error : AskedPath → Bool → Result AskedPath Stop
 asked_path_or_beyond_error a there = if there then Err (stops.Beyond a.text) else Ok a
 
+-- a path with no link on the way; one that asks for a directory must be no link itself
 abbrev pub refuse_path_behind_link : Names → List ℕ → AskedPath → Result AskedPath Stop
 refuse_path_behind_link t root a = and_then (asked_path_or_beyond_error a) (is_behind_symlink t root (path_with_slash_if_directory a.path a.names_directory))
 
@@ -71,6 +77,7 @@ abbrev pub require_no_empty_paths : List (List ℕ) → Result Bool Stop
 require_no_empty_paths [] = Ok true
 require_no_empty_paths (text ∷ texts) = if is_empty text then Err stops.Empty else require_no_empty_paths texts
 
+-- all paths that are asked about; an empty one is refused before any other is looked at
 unfoldable pub parse_nonempty_asked_paths : Names → List ℕ → List ℕ → List (List ℕ) → Result (List AskedPath) Stop
 parse_nonempty_asked_paths t root prefix texts = do
   whole ← require_no_empty_paths texts

@@ -14,10 +14,12 @@ use Rattle.check_ignore.specs.declared.found_rule.RulePlace.{RulePlace}
 abbrev pub list_of : NamedRules → RulesList
 list_of given = record { entries = entries false (exempt_top_from_star_rules given.bytes); source = Some given.name; base = [] }
 
+-- one list of rules, or none where there is no such file
 abbrev pub lists_of_optional_rules : Option NamedRules → List RulesList
 lists_of_optional_rules None = []
 lists_of_optional_rules (Some given) = list_of given ∷ []
 
+-- the lists outside the work tree; a later one wins, so `info/exclude` wins over the user's file
 abbrev pub search_of_user_and_repository_rules : OuterRules → List RulesList
 search_of_user_and_repository_rules outer = lists_of_optional_rules outer.user ++ lists_of_optional_rules outer.repository
 

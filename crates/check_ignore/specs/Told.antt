@@ -3,9 +3,11 @@ use Rattle.std.specs.Prelude.{ℕ, List, ◌++◌, codes, decimal}
 use Rattle.check_ignore.specs.declared.stop.Stop.{Stop}
 use Rattle.check_ignore.specs.declared.stop.Stop.TheVariants as stops
 
+-- git's words for a path that leads out of the work tree at `root`
 abbrev pub outside_repository_text : List ℕ → List ℕ → List ℕ
 outside_repository_text root text = (text ++ codes ": '" ++ text) ++ codes "' is outside repository at '" ++ root ++ codes "'"
 
+-- git's words for a path in the submodule at `place`
 abbrev pub inside_submodule_text : List ℕ → List ℕ → List ℕ
 inside_submodule_text text place = (codes "Pathspec '" ++ text ++ codes "' is in submodule '") ++ place ++ codes "'"
 

@@ -20,6 +20,7 @@ is_any_entry_matched_by_spec index spec = list_any (is_entry_matched_by_spec spe
 
 -- ---- what is refused
 
+-- an index in which an entry stands for a directory is not answered here
 abbrev pub refuse_sparse_index : List IndexEntry → Result Bool Stop
 refuse_sparse_index index = if list_any is_sparse_directory_entry index then Err stops.SparseIndex else Ok true
 
@@ -32,9 +33,11 @@ abbrev pub inside_error_if_path_given : IndexEntry → Option AskedPath → Resu
 inside_error_if_path_given e None = Ok true
 inside_error_if_path_given e (Some a) = Err (stops.Inside a.text e.path)
 
+-- the first path that lies in this submodule is refused; what is no submodule refuses none
 abbrev pub refuse_paths_in_entry_if_submodule : List AskedPath → IndexEntry → Result Bool Stop
 refuse_paths_in_entry_if_submodule asked e = if is_submodule_entry e then inside_error_if_path_given e (find (lies_beneath_entry e) asked) else Ok true
 
+-- the first refusal of two, or what the second gives
 abbrev pub error_or_next_result : Result Bool Stop → Result Bool Stop → Result Bool Stop
 error_or_next_result (Ok outside) rest = rest
 error_or_next_result (Err e) rest = Err e

@@ -22,6 +22,7 @@ unescape_letter c =
 abbrev pub is_octal_digit : ℕ → Bool
 is_octal_digit c = not (nat_lt c 48) && nat_lt c 56
 
+-- a first digit with which three make one byte
 abbrev pub is_octal_digit_below_four : ℕ → Bool
 is_octal_digit_below_four c = not (nat_lt c 48) && nat_lt c 52
 
@@ -34,11 +35,13 @@ byte_of_three_octal_digits high middle low =
 abbrev pub decoded_byte_of_length_if_some : ℕ → Option ℕ → Option Meant
 decoded_byte_of_length_if_some length byte = option_map (λ b. record { byte = b; length = length }) byte
 
+-- of three octal digits, the first of which is given; nothing where fewer are left
 abbrev pub decode_octal_escape : ℕ → List ℕ → Option Meant
 decode_octal_escape high [] = None
 decode_octal_escape high (middle ∷ []) = None
 decode_octal_escape high (middle ∷ low ∷ rest) = decoded_byte_of_length_if_some 4 (byte_of_three_octal_digits high middle low)
 
+-- a letter that means a byte wins; else the bytes have to be octal digits
 abbrev pub decoded_letter_or_octal_escape : ℕ → List ℕ → Option ℕ → Option Meant
 decoded_letter_or_octal_escape first rest None = decode_octal_escape first rest
 decoded_letter_or_octal_escape first rest (Some byte) = decoded_byte_of_length_if_some 2 (Some byte)
@@ -55,9 +58,9 @@ decode_first_byte (b ∷ bytes) = if b == 92 then decode_escape bytes else decod
 
 -- What is meant up to the closing quote, behind the bytes that are skipped. There is nothing where no quote closes it, or a backslash
 -- stands before what is no letter and no digits.
-abbrev pub unquote_c_style : ℕ → List ℕ → Option (List ℕ)
-unquote_c_style skip [] = None
-unquote_c_style (suc n) (b ∷ bytes) = unquote_c_style n bytes
-unquote_c_style zero (b ∷ bytes) =
+abbrev pub unquote_c_style_after_opening_quote : ℕ → List ℕ → Option (List ℕ)
+unquote_c_style_after_opening_quote skip [] = None
+unquote_c_style_after_opening_quote (suc n) (b ∷ bytes) = unquote_c_style_after_opening_quote n bytes
+unquote_c_style_after_opening_quote zero (b ∷ bytes) =
     if b == 34 then Some []
-    else option_and_then (λ (m : Meant). option_map (λ (text : List ℕ). m.byte ∷ text) (unquote_c_style (m.length - 1) bytes)) (decode_first_byte (b ∷ bytes))
+    else option_and_then (λ (m : Meant). option_map (λ (text : List ℕ). m.byte ∷ text) (unquote_c_style_after_opening_quote (m.length - 1) bytes)) (decode_first_byte (b ∷ bytes))

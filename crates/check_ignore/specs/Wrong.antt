@@ -5,6 +5,7 @@ use Rattle.check_ignore.specs.declared.options.Checking.{Checking}
 use Rattle.check_ignore.specs.declared.wrong.WrongCheck.{WrongCheck}
 use Rattle.check_ignore.specs.declared.wrong.WrongCheck.TheVariants as wrongs
 
+-- git's words for options that do not go together
 abbrev pub message_of_wrong_check : WrongCheck → List ℕ
 message_of_wrong_check wrongs.PathsWithStdin = codes "cannot specify pathnames with --stdin"
 message_of_wrong_check wrongs.NulWithoutStdin = codes "-z only makes sense with --stdin"

@@ -133,7 +133,7 @@ fn search_of_one_spec(alloc: Global, spec: Spec) -> Result<Search, OutOfMemory>
 
 /// The path spec of a whole text; `text` is what was written.
 fn parse_path_spec_or_magic_error(alloc: Global, text: &[u8], whole: &[u8]) -> Result<Search, Stop>
-    ensures { AnswersUnlessOutOfMemory result (words.search_or_magic_error text.now
+    ensures { AnswersUnlessOutOfMemory result (words.single_spec_or_magic_error text.now
         (parse_path_spec false whole.now)) }
 {
     match Spec::parse(alloc, whole, Defaults { ignore_case: false }) {

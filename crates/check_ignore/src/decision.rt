@@ -59,8 +59,8 @@ fn refuse_top_or_unexcluded_if_asked_as_directory(
     asked: &AskedPath,
     rule: Option<FoundRule>,
 ) -> Result<Option<FoundRule>, Stop>
-    ensures { AnswersUnlessOutOfMemory result (words.refuse_top_or_unexcluded_if_asked_as_directory asked.now
-        rule) }
+    ensures { AnswersUnlessOutOfMemory result (words.refuse_top_or_unexcluded_if_asked_as_directory
+        asked.now rule) }
 {
     if is_asked_as_directory_and_top_or_unexcluded(asked, &rule) {
         return Err(Stop::Slash {

@@ -4,10 +4,10 @@ ghost use Rattle.std.specs.List.{position_or_len};
 ghost use Rattle.gitbase_core.specs.Text.{is_nul};
 ghost use Rattle.check_ignore.specs.Finds.{AnswersUnlessOutOfMemory};
 ghost use Rattle.check_ignore.specs.Input as words;
-ghost use Rattle.check_ignore.specs.Unquoted.{unquote_c_style};
+ghost use Rattle.check_ignore.specs.Unquoted.{unquote_c_style_after_opening_quote};
 
 use crate::options::Checking;
-use crate::quotes::unquote_c_style;
+use crate::quotes::unquote_c_style_after_opening_quote;
 use crate::stop::Stop;
 use gitbase_core::{Bytes, OutOfMemory};
 use std::alloc::Global;
@@ -79,9 +79,9 @@ fn bytes_before_nul(text: &[u8]) -> &[u8]
 /// The path that stands in quotes, by what follows the first one.
 fn parse_quoted_path(alloc: Global, quoted: &[u8]) -> Result<Bytes, Stop>
     ensures { AnswersUnlessOutOfMemory result (words.path_or_bad_quotes_error
-        (unquote_c_style 0 quoted.now)) }
+        (unquote_c_style_after_opening_quote 0 quoted.now)) }
 {
-    match unquote_c_style(alloc, quoted)? {
+    match unquote_c_style_after_opening_quote(alloc, quoted)? {
         Some(path) => Ok(Bytes::from_slice(alloc, bytes_before_nul(path.as_bytes()))?),
         None => Err(Stop::BadQuotes),
     }

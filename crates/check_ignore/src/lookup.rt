@@ -84,7 +84,7 @@ fn mode_by_is_dir(is_dir: bool) -> Mode
 }
 
 /// That rules above a path are not read.
-fn unread_rules_stop(alloc: Global, text: &[u8]) -> Result<Stop, OutOfMemory>
+fn refusal_of_unread_rules(alloc: Global, text: &[u8]) -> Result<Stop, OutOfMemory>
     ensures { IfOk result (λ stop. stop ≡ Stop.Unread text.now) }
 {
     Ok(Stop::Unread {
@@ -100,19 +100,19 @@ fn stop_of_lookup_error(alloc: Global, text: &[u8], error: AtPathError) -> Resul
         AtPathError::OutOfMemory => Ok(Stop::OutOfMemory),
         AtPathError::RulesFile { path: _, why } => match why {
             RulesWhy::Fault => Ok(Stop::Fault),
-            RulesWhy::Link => unread_rules_stop(alloc, text),
-            RulesWhy::LinkLimit => unread_rules_stop(alloc, text),
-            RulesWhy::Special => unread_rules_stop(alloc, text),
+            RulesWhy::Link => refusal_of_unread_rules(alloc, text),
+            RulesWhy::LinkLimit => refusal_of_unread_rules(alloc, text),
+            RulesWhy::Special => refusal_of_unread_rules(alloc, text),
         },
         AtPathError::Blob { id: _, why } => match why {
             BlobWhy::Fault => Ok(Stop::Fault),
-            BlobWhy::Missing => unread_rules_stop(alloc, text),
-            BlobWhy::NotABlob => unread_rules_stop(alloc, text),
+            BlobWhy::Missing => refusal_of_unread_rules(alloc, text),
+            BlobWhy::NotABlob => refusal_of_unread_rules(alloc, text),
         },
-        AtPathError::NotNormal => unread_rules_stop(alloc, text),
-        AtPathError::Component(_) => unread_rules_stop(alloc, text),
-        AtPathError::Collision { path: _ } => unread_rules_stop(alloc, text),
-        AtPathError::Directory { path: _, why: _ } => unread_rules_stop(alloc, text),
+        AtPathError::NotNormal => refusal_of_unread_rules(alloc, text),
+        AtPathError::Component(_) => refusal_of_unread_rules(alloc, text),
+        AtPathError::Collision { path: _ } => refusal_of_unread_rules(alloc, text),
+        AtPathError::Directory { path: _, why: _ } => refusal_of_unread_rules(alloc, text),
     }
 }
 

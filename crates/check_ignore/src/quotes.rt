@@ -1,4 +1,4 @@
-//! Paths in double quotes, as git's `unquote_c_style` reads them.
+//! Paths in double quotes, as git's `unquote_c_style_after_opening_quote` reads them.
 ghost use Rattle.std.specs.Prelude.{◌≡◌, ◌≤◌, ◌+◌, drop, length, IfOk, IfSome};
 ghost use Rattle.check_ignore.specs.Unquoted as words;
 
@@ -123,8 +123,11 @@ fn bytes_after_count(bytes: &[u8], count: usize) -> &[u8]
 /// # Errors
 ///
 /// Memory was refused.
-pub fn unquote_c_style(alloc: Global, bytes: &[u8]) -> Result<Option<Bytes>, OutOfMemory>
-    ensures { IfOk result (λ text. text ≡ words.unquote_c_style 0 bytes.now) }
+pub fn unquote_c_style_after_opening_quote(
+    alloc: Global,
+    bytes: &[u8],
+) -> Result<Option<Bytes>, OutOfMemory>
+    ensures { IfOk result (λ text. text ≡ words.unquote_c_style_after_opening_quote 0 bytes.now) }
 {
     let mut text = Vec::new(alloc);
     let mut rest = bytes;

@@ -31,7 +31,7 @@ use Rattle.clean_plan.specs.declared.what.Finding.{Finding}
 use Rattle.clean_plan.specs.declared.what.Wanted.{Wanted}
 use Rattle.clean_plan.specs.Plans.{IsOrderedRemovalPlan, entries_of_report_entries}
 use Rattle.clean_plan.specs.Planned.{PlansByMadeReport, IsPlanByReport, MakesReportAndPlan, plan_inputs_over_tree}
-use Rattle.clean_plan.specs.Prepared.{is_matching_emission_mode, is_some_matching_emission_mode, is_prepared, emits_each_path_uncollapsed}
+use Rattle.clean_plan.specs.Prepared.{is_matching_emission_mode, is_some_matching_emission_mode, are_options_prepared_for_plan, emits_each_path_uncollapsed}
 use Rattle.clean_plan.specs.Refusals.{HasFaultOrMemoryCause, clean_error_of_report_error}
 use Rattle.clean_plan.specs.Setups.{plan_inputs_of_setup, traversal_root_relative_to_work_tree}
 use Rattle.clean_plan.proofs.Directories.{and_both}
@@ -52,7 +52,7 @@ in-described known [] e here = absurd here
 in-described known (x ∷ all) e (inl same) = record { emission = x; is_in = inl refl; entry_is = same }
 in-described known (x ∷ all) e (inr later) = let more : EmittedAs all e = in-described known all e later in record { emission = more.emission; is_in = inr more.is_in; entry_is = more.entry_is }
 
-unfolded : (finding : Finding) (options : SetupOptions) → is_prepared finding options ≡ true → (is_collapsing_mode options.emit_untracked || collapses_directories_if_some options.emit_ignored) ≡ false
+unfolded : (finding : Finding) (options : SetupOptions) → are_options_prepared_for_plan finding options ≡ true → (is_collapsing_mode options.emit_untracked || collapses_directories_if_some options.emit_ignored) ≡ false
 unfolded finding options prepared =
     let one = and_both (emits_each_path_uncollapsed options) _ prepared in
     let two = and_both (is_matching_emission_mode options.emit_untracked) _ one.0 in
@@ -73,7 +73,7 @@ module _ (composes : Bool) (s : TreeAndObjects) (root : List ℕ) (setup : Setup
       ∙ ap (λ (x : Report). Some x) (sym is.same)
 
   -- the report of a prepared setup is flat
-  report-flat : (finding : Finding) → is_prepared finding setup.options ≡ true → AreFlat (entries_of_report_entries r.entries)
+  report-flat : (finding : Finding) → are_options_prepared_for_plan finding setup.options ≡ true → AreFlat (entries_of_report_entries r.entries)
   report-flat finding prepared =
       subst (λ (x : Report). AreFlat (entries_of_report_entries x.entries)) (sym is.same) (record {
         none_beneath = λ x y here there.
@@ -152,7 +152,7 @@ module _ {W F I : Type 0} (w : WorktreeOf W) (f : FindOf F) (i : InterruptOf I) 
         }
 
     -- there is a plan
-    plan-made : (finding : Finding) → is_prepared finding setup.options ≡ true → (plan : Plan) → PlansByMadeReport w wm w1 root setup wanted r (Ok plan) → MakesReportAndPlan w f i w0 w1 o0 o1 i0 i1 root setup wanted (Ok plan)
+    plan-made : (finding : Finding) → are_options_prepared_for_plan finding setup.options ≡ true → (plan : Plan) → PlansByMadeReport w wm w1 root setup wanted r (Ok plan) → MakesReportAndPlan w f i w0 w1 o0 o1 i0 i1 root setup wanted (Ok plan)
     plan-made finding prepared plan after =
         let by : IsPlanByReport (w.told wm) root setup wanted r plan = after.by_report in
         let asks : KeepsTreeAndListCounts w wm w1 = after.asks in
@@ -183,6 +183,6 @@ module _ {W F I : Type 0} (w : WorktreeOf W) (f : FindOf F) (i : InterruptOf I) 
         }
 
     -- there is a report, and it is planned by it
-    pub plan-by : (finding : Finding) → is_prepared finding setup.options ≡ true → (result : Result Plan CleanError) → PlansByMadeReport w wm w1 root setup wanted r result → MakesReportAndPlan w f i w0 w1 o0 o1 i0 i1 root setup wanted result
+    pub plan-by : (finding : Finding) → are_options_prepared_for_plan finding setup.options ≡ true → (result : Result Plan CleanError) → PlansByMadeReport w wm w1 root setup wanted r result → MakesReportAndPlan w f i w0 w1 o0 o1 i0 i1 root setup wanted result
     plan-by finding prepared (Ok plan) after = plan-made finding prepared plan after
     plan-by finding prepared (Err e) after = plan-stopped e after

@@ -11,7 +11,7 @@ use Rattle.dir_classify.specs.declared.entry.Entry.{Entry}
 use Rattle.clean_plan.specs.declared.sift.Sifted.{Sifted}
 use Rattle.clean_plan.specs.Above.{IsFirstPassingAncestorOrSelf, any_ancestor_passes}
 use Rattle.clean_plan.specs.Asked.{CleanPlanInputs}
-use Rattle.clean_plan.specs.Kept.{is_path_protected_from_clean}
+use Rattle.clean_plan.specs.Kept.{is_nonroot_path_protected_from_clean}
 use Rattle.clean_plan.specs.Paths.{AscendsStrictly, is_text_in_list, is_path_not_among, borrowed_bytes, borrowed_byte_strings, paths_without_others}
 use Rattle.clean_plan.specs.Plans.{IsOrderedRemovalPlan, is_planned_for_removal, is_outermost_removable_path, rela_path_of_entry, paths_of_removable_entries}
 use Rattle.clean_plan.specs.Removable.{is_entry_removable_by_itself}
@@ -154,8 +154,8 @@ module _ (asked : CleanPlanInputs) (entries : List Entry) (spoiled : List (List 
   -- of a directory above an entry both tests say the same
   whole-same : (d : List ℕ) → list_any (entry_lies_beneath_directory d) entries ≡ true → is_directory_unblocked_and_removable asked spoiled d ≡ may_remove_whole_directory asked entries d
   whole-same d some =
-      ap (λ (s : Bool). not s && (is_prefix_by_whole_components asked.start d && not (is_path_protected_from_clean asked d))) (are d)
-      ∙ agreeing (list_any (blocks_whole_removal asked d) entries) (is_prefix_by_whole_components asked.start d) (is_path_protected_from_clean asked d) (list_any (entry_lies_beneath_directory d) entries) some
+      ap (λ (s : Bool). not s && (is_prefix_by_whole_components asked.start d && not (is_nonroot_path_protected_from_clean asked d))) (are d)
+      ∙ agreeing (list_any (blocks_whole_removal asked d) entries) (is_prefix_by_whole_components asked.start d) (is_nonroot_path_protected_from_clean asked d) (list_any (entry_lies_beneath_directory d) entries) some
 
   above-entry : (e : Entry) (d : List ℕ) → IsIn e entries → is_beneath_directory d e.rela_path ≡ true → list_any (entry_lies_beneath_directory d) entries ≡ true
   above-entry e d here above = any-in (entry_lies_beneath_directory d) entries e here above
@@ -179,7 +179,7 @@ module _ (asked : CleanPlanInputs) (entries : List Entry) (spoiled : List (List 
 -- what is said of a directory that may go as a whole
 pub record WholeSays (asked : CleanPlanInputs) (entries : List Entry) (d : List ℕ) : Type 0 where
   pub within : is_prefix_by_whole_components asked.start d ≡ true
-  pub left : is_path_protected_from_clean asked d ≡ false
+  pub left : is_nonroot_path_protected_from_clean asked d ≡ false
   pub some : list_any (entry_lies_beneath_directory d) entries ≡ true
   pub free : list_any (blocks_whole_removal asked d) entries ≡ false
 
@@ -190,9 +190,9 @@ not_true false e = refl
 pub whole-says : (asked : CleanPlanInputs) (entries : List Entry) (d : List ℕ) → may_remove_whole_directory asked entries d ≡ true → WholeSays asked entries d
 whole-says asked entries d h =
     let one = and_both (is_prefix_by_whole_components asked.start d) _ h in
-    let two = and_both (not (is_path_protected_from_clean asked d)) _ one.1 in
+    let two = and_both (not (is_nonroot_path_protected_from_clean asked d)) _ one.1 in
     let three = and_both (list_any (entry_lies_beneath_directory d) entries) (not (list_any (blocks_whole_removal asked d) entries)) two.1 in
-    record { within = one.0; left = not_true (is_path_protected_from_clean asked d) two.0; some = three.0; free = not_true (list_any (blocks_whole_removal asked d) entries) three.1 }
+    record { within = one.0; left = not_true (is_nonroot_path_protected_from_clean asked d) two.0; some = three.0; free = not_true (list_any (blocks_whole_removal asked d) entries) three.1 }
 
 -- an entry beneath such a directory may go
 pub whole-removes : (asked : CleanPlanInputs) (entries : List Entry) (d : List ℕ) (e : Entry) → may_remove_whole_directory asked entries d ≡ true → IsIn e entries → is_beneath_directory d e.rela_path ≡ true → is_entry_removable_by_itself asked e ≡ true

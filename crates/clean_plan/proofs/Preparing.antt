@@ -9,7 +9,7 @@ use Rattle.dir_classify.specs.declared.options.ForDeletionMode.TheVariants.{Igno
 use Rattle.worktree_report.specs.declared.setup.SetupOptions.{SetupOptions}
 use Rattle.clean_plan.specs.declared.what.Finding.{Finding}
 use Rattle.clean_plan.specs.declared.what.Finding.TheVariants.{NonBare, All}
-use Rattle.clean_plan.specs.Prepared.{for_deletion_mode_of_finding, finds_bare_repositories, bare_option_fits_finding, for_deletion_mode_matches_finding, has_deletion_options_of_finding, is_matching_emission_mode, is_some_matching_emission_mode, emits_pruned_tracked_and_empty, is_prepared, omits_submodules_and_origins, emits_each_path_uncollapsed, options_prepared_for_plan}
+use Rattle.clean_plan.specs.Prepared.{for_deletion_mode_of_finding, finds_bare_repositories, bare_option_fits_finding, for_deletion_mode_matches_finding, has_deletion_options_of_finding, is_matching_emission_mode, is_some_matching_emission_mode, emits_pruned_tracked_and_empty, are_options_prepared_for_plan, omits_submodules_and_origins, emits_each_path_uncollapsed, options_prepared_for_plan}
 use Rattle.clean_plan.proofs.Directories.{and_both}
 
 -- ---- what a test of an option says
@@ -67,7 +67,7 @@ with-same : (o : SetupOptions) (deletion : Option ForDeletionMode) (bare recurse
 with-same o deletion bare recurse submodules origins untracked ignored collapsed pruned tracked empty a b c d e f g h i j k =
     rw (sym a, sym b, sym c, sym d, sym e, sym f, sym g, sym h, sym i, sym j, sym k) refl
 
-prepared-same : (finding : Finding) (o : SetupOptions) → is_prepared finding o ≡ true → options_prepared_for_plan finding o ≡ o
+prepared-same : (finding : Finding) (o : SetupOptions) → are_options_prepared_for_plan finding o ≡ true → options_prepared_for_plan finding o ≡ o
 prepared-same finding o is =
     let parts = and_both (emits_each_path_uncollapsed o) (emits_pruned_tracked_and_empty o && (has_deletion_options_of_finding finding o && omits_submodules_and_origins o)) is in
     let more = and_both (emits_pruned_tracked_and_empty o) (has_deletion_options_of_finding finding o && omits_submodules_and_origins o) parts.1 in
@@ -84,12 +84,12 @@ prepared-same finding o is =
     (is-not o.submodules short.0) (is-not o.origins short.1) (is-matching o.emit_untracked unfolded.0) (is-matching-if o.emit_ignored folds.0)
     (is-none o.emit_collapsed folds.1) opened.0 shown.0 shown.1
 
-is-prepared : (finding : Finding) (o : SetupOptions) → is_prepared finding (options_prepared_for_plan finding o) ≡ true
+is-prepared : (finding : Finding) (o : SetupOptions) → are_options_prepared_for_plan finding (options_prepared_for_plan finding o) ≡ true
 is-prepared NonBare o = refl
 is-prepared All o = refl
 
-pub is_same : (finding : Finding) (o : SetupOptions) (answer : Bool) → answer ≡ is_prepared finding o → (answer ≡ true) ↔ (options_prepared_for_plan finding o ≡ o)
+pub is_same : (finding : Finding) (o : SetupOptions) (answer : Bool) → answer ≡ are_options_prepared_for_plan finding o → (answer ≡ true) ↔ (options_prepared_for_plan finding o ≡ o)
 is_same finding o answer is = (
   λ h. prepared-same finding o (sym is ∙ h),
-  λ h. is ∙ subst (λ (x : SetupOptions). is_prepared finding x ≡ true) h (is-prepared finding o),
+  λ h. is ∙ subst (λ (x : SetupOptions). are_options_prepared_for_plan finding x ≡ true) h (is-prepared finding o),
 )

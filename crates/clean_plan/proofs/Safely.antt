@@ -19,7 +19,7 @@ use Rattle.clean_plan.specs.declared.what.What.{What}
 use Rattle.clean_plan.specs.Above.{IsFirstPassingAncestorOrSelf, prefixes_shorter_than_length, any_ancestor_passes, any_ancestor_below_length_passes}
 use Rattle.clean_plan.specs.Asked.{CleanPlanInputs}
 use Rattle.clean_plan.specs.Closed.{stays_in_spec_excluded_directory}
-use Rattle.clean_plan.specs.Kept.{has_dot_git_component, is_current_dir_at_or_beneath, has_index_entry_at_or_below_path, is_path_protected_from_clean}
+use Rattle.clean_plan.specs.Kept.{has_dot_git_component, is_current_dir_at_or_beneath, has_index_entry_at_or_below_path, is_nonroot_path_protected_from_clean}
 use Rattle.clean_plan.specs.Paths.{is_text_in_list}
 use Rattle.clean_plan.specs.Plans.{IsOrderedRemovalPlan, is_planned_for_removal, is_outermost_removable_path, paths_of_removable_entries}
 use Rattle.clean_plan.specs.Removable.{exists_and_is_no_repository, is_entry_removable_by_itself, is_status_requested_for_removal, passes_status_kind_and_specs}
@@ -63,11 +63,11 @@ removable-unguarded asked e h =
     taken-unguarded asked.what e.status e.disk_kind two.0 three.0
 
 -- and it does not stay with a directory that the path specs take out, nor is its path kept
-pub removable-says : (asked : CleanPlanInputs) (e : Entry) → is_entry_removable_by_itself asked e ≡ true → (stays_in_spec_excluded_directory asked.taken_out asked.specs e ≡ false) × (is_path_protected_from_clean asked e.rela_path ≡ false)
+pub removable-says : (asked : CleanPlanInputs) (e : Entry) → is_entry_removable_by_itself asked e ≡ true → (stays_in_spec_excluded_directory asked.taken_out asked.specs e ≡ false) × (is_nonroot_path_protected_from_clean asked e.rela_path ≡ false)
 removable-says asked e h =
     let one = and_both (passes_status_kind_and_specs asked e) _ h in
-    let two = and_both (not (stays_in_spec_excluded_directory asked.taken_out asked.specs e)) (not (is_path_protected_from_clean asked e.rela_path)) one.1 in
-    (not_true (stays_in_spec_excluded_directory asked.taken_out asked.specs e) two.0, not_true (is_path_protected_from_clean asked e.rela_path) two.1)
+    let two = and_both (not (stays_in_spec_excluded_directory asked.taken_out asked.specs e)) (not (is_nonroot_path_protected_from_clean asked e.rela_path)) one.1 in
+    (not_true (stays_in_spec_excluded_directory asked.taken_out asked.specs e) two.0, not_true (is_nonroot_path_protected_from_clean asked e.rela_path) two.1)
 
 -- ---- one path
 
@@ -76,7 +76,7 @@ pub record LeftOut (asked : CleanPlanInputs) (path : List ℕ) : Type 0 where
   pub spared : IsPathOutsideGitAndIndex asked.fold asked.index path
   pub elsewhere : is_current_dir_at_or_beneath asked.current path ≡ false
 
-left-out : (asked : CleanPlanInputs) (path : List ℕ) → is_path_protected_from_clean asked path ≡ false → LeftOut asked path
+left-out : (asked : CleanPlanInputs) (path : List ℕ) → is_nonroot_path_protected_from_clean asked path ≡ false → LeftOut asked path
 left-out asked path h =
     let one = or_none (is_empty_or_root_path path) _ h in
     let two = or_none (has_dot_git_component path) _ one.1 in
@@ -105,10 +105,10 @@ planned-which asked entries path h =
     go (inl e) = inl e
     go (inr e) = inr (removable-at asked entries path e)
 
-planned-left : (asked : CleanPlanInputs) (entries : List Entry) (path : List ℕ) → (may_remove_whole_directory asked entries path ≡ true) ⊎ RemovableAt asked entries path → is_path_protected_from_clean asked path ≡ false
+planned-left : (asked : CleanPlanInputs) (entries : List Entry) (path : List ℕ) → (may_remove_whole_directory asked entries path ≡ true) ⊎ RemovableAt asked entries path → is_nonroot_path_protected_from_clean asked path ≡ false
 planned-left asked entries path (inl e) = (whole-says asked entries path e).left
 planned-left asked entries path (inr at) =
-    ap (is_path_protected_from_clean asked) at.path_is ∙ (removable-says asked at.entry at.may).1
+    ap (is_nonroot_path_protected_from_clean asked) at.path_is ∙ (removable-says asked at.entry at.may).1
 
 -- a prefix of a path is empty, is that path, or lies above it
 pub prefix-cases : (d path : List ℕ) → is_prefix_by_whole_components d path ≡ true → (is_empty_or_root_path d ≡ true) ⊎ ((d ≡ path) ⊎ (is_beneath_directory d path ≡ true))

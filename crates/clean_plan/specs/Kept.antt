@@ -33,8 +33,8 @@ has_index_entry_at_or_below_path true index path = is_some (first_entry_at_path_
 
 -- A path is kept: it is that of the work tree's root, or a component of it is `.git`, or the current directory is there or
 -- beneath, or an index entry is.
-abbrev pub is_path_protected_from_clean : CleanPlanInputs → List ℕ → Bool
-is_path_protected_from_clean asked path = is_empty_or_root_path path || (has_dot_git_component path || (is_current_dir_at_or_beneath asked.current path || has_index_entry_at_or_below_path asked.fold asked.index path))
+abbrev pub is_nonroot_path_protected_from_clean : CleanPlanInputs → List ℕ → Bool
+is_nonroot_path_protected_from_clean asked path = is_empty_or_root_path path || (has_dot_git_component path || (is_current_dir_at_or_beneath asked.current path || has_index_entry_at_or_below_path asked.fold asked.index path))
 
 -- a match that takes the path out
 abbrev pub is_excluding_spec_match : Option Match → Bool

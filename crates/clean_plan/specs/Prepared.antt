@@ -77,5 +77,5 @@ abbrev pub omits_submodules_and_origins : SetupOptions → Bool
 omits_submodules_and_origins options = not options.submodules && not options.origins
 
 -- Options are prepared for a plan.
-abbrev pub is_prepared : Finding → SetupOptions → Bool
-is_prepared finding options = emits_each_path_uncollapsed options && (emits_pruned_tracked_and_empty options && (has_deletion_options_of_finding finding options && omits_submodules_and_origins options))
+abbrev pub are_options_prepared_for_plan : Finding → SetupOptions → Bool
+are_options_prepared_for_plan finding options = emits_each_path_uncollapsed options && (emits_pruned_tracked_and_empty options && (has_deletion_options_of_finding finding options && omits_submodules_and_origins options))

@@ -11,7 +11,7 @@ use Rattle.clean_plan.specs.declared.what.What.{What}
 use Rattle.clean_plan.specs.declared.what.What.TheVariants as what
 use Rattle.clean_plan.specs.Asked.{CleanPlanInputs}
 use Rattle.clean_plan.specs.Closed.{stays_in_spec_excluded_directory}
-use Rattle.clean_plan.specs.Kept.{is_path_protected_from_clean, specs_exclude_directory}
+use Rattle.clean_plan.specs.Kept.{is_nonroot_path_protected_from_clean, specs_exclude_directory}
 
 -- untracked paths may go
 abbrev pub may_remove_untracked : What → Bool
@@ -50,4 +50,4 @@ passes_status_kind_and_specs asked e =
 -- An entry may go by itself: what is said of it lets it go, it does not stay with a directory that the path specs take out, and its path
 -- is not kept.
 abbrev pub is_entry_removable_by_itself : CleanPlanInputs → Entry → Bool
-is_entry_removable_by_itself asked e = passes_status_kind_and_specs asked e && (not (stays_in_spec_excluded_directory asked.taken_out asked.specs e) && not (is_path_protected_from_clean asked e.rela_path))
+is_entry_removable_by_itself asked e = passes_status_kind_and_specs asked e && (not (stays_in_spec_excluded_directory asked.taken_out asked.specs e) && not (is_nonroot_path_protected_from_clean asked e.rela_path))

@@ -5,7 +5,7 @@ use Rattle.gitbase_core.specs.Path.{is_prefix_by_whole_components, is_beneath_di
 use Rattle.dir_classify.specs.declared.entry.Entry.{Entry}
 use Rattle.clean_plan.specs.Above.{any_ancestor_passes}
 use Rattle.clean_plan.specs.Asked.{CleanPlanInputs}
-use Rattle.clean_plan.specs.Kept.{is_path_protected_from_clean, specs_exclude_directory}
+use Rattle.clean_plan.specs.Kept.{is_nonroot_path_protected_from_clean, specs_exclude_directory}
 use Rattle.clean_plan.specs.Paths.{is_text_in_list}
 use Rattle.clean_plan.specs.Removable.{is_entry_removable_by_itself}
 
@@ -27,10 +27,10 @@ entry_lies_beneath_directory d e = is_beneath_directory d e.rela_path
 abbrev pub may_remove_whole_directory : CleanPlanInputs → List Entry → List ℕ → Bool
 may_remove_whole_directory asked entries d =
     is_prefix_by_whole_components asked.start d
-    && (not (is_path_protected_from_clean asked d)
+    && (not (is_nonroot_path_protected_from_clean asked d)
     && (list_any (entry_lies_beneath_directory d) entries
     && not (list_any (blocks_whole_removal asked d) entries)))
 
 -- the same of a directory beneath which some entry lies, where those that have entries in their way are these
 abbrev pub is_directory_unblocked_and_removable : CleanPlanInputs → List (List ℕ) → List ℕ → Bool
-is_directory_unblocked_and_removable asked spoiled d = not (is_text_in_list d spoiled) && (is_prefix_by_whole_components asked.start d && not (is_path_protected_from_clean asked d))
+is_directory_unblocked_and_removable asked spoiled d = not (is_text_in_list d spoiled) && (is_prefix_by_whole_components asked.start d && not (is_nonroot_path_protected_from_clean asked d))

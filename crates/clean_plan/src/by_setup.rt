@@ -2,7 +2,7 @@
 ghost use Rattle.std.specs.Prelude.{◌≡◌, true, IfOk};
 ghost use Rattle.clean_plan.specs.Plans.{IsOrderedRemovalPlan, entries_of_report_entries};
 ghost use Rattle.clean_plan.specs.Planned.{PlansByMadeReport, MakesReportAndPlan};
-ghost use Rattle.clean_plan.specs.Prepared.{is_prepared};
+ghost use Rattle.clean_plan.specs.Prepared.{are_options_prepared_for_plan};
 ghost use Rattle.clean_plan.specs.Setups.{plan_inputs_of_setup, traversal_root_relative_to_work_tree};
 ghost use Rattle.clean_plan.specs.Wanted.{allowing_special_and_spec_excluded};
 
@@ -47,7 +47,7 @@ fn plan_by_report_and_current_dir(
     Ok(Plan { paths })
 }
 
-/// What may be removed, by a report that was made of the work tree: as [`plan_by_report`], with a
+/// What may be removed, by a report that was made of the work tree: as [`plan_removal_by_report`], with a
 /// word on what git does not look at.
 fn plan_wanted_by_report<W: Worktree>(
     alloc: Global,
@@ -81,7 +81,7 @@ fn plan_wanted_by_report<W: Worktree>(
 /// - `OutOfMemory`: memory was refused.
 ///
 /// See docs/DECISIONS.md#plan-by-report.
-pub fn plan_by_report<W: Worktree>(
+pub fn plan_removal_by_report<W: Worktree>(
     alloc: Global,
     worktree: &mut W,
     worktree_root: &[u8],
@@ -107,7 +107,7 @@ pub(crate) fn make_report_and_plan_removal<W: Worktree, F: Find, I: Interrupt>(
     wanted: Wanted,
     finding: Finding,
 ) -> Result<Plan, CleanError>
-    requires prepared { is_prepared finding setup.now.options ≡ true }
+    requires prepared { are_options_prepared_for_plan finding setup.now.options ≡ true }
     ensures { MakesReportAndPlan W.Worktree F.Find I.Interrupt worktree.old worktree.new objects.old
         objects.new interrupt.old interrupt.new worktree_root.now setup.now wanted result }
 {
@@ -119,7 +119,7 @@ pub(crate) fn make_report_and_plan_removal<W: Worktree, F: Find, I: Interrupt>(
 /// directories where all in them may go, and single entries of the report where not. Nothing is
 /// removed here.
 ///
-/// The setup's options have to be prepared, which [`is_prepared`](crate::is_prepared) tests. An
+/// The setup's options have to be prepared, which [`are_options_prepared_for_plan`](crate::are_options_prepared_for_plan) tests. An
 /// entry may go if its status is asked for, something that is no repository stands there, the path
 /// specs match it, and its path is not kept. Kept is the root, what has a component `.git`, and
 /// what has an index entry or the current directory at it or beneath it. A directory may go as a
@@ -127,7 +127,7 @@ pub(crate) fn make_report_and_plan_removal<W: Worktree, F: Find, I: Interrupt>(
 /// of these may go, and the path specs take out neither it nor a directory between it and such an
 /// entry. Planned is what may go and lies beneath no directory that does.
 ///
-/// One report is made, and the plan is that of [`plan_by_report`]. Blobs that ignore rules are
+/// One report is made, and the plan is that of [`plan_removal_by_report`]. Blobs that ignore rules are
 /// mapped to are looked up in `objects`. The report's entries are gone over once. The path specs
 /// are asked about each entry that is a directory, and about each directory above one that may go,
 /// but not again about those that are above the entry before it too. The index is searched for each
@@ -158,7 +158,7 @@ pub fn plan<W: Worktree, F: Find, I: Interrupt>(
     what: What,
     finding: Finding,
 ) -> Result<Plan, CleanError>
-    requires prepared { is_prepared finding setup.now.options ≡ true }
+    requires prepared { are_options_prepared_for_plan finding setup.now.options ≡ true }
     ensures { MakesReportAndPlan W.Worktree F.Find I.Interrupt worktree.old worktree.new objects.old
         objects.new interrupt.old interrupt.new worktree_root.now setup.now
         (allowing_special_and_spec_excluded what) result }

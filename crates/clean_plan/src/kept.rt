@@ -73,7 +73,7 @@ fn has_index_entry_at_or_below_path(cleaning: &Cleaning<'_>, path: &[u8], prefix
 /// Whether a path is kept that is not the top; `prefix` is the path and a slash.
 ///
 /// See docs/DECISIONS.md#plan-root-kept.
-pub(crate) fn is_path_protected_from_clean(
+pub(crate) fn is_nonroot_path_protected_from_clean(
     cleaning: &Cleaning<'_>,
     path: &[u8],
     prefix: &[u8],
@@ -81,8 +81,8 @@ pub(crate) fn is_path_protected_from_clean(
     requires lookup { IsLookupOfIndexIfGiven cleaning.now.index.now cleaning.now.lookup.now }
     requires prefix { prefix.now ≡ path.now ++ 47 ∷ [] }
     requires below { is_empty_or_root_path path.now ≡ false }
-    ensures { result ≡ kept.is_path_protected_from_clean (plan_inputs_of_cleaning cleaning.now)
-        path.now }
+    ensures { result ≡ kept.is_nonroot_path_protected_from_clean (plan_inputs_of_cleaning
+        cleaning.now) path.now }
 {
     has_dot_git_component(path)
         || is_current_dir_at_or_beneath(cleaning.current, path)

@@ -21,9 +21,9 @@ mod what;
 mod whole;
 mod words;
 
-pub use by_setup::{plan, plan_by_report};
+pub use by_setup::{plan, plan_removal_by_report};
 pub use error::CleanError;
 pub use outcome::Plan;
-pub use prepared::{is_prepared, prepare};
+pub use prepared::{are_options_prepared_for_plan, prepare};
 pub use program::{plan_clean_as_text, run_clean};
 pub use what::{Finding, OtherNodes, TakenOut, Wanted, What};

@@ -23,7 +23,7 @@ fn for_deletion_mode_of_finding(finding: Finding) -> ForDeletionMode
 /// See docs/DECISIONS.md#prepared-options.
 pub fn prepare(options: &mut SetupOptions, finding: Finding)
     ensures set { options.new ≡ prepared.options_prepared_for_plan finding options.old }
-    ensures prepared { prepared.is_prepared finding options.new ≡ true }
+    ensures prepared { prepared.are_options_prepared_for_plan finding options.new ≡ true }
 {
     options.for_deletion = Some(for_deletion_mode_of_finding(finding));
     options.classify_untracked_bare_repositories = matches!(finding, Finding::All);
@@ -90,8 +90,8 @@ fn has_deletion_options_of_finding(options: &SetupOptions, finding: Finding) -> 
 
 /// Whether options are prepared for a plan: exactly those are that [`prepare`] leaves as they are.
 #[tactic(auto, using(crate::proofs::Preparing::is_same))]
-pub fn is_prepared(options: &SetupOptions, finding: Finding) -> bool
-    ensures is { result ≡ prepared.is_prepared finding options.now }
+pub fn are_options_prepared_for_plan(options: &SetupOptions, finding: Finding) -> bool
+    ensures is { result ≡ prepared.are_options_prepared_for_plan finding options.now }
     ensures same { (result ≡ true) ↔ (prepared.options_prepared_for_plan finding options.now
         ≡ options.now) }
 {

@@ -5,7 +5,7 @@ ghost use Rattle.worktree_fs.specs.Tree.{Names};
 ghost use Rattle.worktree_report.specs.Ends.{TopCallAnswersAndEnds};
 ghost use Rattle.worktree_report.specs.Written.{AppendsWholeBytes};
 ghost use Rattle.clean_plan.specs.Named.{request_in_specification};
-ghost use Rattle.clean_plan.specs.Prepared.{is_prepared};
+ghost use Rattle.clean_plan.specs.Prepared.{are_options_prepared_for_plan};
 ghost use Rattle.clean_plan.specs.Run as top;
 
 use crate::by_setup::make_report_and_plan_removal;
@@ -78,7 +78,7 @@ pub fn plan_clean_as_text<W: CountsFaults, I: Interrupt>(
     wanted: Wanted,
     finding: Finding,
 ) -> Result<Bytes, Refusal>
-    requires prepared { is_prepared finding setup.now.options ≡ true }
+    requires prepared { are_options_prepared_for_plan finding setup.now.options ≡ true }
     ensures { top.AnswersPlanTextOrRefusal W.Worktree I.Interrupt (W.precomposes worktree.old)
         worktree.old worktree.new interrupt.old interrupt.new root.now setup.now wanted result }
 {

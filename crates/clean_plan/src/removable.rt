@@ -10,7 +10,7 @@ ghost use Rattle.clean_plan.specs.Removable as removable;
 
 use crate::closed::stays_in_spec_excluded_directory;
 use crate::inputs::Cleaning;
-use crate::kept::{is_path_protected_from_clean, specs_exclude_directory};
+use crate::kept::{is_nonroot_path_protected_from_clean, specs_exclude_directory};
 use crate::what::What;
 use dir_classify::{Entry, Kind, PathspecMatch, Status};
 use gitbase_core::{Bytes, OutOfMemory, is_empty_or_root_path};
@@ -70,7 +70,7 @@ fn is_root_or_protected_from_clean(
     path: &[u8],
 ) -> Result<bool, OutOfMemory>
     requires lookup { IsLookupOfIndexIfGiven cleaning.now.index.now cleaning.now.lookup.now }
-    ensures { IfOk result (λ stays. stays ≡ kept.is_path_protected_from_clean
+    ensures { IfOk result (λ stays. stays ≡ kept.is_nonroot_path_protected_from_clean
         (plan_inputs_of_cleaning cleaning.now) path.now) }
 {
     if is_empty_or_root_path(path) {
@@ -78,7 +78,7 @@ fn is_root_or_protected_from_clean(
     }
     let mut prefix = Bytes::from_slice(alloc, path)?;
     prefix.extend(alloc, b"/")?;
-    Ok(is_path_protected_from_clean(cleaning, path, prefix.as_bytes()))
+    Ok(is_nonroot_path_protected_from_clean(cleaning, path, prefix.as_bytes()))
 }
 
 /// Whether an entry may go by itself, if its path is not kept.

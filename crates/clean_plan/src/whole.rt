@@ -9,7 +9,7 @@ ghost use Rattle.clean_plan.specs.Whole.{is_directory_unblocked_and_removable};
 
 use crate::fronts::has_ancestor_of_length;
 use crate::inputs::Cleaning;
-use crate::kept::{is_path_protected_from_clean, specs_exclude_directory};
+use crate::kept::{is_nonroot_path_protected_from_clean, specs_exclude_directory};
 use crate::paths::Paths;
 use crate::shared::shared_prefix_length;
 use gitbase_core::{is_empty_or_root_path, is_prefix_by_whole_components};
@@ -39,7 +39,7 @@ fn is_directory_unblocked_and_removable(
     if !is_prefix_by_whole_components(cleaning.start, front) {
         return false;
     }
-    !is_path_protected_from_clean(cleaning, front, &path[..at + 1])
+    !is_nonroot_path_protected_from_clean(cleaning, front, &path[..at + 1])
 }
 
 /// The same, if the path lies beneath that directory.

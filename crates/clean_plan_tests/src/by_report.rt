@@ -2,7 +2,7 @@
 use crate::plans::{answer_is, setup_of};
 use crate::tree::tree_of;
 use bstr::ByteSlice;
-use clean_plan::{Finding, What, plan_by_report};
+use clean_plan::{Finding, What, plan_removal_by_report};
 use gitbase_core::MemoryStore;
 use std::alloc::Global;
 use test_cases::{held, split_at_mark};
@@ -65,7 +65,7 @@ fn holds(alloc: Global, report: &Report, row: &[u8]) -> bool {
         return false;
     };
     let what = What::UntrackedAndIgnored;
-    let answer = plan_by_report(alloc, &mut tree, b"/w", &setup, what, report);
+    let answer = plan_removal_by_report(alloc, &mut tree, b"/w", &setup, what, report);
     let counted: u64 = if want == b"fault".as_slice() { 1 } else { 0 };
     answer_is(&answer, want) && tree.fault_count() == counted
 }

@@ -2,7 +2,7 @@
 use crate::plans::setup_in;
 use crate::tree::tree_of;
 use bstr::ByteSlice;
-use clean_plan::{Finding, Wanted, What, is_prepared, plan_clean_as_text};
+use clean_plan::{Finding, Wanted, What, are_options_prepared_for_plan, plan_clean_as_text};
 use std::alloc::Global;
 use test_cases::{held, lines_of_field_steps, split_at_mark};
 use worktree_fs::{MemoryWorktree, PlannedInterrupt};
@@ -109,7 +109,7 @@ fn text_is(
     want: &[u8],
 ) -> bool {
     let finding = Finding::NonBare;
-    if !is_prepared(&setup.options, finding) {
+    if !are_options_prepared_for_plan(&setup.options, finding) {
         return false;
     }
     let Some(lines) = lines_of_field_steps(alloc, want) else {

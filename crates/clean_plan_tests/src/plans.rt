@@ -1,7 +1,7 @@
 //! Plans of a cleaning.
 use crate::tree::tree_of;
 use bstr::ByteSlice;
-use clean_plan::{CleanError, Finding, Plan, What, is_prepared, plan, prepare};
+use clean_plan::{CleanError, Finding, Plan, What, are_options_prepared_for_plan, plan, prepare};
 use gitbase_core::MemoryStore;
 use std::alloc::Global;
 use test_cases::{held, lines_of_field_steps, split_at_mark};
@@ -274,7 +274,7 @@ fn is_answered(
     finding: Finding,
     want: &[u8],
 ) -> bool {
-    if !is_prepared(&setup.options, finding) {
+    if !are_options_prepared_for_plan(&setup.options, finding) {
         return false;
     }
     let mut objects = MemoryStore::new(alloc);

@@ -1,5 +1,5 @@
 //! Options that are prepared for a plan.
-use clean_plan::{Finding, is_prepared, prepare};
+use clean_plan::{Finding, are_options_prepared_for_plan, prepare};
 use std::alloc::Global;
 use worktree_report::{Setup, SetupOptions};
 
@@ -14,9 +14,11 @@ fn is_done(alloc: Global, lines: &[u8], finding: Finding, other: Finding) -> boo
     let Some(mut options) = options_of(alloc, lines) else {
         return false;
     };
-    let before = is_prepared(&options, finding);
+    let before = are_options_prepared_for_plan(&options, finding);
     prepare(&mut options, finding);
-    !before && is_prepared(&options, finding) && !is_prepared(&options, other)
+    !before
+        && are_options_prepared_for_plan(&options, finding)
+        && !are_options_prepared_for_plan(&options, other)
 }
 
 /// Whether what one line more sets stays as options are prepared.

@@ -2,7 +2,7 @@
 use crate::plans::setup_in;
 use crate::tree::tree_of;
 use bstr::ByteSlice;
-use clean_plan::{Finding, Wanted, What, is_prepared, plan_clean_as_text};
+use clean_plan::{Finding, Wanted, What, are_options_prepared_for_plan, plan_clean_as_text};
 use gitbase_core::{Bytes, is_prefix_by_whole_components};
 use std::alloc::Global;
 use test_cases::{held, split_at_mark};
@@ -154,7 +154,7 @@ named: a;ab;abc;ad;b;b2;d";
 /// The text of the plan that is wanted.
 fn text_of(alloc: Global, setup: &Setup, wanted: Wanted, reversed: bool) -> Option<Bytes> {
     let finding = Finding::NonBare;
-    if !is_prepared(&setup.options, finding) {
+    if !are_options_prepared_for_plan(&setup.options, finding) {
         return None;
     }
     let mut tree = tree_of(alloc, NODES, reversed)?;

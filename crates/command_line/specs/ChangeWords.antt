@@ -1,7 +1,7 @@
 -- Which paths of an index `ls-files` shows by what stands in the work tree: git-ls-files(1), "-d" and "-m".
 use Rattle.std.specs.Prelude.{Bool, false, Option, Some, None, if◌then◌else◌}
-use Rattle.ls_files.specs.declared.standings.Standings.{Standings}
-use Rattle.ls_files.specs.declared.standings.Standings.TheVariants as standings
+use Rattle.ls_files.specs.declared.standings.DeletedModifiedChoice.{DeletedModifiedChoice}
+use Rattle.ls_files.specs.declared.standings.DeletedModifiedChoice.TheVariants as standings
 use Rattle.command_line.specs.declared.change_words.ChangeWords.{ChangeWords}
 use Rattle.command_line.specs.declared.choice.Choice.{Choice}
 use Rattle.command_line.specs.declared.choice.Choice.TheVariants as choices
@@ -32,7 +32,7 @@ deleted_modified_flags_with_choice choices.Deduplicates on changes = changes
 deleted_modified_flags_with_choice choices.FullNames on changes = changes
 
 -- what is shown so
-abbrev pub standings_of_deleted_modified_flags : ChangeWords → Option Standings
+abbrev pub standings_of_deleted_modified_flags : ChangeWords → Option DeletedModifiedChoice
 standings_of_deleted_modified_flags changes =
     if changes.deleted then (if changes.modified then Some standings.Both else Some standings.Deleted)
     else if changes.modified then Some standings.Modified

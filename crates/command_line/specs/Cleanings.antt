@@ -23,12 +23,12 @@ abbrev pub clean_option_of_optional_choice : Bool → Option CleanChoice → Opt
 clean_option_of_optional_choice is_on choice = option_map (λ (c : CleanChoice). opts.Cleans c is_on) choice
 
 -- the option of a name for `clean`, turned on or off: `force`, or a choice
-abbrev pub clean_option_of_name_by_flag : Bool → List ℕ → Option Opt
-clean_option_of_name_by_flag is_on name = if bytes_eq name (codes "force") then Some (opts.Forces is_on) else clean_option_of_optional_choice is_on (negatable_clean_choice_of_name name)
+abbrev pub negatable_clean_option_of_name : Bool → List ℕ → Option Opt
+negatable_clean_option_of_name is_on name = if bytes_eq name (codes "force") then Some (opts.Forces is_on) else clean_option_of_optional_choice is_on (negatable_clean_choice_of_name name)
 
 -- the option that a long name means to `clean`, off behind `no-`
 abbrev pub clean_option_with_optional_no_prefix : List ℕ → Option Opt
-clean_option_with_optional_no_prefix name = if starts_with nat_eq name (codes "no-") then clean_option_of_name_by_flag false (drop 3 name) else clean_option_of_name_by_flag true name
+clean_option_with_optional_no_prefix name = if starts_with nat_eq name (codes "no-") then negatable_clean_option_of_name false (drop 3 name) else negatable_clean_option_of_name true name
 
 -- git's, and not answered here
 abbrev pub is_unsupported_clean_option : List ℕ → Bool

@@ -7,7 +7,7 @@ use Rattle.clean_plan.specs.declared.what.What.{What}
 use Rattle.git_clean.specs.declared.options.Cleaning.{Cleaning}
 use Rattle.git_setup.specs.declared.asked.Asked.{Asked}
 use Rattle.ls_files.specs.declared.options.Listing.{Listing}
-use Rattle.ls_files.specs.declared.standings.Standings.{Standings}
+use Rattle.ls_files.specs.declared.standings.DeletedModifiedChoice.{DeletedModifiedChoice}
 use Rattle.worktree_report.specs.declared.setup.SetupOptions.{SetupOptions}
 use Rattle.command_line.specs.declared.check_options.CheckAsked.{CheckAsked}
 use Rattle.command_line.specs.declared.clean_options.Force.{Force}
@@ -48,7 +48,7 @@ pub data Command : Type 0 where
   modules : WorkTreeRequest → Command
   state : WorkTreeRequest → Form → Bool → Command
   files : WorkTreeRequest → Listing → RulesGiven → Command
-  changed : WorkTreeRequest → Listing → RulesGiven → Standings → Command
+  changed : WorkTreeRequest → Listing → RulesGiven → DeletedModifiedChoice → Command
   clean : WorkTreeRequest → Cleaning → Force → List (List ℕ) → Command
   compare : WorkTreeRequest → Comparing → Command
   check : WorkTreeRequest → CheckAsked → Command
@@ -95,7 +95,7 @@ clean_request_of_directories_if_paths cleaning [] = cleaning
 clean_request_of_directories_if_paths cleaning (path ∷ paths) = record cleaning { directories = true }
 
 -- what changed is listed too, where that is asked for
-abbrev pub ls_files_or_changed_command : Option Standings → WorkTreeRequest → Listing → RulesGiven → Command
+abbrev pub ls_files_or_changed_command : Option DeletedModifiedChoice → WorkTreeRequest → Listing → RulesGiven → Command
 ls_files_or_changed_command None want listing rules = files want listing rules
 ls_files_or_changed_command (Some standings) want listing rules = changed want listing rules standings
 

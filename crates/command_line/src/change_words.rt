@@ -3,7 +3,7 @@ ghost use Rattle.std.specs.Prelude.{◌≡◌};
 ghost use Rattle.command_line.specs.ChangeWords as words;
 
 use crate::choice::Choice;
-use ls_files::Standings;
+use ls_files::DeletedModifiedChoice;
 
 /// Whether `-d` and `-m` stand among the words.
 #[derive(Clone, Copy, Debug, PartialEq, Eq)]
@@ -57,17 +57,17 @@ pub fn deleted_modified_flags_with_choice(
 }
 
 /// Which paths are shown so; none where neither stands.
-pub fn standings_of_deleted_modified_flags(changes: ChangeWords) -> Option<Standings>
+pub fn standings_of_deleted_modified_flags(changes: ChangeWords) -> Option<DeletedModifiedChoice>
     ensures { result ≡ words.standings_of_deleted_modified_flags changes }
 {
     if changes.deleted {
         if changes.modified {
-            return Some(Standings::Both);
+            return Some(DeletedModifiedChoice::Both);
         }
-        return Some(Standings::Deleted);
+        return Some(DeletedModifiedChoice::Deleted);
     }
     if changes.modified {
-        return Some(Standings::Modified);
+        return Some(DeletedModifiedChoice::Modified);
     }
     None
 }

@@ -105,8 +105,8 @@ fn clean_option_of_optional_choice(is_on: bool, choice: Option<CleanChoice>) -> 
 }
 
 /// What a name turns on or off.
-fn clean_option_of_name_by_flag(is_on: bool, name: &[u8]) -> Option<Opt>
-    ensures { result ≡ cleanings.clean_option_of_name_by_flag is_on name.now }
+fn negatable_clean_option_of_name(is_on: bool, name: &[u8]) -> Option<Opt>
+    ensures { result ≡ cleanings.negatable_clean_option_of_name is_on name.now }
 {
     if name == b"force".as_slice() {
         return Some(Opt::Forces(is_on));
@@ -120,9 +120,9 @@ fn clean_option_with_optional_no_prefix(name: &[u8]) -> Option<Opt>
 {
     if name.starts_with(b"no-") {
         let (_, rest) = name.split_at(3);
-        return clean_option_of_name_by_flag(false, rest);
+        return negatable_clean_option_of_name(false, rest);
     }
-    clean_option_of_name_by_flag(true, name)
+    negatable_clean_option_of_name(true, name)
 }
 
 /// Whether git has an option of this name that is not answered here.

@@ -9,7 +9,7 @@ use clean_plan::{Finding, What};
 use git_clean::Cleaning;
 use git_setup::Asked;
 use gitbase_core::Bytes;
-use ls_files::{Listing, Standings};
+use ls_files::{DeletedModifiedChoice, Listing};
 
 /// What is asked of a cleaning.
 #[derive(Debug, Drop)]
@@ -83,7 +83,7 @@ pub enum Command {
         /// What is asked of the listing.
         files: FilesAsked,
         /// What is listed by what stands in the work tree.
-        standings: Standings,
+        standings: DeletedModifiedChoice,
     },
     /// What `git clean` would remove is named.
     Clean {

@@ -12,7 +12,7 @@ use crate::verb::{Topic, Verb, prefers_current_directory, verb_of_word};
 use git_clean::Cleaning;
 use git_setup::Asked;
 use gitbase_core::Bytes;
-use ls_files::Standings;
+use ls_files::DeletedModifiedChoice;
 use std::alloc::Global;
 
 /// How deep `ls-files` and `clean` go: as deep as can be asked for.
@@ -44,7 +44,7 @@ fn clean_request_of_directories_if_paths(cleaning: Cleaning, paths: &[Bytes]) ->
 
 /// What is listed: what changed too, where that is asked for.
 fn ls_files_or_changed_command(
-    standings: Option<Standings>,
+    standings: Option<DeletedModifiedChoice>,
     asked: Asked,
     files: FilesAsked,
 ) -> Command
@@ -81,7 +81,8 @@ fn command_of_verb_and_draft(
     paths: Vec<Bytes>,
     rules: RulesGiven,
 ) -> Command
-    ensures { requests.seen result ≡ requests.command_of_verb_and_draft verb draft paths.items rules }
+    ensures { requests.seen result
+        ≡ requests.command_of_verb_and_draft verb draft paths.items rules }
 {
     let form = draft.form;
     let listing = draft.listing;

@@ -9,7 +9,7 @@ use dir_classify::{CollapsedEntriesEmissionMode, EmissionMode, ForDeletionMode};
 use git_clean::Cleaning;
 use git_setup::Asked;
 use gitbase_core::Bytes;
-use ls_files::{Listing, Standings};
+use ls_files::{DeletedModifiedChoice, Listing};
 use std::alloc::Global;
 use worktree_report::{SetupOptions, Strategy};
 
@@ -308,11 +308,11 @@ fn is_plan(what: What, finding: Finding, want: &[u8]) -> bool {
 }
 
 /// Whether what changed is listed so.
-fn is_changed(standings: Standings, want: &[u8]) -> bool {
+fn is_changed(standings: DeletedModifiedChoice, want: &[u8]) -> bool {
     match standings {
-        Standings::Deleted => want == b"gone".as_slice(),
-        Standings::Modified => want == b"other".as_slice(),
-        Standings::Both => want == b"gone or other".as_slice(),
+        DeletedModifiedChoice::Deleted => want == b"gone".as_slice(),
+        DeletedModifiedChoice::Modified => want == b"other".as_slice(),
+        DeletedModifiedChoice::Both => want == b"gone or other".as_slice(),
     }
 }
 

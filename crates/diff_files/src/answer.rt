@@ -14,7 +14,7 @@ use crate::parts::{DetailedEntry, change_parts_of_entry};
 use crate::row::{Row, push_rows_of_parts};
 use crate::stats::Stats;
 use crate::taken::{
-    first_sparse_directory_entry, has_last_unmerged_path, is_included_or_has_last_path,
+    first_sparse_directory_entry, is_included_or_has_last_path, is_path_of_last_unmerged,
     path_if_unmerged,
 };
 use git_index::Detail;
@@ -64,7 +64,7 @@ fn rows_of_entries<'a, W: Worktree, S: Stats>(
         };
         left = rest;
         if is_included_or_has_last_path(specs, last, entry) {
-            let first = !has_last_unmerged_path(last, entry);
+            let first = !is_path_of_last_unmerged(last, entry);
             let entry_of_path = DetailedEntry { entry, detail };
             let parts = change_parts_of_entry(
                 alloc,

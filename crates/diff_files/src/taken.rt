@@ -18,7 +18,7 @@ fn is_included_by_path_specs(specs: &Search, entry: &IndexEntry) -> bool
 }
 
 /// Whether an entry has the path of the last one that is not merged.
-pub fn has_last_unmerged_path(last: Option<&[u8]>, entry: &IndexEntry) -> bool
+pub fn is_path_of_last_unmerged(last: Option<&[u8]>, entry: &IndexEntry) -> bool
     ensures { result ≡ rows.is_same_path_as_last (option_copied last.entry) entry.now.path }
 {
     match last {
@@ -32,7 +32,7 @@ pub fn is_included_or_has_last_path(specs: &Search, last: Option<&[u8]>, entry: 
     ensures { result ≡ rows.is_included_or_has_last_path specs.now (option_copied last.entry)
         entry.now }
 {
-    if has_last_unmerged_path(last, entry) {
+    if is_path_of_last_unmerged(last, entry) {
         return true;
     }
     is_included_by_path_specs(specs, entry)

@@ -2,7 +2,7 @@
 use crate::words::spec_of;
 use gitbase_core::Bytes;
 use glob_rules::pathspec::Search;
-use ls_files::{Listing, NamedSpec, Standings};
+use ls_files::{DeletedModifiedChoice, Listing, NamedSpec};
 use std::alloc::Global;
 use test_cases::split_at_byte;
 
@@ -61,14 +61,14 @@ fn has(words: &[u8], wanted: &[u8]) -> bool {
 }
 
 /// Which paths words ask for.
-pub fn standings_of(words: &[u8]) -> Standings {
+pub fn standings_of(words: &[u8]) -> DeletedModifiedChoice {
     if !has(words, b"-m") {
-        return Standings::Deleted;
+        return DeletedModifiedChoice::Deleted;
     }
     if has(words, b"-d") {
-        return Standings::Both;
+        return DeletedModifiedChoice::Both;
     }
-    Standings::Modified
+    DeletedModifiedChoice::Modified
 }
 
 /// A path spec alone, as it is told and as it is from the top.

@@ -7,6 +7,7 @@ use Rattle.dir_classify.specs.declared.options.CollapsedEntriesEmissionMode.{Col
 use Rattle.dir_classify.specs.declared.options.ForDeletionMode.{ForDeletionMode}
 use Rattle.dir_classify.specs.declared.options.ForDeletionMode.TheVariants.{IgnoredDirectoriesCanHideNestedRepositories, FindNonBareRepositoriesInIgnoredDirectories, FindRepositoriesInIgnoredDirectories}
 
+-- the fields of `Options`, with the worktree set as a list of paths, empty where none is given
 pub record WalkOptions : Type 0 where
   pub precompose_unicode : Bool
   pub ignore_case : Bool
@@ -28,6 +29,7 @@ abbrev pub paths_of_optional_set : Option (List (List ℕ)) → List (List ℕ)
 paths_of_optional_set None = []
 paths_of_optional_set (Some paths) = paths
 
+-- every field is taken over; a worktree set that is not given reads as an empty list
 unfoldable pub walk_options_of : Options → WalkOptions
 walk_options_of o =
     record {
@@ -53,6 +55,7 @@ abbrev pub is_collapsing_mode : EmissionMode → Bool
 is_collapsing_mode Matching = false
 is_collapsing_mode CollapseDirectory = true
 
+-- the mode folds directories; with no mode given, none is folded
 abbrev pub collapses_directories_if_some : Option EmissionMode → Bool
 collapses_directories_if_some None = false
 collapses_directories_if_some (Some mode) = is_collapsing_mode mode

@@ -38,6 +38,7 @@ has_two_elements_or_more [] = false
 has_two_elements_or_more (name ∷ []) = false
 has_two_elements_or_more (name ∷ other ∷ names) = true
 
+-- it lies in a directory below the worktree root: neither the root nor a name at the top
 abbrev pub has_several_components : List ℕ → Bool
 has_several_components path = has_two_elements_or_more (components path)
 
@@ -58,6 +59,8 @@ pathspec_match_of_path ev path kind = option_map pathspec_match_from_match (ev.m
 abbrev pub kind_after_repository_test : Bool → Bool → Option Kind → RepositoryTestResult → RepositoryTestResult → Option Kind
 kind_after_repository_test recurses hard kind at below = if not recurses && ((hard && is_foreign_repository at) || is_foreign_repository below) then Some Repository else kind
 
+-- `Repository` where one is found at the path or in its `.git`, else the kind given;
+-- only where `hard` is a bare one at the path looked for, and where repositories are walked into none is
 abbrev pub upgrade : WalkOptions → PathEvidence → Option Kind → List ℕ → Bool → Option Kind
 upgrade o ev kind path hard = kind_after_repository_test o.recurse_repositories hard kind (ev.repository_at path) (ev.repository_in path)
 
@@ -75,6 +78,7 @@ index_and_disk_agree_on_directory entry kind = is_some entry.sparse || equals_op
 abbrev pub is_dir_following_symlink : WalkOptions → Option Kind → Option Kind → Option Bool
 is_dir_following_symlink o kind followed = if o.symlinks_to_directories_are_ignored_like_directories && is_symlink_kind kind then is_dir followed else is_dir kind
 
+-- whether rules that end in `/` may match the path: unknown without a kind; of a link, by what it leads to if asked
 abbrev pub is_dir_for_ignore_rules : WalkOptions → PathEvidence → List ℕ → Option Kind → Option Bool
 is_dir_for_ignore_rules o ev path kind = is_dir_following_symlink o kind (ev.followed path)
 
@@ -103,6 +107,7 @@ ignored_or_status status (Some kind) = Ignored kind
 abbrev pub ignore_kind_of_dot_git : WalkOptions → List ℕ → Ruling → Option IgnoredAs
 ignore_kind_of_dot_git o path ruling = if is_some o.for_deletion && has_several_components path then ruling.kind else None
 
+-- its kind is the one that the caller knows, and it has no index kind; a rule is named only where it makes the path ignored
 abbrev pub outcome_of_dot_git : WalkOptions → PathEvidence → List ℕ → Option Kind → Ruling → Outcome
 outcome_of_dot_git o ev path known ruling =
     record (outcome_with_status_only (ignored_or_status Pruned (ignore_kind_of_dot_git o path ruling))) {
@@ -134,10 +139,13 @@ outcome_of_index_entry entry kind found =
 abbrev pub is_directory_of_indexed_submodule : InIndex → Option Kind → Bool
 is_directory_of_indexed_submodule entry kind = is_plain_directory_kind kind && is_repository_kind entry.kind
 
+-- a submodule's directory is a `Repository` if `.git` in it leads to another repository than the own; any other kind stays;
+-- where repositories are walked into, none is looked for
 abbrev pub disk_kind_of_indexed_path : WalkOptions → InIndex → Option Kind → RepositoryTestResult → RepositoryTestResult → Option Kind
 disk_kind_of_indexed_path o entry kind at below =
     if is_directory_of_indexed_submodule entry kind then kind_after_repository_test o.recurse_repositories false kind at below else kind
 
+-- tracked, or pruned where a sparse checkout leaves it out; no ignore rule is asked
 abbrev pub outcome_of_indexed_path : WalkOptions → PathEvidence → List ℕ → Option Kind → Outcome
 outcome_of_indexed_path o ev path kind =
     outcome_of_index_entry (ev.in_index path) (disk_kind_of_indexed_path o (ev.in_index path) kind (ev.repository_at path) (ev.repository_in path)) (pathspec_match_of_path ev path kind)
@@ -150,6 +158,8 @@ outcome_with_ignored_status excluded entry kind found = record (outcome_with_sta
 abbrev pub deletion_finds_repositories_in_ignored : WalkOptions → Bool
 deletion_finds_repositories_in_ignored o = is_some o.emit_ignored && finds_repositories_in_ignored o.for_deletion
 
+-- a `Repository` where deletion looks for one and finds it, bare ones in the mode that asks for them; else the kind given;
+-- where repositories are walked into, none is looked for
 abbrev pub disk_kind_of_ignored_path : WalkOptions → Option Kind → RepositoryTestResult → RepositoryTestResult → Option Kind
 disk_kind_of_ignored_path o kind at below = if deletion_finds_repositories_in_ignored o then kind_after_repository_test o.recurse_repositories (finds_bare_repositories_in_ignored o.for_deletion) kind at below else kind
 
@@ -158,6 +168,7 @@ disk_kind_of_ignored_path o kind at below = if deletion_finds_repositories_in_ig
 abbrev pub may_lie_above_match_or_worktree : WalkOptions → List ℕ → Option PathspecMatch → Bool
 may_lie_above_match_or_worktree o path found = is_none found || (is_some o.for_deletion && has_worktree_beneath o path)
 
+-- where ignored paths are emitted, such a directory matches as `Prefix`; else the match stays as the specs gave it
 abbrev pub pathspec_match_of_ignored_path : WalkOptions → List ℕ → Option Kind → Option PathspecMatch → Option PathspecMatch
 pathspec_match_of_ignored_path o path kind found = if is_some o.emit_ignored && is_plain_directory_kind kind && may_lie_above_match_or_worktree o path found then Some Prefix else found
 
@@ -165,6 +176,7 @@ pathspec_match_of_ignored_path o path kind found = if is_some o.emit_ignored && 
 abbrev pub outcome_of_ignored_kind : WalkOptions → List ℕ → IgnoredAs → InIndex → Option PathspecMatch → Option Kind → Outcome
 outcome_of_ignored_kind o path excluded entry found seen = outcome_with_ignored_status excluded entry seen (pathspec_match_of_ignored_path o path seen found)
 
+-- a repository may be looked for first: only whether the match becomes `Prefix` is judged by the kind that the look leaves
 abbrev pub outcome_of_ignored_path : WalkOptions → PathEvidence → List ℕ → Option Kind → IgnoredAs → Outcome
 outcome_of_ignored_path o ev path kind excluded =
     outcome_of_ignored_kind o path excluded (ev.in_index path) (pathspec_match_of_path ev path kind) (disk_kind_of_ignored_path o kind (ev.repository_at path) (ev.repository_in path))
@@ -186,6 +198,7 @@ abbrev pub outcome_by_ignore_kind : WalkOptions → PathEvidence → List ℕ �
 outcome_by_ignore_kind o ev path kind None = if is_some_directory_kind kind then outcome_of_untracked_directory o ev path kind else outcome_of_untracked_non_directory ev path kind
 outcome_by_ignore_kind o ev path kind (Some excluded) = outcome_of_ignored_path o ev path kind excluded
 
+-- ignored, untracked or pruned; the deciding rule is named in each case, a negative one too
 abbrev pub outcome_of_unindexed_path : WalkOptions → PathEvidence → List ℕ → Option Kind → Ruling → Outcome
 outcome_of_unindexed_path o ev path kind ruling = record (outcome_by_ignore_kind o ev path kind ruling.kind) { origin = ruling.origin }
 
@@ -290,8 +303,10 @@ enters o c in_repository = can_recurse c.status c.disk_kind c.pathspec_match o.f
 abbrev pub kind_after_bare_repository_test : PathEvidence → Option Kind → List ℕ → Option Kind
 kind_after_bare_repository_test ev kind path = kind_after_repository_test false true kind (ev.repository_at path) (ev.repository_in path)
 
+-- an ignored directory not seen as a repository, in the deletion mode that does not look for repositories in ignored ones
 abbrev pub is_ignored_directory_hiding_repositories : WalkOptions → Outcome → Bool
 is_ignored_directory_hiding_repositories o c = is_ignored_status c.status && is_plain_directory_kind c.disk_kind && deletion_skips_search_of_ignored_directories o.for_deletion
 
+-- such a directory becomes a `Repository` if one is found, a bare one too; any other class stays as it is
 unfoldable pub outcome_of_unentered_path : WalkOptions → PathEvidence → List ℕ → Outcome → Outcome
 outcome_of_unentered_path o ev path c = if is_ignored_directory_hiding_repositories o c then record c { disk_kind = kind_after_bare_repository_test ev c.disk_kind path } else c

@@ -9,12 +9,14 @@ use Rattle.dir_classify.specs.declared.entry.Status.TheVariants.{Pruned, Tracked
 use Rattle.dir_classify.specs.declared.options.ForDeletionMode.{ForDeletionMode}
 use Rattle.dir_classify.specs.Chosen.{finds_repositories_in_ignored}
 
+-- the path was left out of the walk: neither tracked, untracked nor ignored
 abbrev pub is_pruned_status : Status → Bool
 is_pruned_status Pruned = true
 is_pruned_status Tracked = false
 is_pruned_status (Ignored kind) = false
 is_pruned_status Untracked = false
 
+-- an ignore rule excludes the path, be it expendable or precious
 abbrev pub is_ignored_status : Status → Bool
 is_ignored_status (Ignored kind) = true
 is_ignored_status Pruned = false

@@ -21,6 +21,7 @@ pub record RepositoryTestResult : Type 0 where
 abbrev pub is_foreign_repository : RepositoryTestResult → Bool
 is_foreign_repository at = at.is_git && not at.is_own
 
+-- what a path is asked by is a function of it, and where needed of whether it is a directory: `None` where that is unknown
 pub record PathEvidence : Type 0 where
   -- what the index says of a path
   pub in_index : List ℕ → InIndex
@@ -49,5 +50,6 @@ abbrev pub is_optional_path_equal : Option (List ℕ) → List ℕ → Bool
 is_optional_path_equal None path = false
 is_optional_path_equal (Some blocked) path = bytes_eq path blocked
 
+-- it equals the directory that deletion must leave in place; none does where nothing is to be protected
 abbrev pub is_protected_current_directory : PathEvidence → List ℕ → Bool
 is_protected_current_directory ev path = is_optional_path_equal ev.blocked path

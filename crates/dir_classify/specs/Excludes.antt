@@ -13,9 +13,9 @@ abbrev pub setup_of_optional_stack : Option StackModel → Option StackSetup
 setup_of_optional_stack excludes = option_map setup_of_stack excludes
 
 -- they tell which paths are excluded, where they are given
-abbrev pub has_excludes_if_given : Option StackSetup → Bool
-has_excludes_if_given None = true
-has_excludes_if_given (Some made) = has_excludes made
+abbrev pub is_absent_or_has_excludes : Option StackSetup → Bool
+is_absent_or_has_excludes None = true
+is_absent_or_has_excludes (Some made) = has_excludes made
 
 -- they tell the attributes of paths too, where they are given
 abbrev pub has_attributes_if_given : Option StackSetup → Bool

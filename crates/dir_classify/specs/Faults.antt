@@ -26,9 +26,11 @@ pub record Failed : Type 0 where
   pub at : FailedRepositoryQuestions
   pub below : FailedRepositoryQuestions
 
+-- both answers about where a path leads were read as they are
 abbrev pub no_repository_question_failed : FailedRepositoryQuestions
 no_repository_question_failed = record { is_git = false; is_own = false }
 
+-- all answers about the path were read as they are: its class is the one by the whole evidence
 abbrev pub no_question_failed : Failed
 no_question_failed = record { kind = false; followed = false; at = no_repository_question_failed; below = no_repository_question_failed }
 
@@ -36,9 +38,11 @@ no_question_failed = record { kind = false; followed = false; at = no_repository
 abbrev pub count_of_flag : Bool → ℕ
 count_of_flag failed = if failed then 1 else 0
 
+-- 0 to 2: the test for a repository, and that for the own git directory
 abbrev pub count_failed_repository_questions : FailedRepositoryQuestions → ℕ
 count_failed_repository_questions failed = count_of_flag failed.is_git + count_of_flag failed.is_own
 
+-- 0 to 6: two about the kind, and two each of the path itself and of `.git` in it
 abbrev pub count_failed_questions : Failed → ℕ
 count_failed_questions failed = count_of_flag failed.kind + count_of_flag failed.followed + count_failed_repository_questions failed.at + count_failed_repository_questions failed.below
 

@@ -56,6 +56,7 @@ from_index_entry_kind entries.Directory = Directory
 
 -- ---- one kind
 
+-- a directory not seen as a repository; a kind that is not known is none
 abbrev pub is_plain_directory_kind : Option Kind → Bool
 is_plain_directory_kind (Some Directory) = true
 is_plain_directory_kind (Some Repository) = false
@@ -64,6 +65,7 @@ is_plain_directory_kind (Some File) = false
 is_plain_directory_kind (Some Symlink) = false
 is_plain_directory_kind None = false
 
+-- a repository of its own, as a submodule is; a kind that is not known is none
 abbrev pub is_repository_kind : Option Kind → Bool
 is_repository_kind (Some Repository) = true
 is_repository_kind (Some Directory) = false
@@ -72,6 +74,7 @@ is_repository_kind (Some File) = false
 is_repository_kind (Some Symlink) = false
 is_repository_kind None = false
 
+-- a link, whatever it leads to; a kind that is not known is none
 abbrev pub is_symlink_kind : Option Kind → Bool
 is_symlink_kind (Some Symlink) = true
 is_symlink_kind (Some Directory) = false
@@ -92,6 +95,7 @@ is_dot_git_property None = false
 
 -- ---- how a path spec matches
 
+-- how close a spec that does not exclude matches, from `Always` to `Verbatim`; never `Excluded`
 abbrev pub from_match_kind : MatchKind → PathspecMatch
 from_match_kind specs.Always = Always
 from_match_kind specs.Prefix = Prefix

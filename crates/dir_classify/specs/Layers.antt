@@ -36,6 +36,7 @@ use Rattle.dir_classify.specs.Kinds.{from_index_entry_kind, from_node_kind}
 abbrev pub nothing_in_index : InIndex
 nothing_in_index = record { up_to_date = None; kind = None; sparse = None }
 
+-- `sparse` is `TrackedExcluded` for a directory that a sparse checkout leaves out as a whole
 abbrev pub from_index_kinds : IndexKinds → InIndex
 from_index_kinds k = record { up_to_date = option_map from_index_entry_kind k.up_to_date; kind = option_map from_index_entry_kind k.kind; sparse = if k.is_left_out then Some TrackedExcluded else None }
 
@@ -92,6 +93,7 @@ abbrev pub current_directory_in_worktree : Names → List ℕ → List ℕ → O
 current_directory_in_worktree t root cwd =
     option_and_then (λ rest. normalized (without_leading_slashes rest)) (option_and_then (λ real. rest_behind_directory real cwd) (real_path t root cwd))
 
+-- in deletion alone, and relative to the worktree root; none where the current directory lies outside the worktree
 abbrev pub protected_current_directory : WalkOptions → Names → List ℕ → List ℕ → Option (List ℕ)
 protected_current_directory o t root cwd = if is_some o.for_deletion then current_directory_in_worktree t root cwd else None
 

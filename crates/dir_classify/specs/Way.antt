@@ -25,6 +25,7 @@ pub record EndOfWayToRoot : Type 0 where
 abbrev pub outcome_of_path_on_way : WalkOptions → PathEvidence → (List ℕ → Option Kind) → List ℕ → Outcome
 outcome_of_path_on_way o ev kind_at path = class o ev path (kind_at path) None
 
+-- its class asks the ignore rules, and a rules file above it is refused; its kind is known beforehand from the disk
 abbrev pub asks_unreadable_rules_on_way : WalkOptions → PathEvidence → (List ℕ → Option Kind) → List ℕ → Bool
 asks_unreadable_rules_on_way o ev kind_at path = asks_unreadable_rules o ev path (kind_at path) None
 

@@ -6,7 +6,7 @@ ghost use Rattle.dir_classify.specs.Chosen.{walk_options_of};
 ghost use Rattle.dir_classify.specs.Class.{enters};
 ghost use Rattle.dir_classify.specs.Classes.{ClassifiesPath, AnswersClassQuestion};
 ghost use Rattle.dir_classify.specs.Contexts.{KeepsContextLoans};
-ghost use Rattle.dir_classify.specs.Excludes.{setup_of_optional_stack, has_excludes_if_given};
+ghost use Rattle.dir_classify.specs.Excludes.{setup_of_optional_stack, is_absent_or_has_excludes};
 ghost use Rattle.dir_classify.specs.Layers.{setting_of_context, setting_of_shared, IsLookupOfIndexIfGiven};
 ghost use Rattle.dir_classify.specs.Question.{question_about_path_on_way};
 ghost use Rattle.dir_classify.specs.Rooted.{ClassifiesWayToRoot, reached_of_root_outcome};
@@ -138,7 +138,7 @@ pub fn path<W: Worktree, F: Find, I: Interrupt, M: Matcher>(
     requires spelled { rela_path.now ≡ slash_joined_components (components rela_path.now) }
     requires lookup { IsLookupOfIndexIfGiven ctx.old.index.now
         ctx.old.ignore_case_index_lookup.now }
-    requires excludes { has_excludes_if_given (setup_of_optional_stack ctx.old.excludes.now)
+    requires excludes { is_absent_or_has_excludes (setup_of_optional_stack ctx.old.excludes.now)
         ≡ true }
     ensures classes { ClassifiesPath W.Worktree F.Find ctx.old.worktree.now ctx.new.worktree.now
         ctx.old.objects.now ctx.new.objects.now ctx.old.excludes.now ctx.new.excludes.now
@@ -198,7 +198,7 @@ pub fn root<W: Worktree, F: Find, I: Interrupt, M: Matcher>(
         ≡ slash_joined_components (components worktree_relative_root.now) }
     requires lookup { IsLookupOfIndexIfGiven ctx.old.index.now
         ctx.old.ignore_case_index_lookup.now }
-    requires excludes { has_excludes_if_given (setup_of_optional_stack ctx.old.excludes.now)
+    requires excludes { is_absent_or_has_excludes (setup_of_optional_stack ctx.old.excludes.now)
         ≡ true }
     ensures reaches { ClassifiesWayToRoot W.Worktree F.Find ctx.old.worktree.now
         ctx.new.worktree.now ctx.old.objects.now ctx.new.objects.now ctx.old.excludes.now
@@ -246,7 +246,7 @@ pub fn classify_way_to_traversal_root<W: Worktree, F: Find, M: Matcher>(
         ≡ slash_joined_components (components worktree_relative_root.now) }
     requires lookup { IsLookupOfIndexIfGiven shared.now.index.now
         shared.now.ignore_case_index_lookup.now }
-    requires excludes { has_excludes_if_given (setup_of_optional_stack excludes.old) ≡ true }
+    requires excludes { is_absent_or_has_excludes (setup_of_optional_stack excludes.old) ≡ true }
     ensures { ClassifiesWayToRoot W.Worktree F.Find worktree.old worktree.new objects.old
         objects.new excludes.old excludes.new (setting_of_shared M.Matcher shared.now)
         worktree_relative_root.now result }
@@ -334,7 +334,7 @@ fn classify_path_asking_kind_first<W: Worktree, F: Find, M: Matcher>(
     requires spelled { rela_path.now ≡ slash_joined_components (components rela_path.now) }
     requires lookup { IsLookupOfIndexIfGiven shared.now.index.now
         shared.now.ignore_case_index_lookup.now }
-    requires excludes { has_excludes_if_given (setup_of_optional_stack excludes.old) ≡ true }
+    requires excludes { is_absent_or_has_excludes (setup_of_optional_stack excludes.old) ≡ true }
     ensures { AnswersClassQuestion W.Worktree F.Find worktree.old worktree.new objects.old
         objects.new excludes.old excludes.new (setting_of_shared M.Matcher shared.now)
         (question_about_path_on_way (walk_options_of shared.now.options) rela_path.now) result }

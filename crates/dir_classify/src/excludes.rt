@@ -9,7 +9,7 @@ ghost use Rattle.worktree_stack.specs.Setup.{has_excludes};
 ghost use Rattle.worktree_stack.specs.Stacked.{setup_of_stack};
 ghost use Rattle.dir_classify.specs.Classes.{AsksRulesAboutPath};
 ghost use Rattle.dir_classify.specs.Evidence.{ruling_without_rule};
-ghost use Rattle.dir_classify.specs.Excludes.{setup_of_optional_stack, may_read_worktree_rules, has_excludes_if_given, TellsTreeAndObjects, IsStackInStepIfGiven};
+ghost use Rattle.dir_classify.specs.Excludes.{setup_of_optional_stack, may_read_worktree_rules, is_absent_or_has_excludes, TellsTreeAndObjects, IsStackInStepIfGiven};
 ghost use Rattle.dir_classify.specs.Kept.{LeavesAllUnchanged};
 ghost use Rattle.dir_classify.specs.Layers.{ruling_of_optional_setup, is_some_rules_file_unread};
 
@@ -41,8 +41,8 @@ impl Ruling {
 /// handed to a class or a walk.
 ///
 /// See docs/DECISIONS.md#clauses-without-rules.
-pub fn has_excludes_if_given(excludes: &Option<Stack>) -> bool
-    ensures { result ≡ has_excludes_if_given (setup_of_optional_stack excludes.now) }
+pub fn is_absent_or_has_excludes(excludes: &Option<Stack>) -> bool
+    ensures { result ≡ is_absent_or_has_excludes (setup_of_optional_stack excludes.now) }
 {
     match excludes {
         Some(stack) => stack.has_excludes(),
@@ -60,7 +60,7 @@ pub(crate) fn ruling_of_optional_stack<W: Worktree, F: Find>(
     worktree: &mut W,
     objects: &mut F,
 ) -> Result<Ruling, Error>
-    requires excludes { has_excludes_if_given (setup_of_optional_stack excludes.old) ≡ true }
+    requires excludes { is_absent_or_has_excludes (setup_of_optional_stack excludes.old) ≡ true }
     requires normal { is_relative_without_dots rela_path.now ≡ true }
     ensures ruling { (s : TreeAndObjects) → TellsTreeAndObjects (W.told worktree.old)
         (F.holds objects.old) (setup_of_optional_stack excludes.old) s → IsStackInStepIfGiven s

@@ -18,7 +18,7 @@ mod steps;
 pub use context::{Context, Shared};
 pub use entry::{Entry, EntryRef, Kind, PathspecMatch, Property, Status};
 pub use error::{Error, MetadataWhy, ReadWhy};
-pub use excludes::has_excludes_if_given;
+pub use excludes::is_absent_or_has_excludes;
 pub use options::{CollapsedEntriesEmissionMode, EmissionMode, ForDeletionMode, Options};
 pub use paths::join_worktree_root;
 pub use repository::maybe_upgrade_to_repository;

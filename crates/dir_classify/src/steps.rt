@@ -10,7 +10,7 @@ ghost use Rattle.dir_classify.specs.Chosen.{walk_options_of};
 ghost use Rattle.dir_classify.specs.Class.{is_kind_known_without_disk, is_dir_following_symlink, ruling_unless_worktree_root};
 ghost use Rattle.dir_classify.specs.Classes.{ClassifiesPath, AnswersClassQuestion, AsksRulesAboutPath};
 ghost use Rattle.dir_classify.specs.Evidence.{ruling_without_rule};
-ghost use Rattle.dir_classify.specs.Excludes.{setup_of_optional_stack, has_excludes_if_given, TellsTreeAndObjects, IsStackInStepIfGiven};
+ghost use Rattle.dir_classify.specs.Excludes.{setup_of_optional_stack, is_absent_or_has_excludes, TellsTreeAndObjects, IsStackInStepIfGiven};
 ghost use Rattle.dir_classify.specs.Faults.{IsRulingAsRead};
 ghost use Rattle.dir_classify.specs.Kept.{LeavesAllUnchanged};
 ghost use Rattle.std.specs.Option.{option_or};
@@ -71,7 +71,7 @@ pub fn classify_name_in_directory<W: Worktree, F: Find, M: Matcher>(
     requires lookup { IsLookupOfIndexIfGiven shared.now.index.now
         shared.now.ignore_case_index_lookup.now }
     requires seen { IsNameInIndexDirectory shared.now.index.now rela_path.now name.now beneath.now }
-    requires excludes { has_excludes_if_given (setup_of_optional_stack excludes.old) ≡ true }
+    requires excludes { is_absent_or_has_excludes (setup_of_optional_stack excludes.old) ≡ true }
     ensures { ClassifiesPath W.Worktree F.Find worktree.old worktree.new objects.old objects.new
         excludes.old excludes.new (setting_of_shared M.Matcher shared.now) rela_path.now disk_kind
         ask_disk result }
@@ -115,7 +115,7 @@ fn classify_dot_git<W: Worktree, F: Find, M: Matcher>(
     objects: &mut F,
 ) -> Result<Outcome, Error>
     requires normal { is_relative_without_dots rela_path.now ≡ true }
-    requires excludes { has_excludes_if_given (setup_of_optional_stack excludes.old) ≡ true }
+    requires excludes { is_absent_or_has_excludes (setup_of_optional_stack excludes.old) ≡ true }
     ensures { (ask_disk : Bool) → AnswersClassQuestion W.Worktree F.Find worktree.old worktree.new
         objects.old objects.new excludes.old excludes.new (setting_of_shared M.Matcher shared.now)
         (question_about_dot_git (walk_options_of shared.now.options) rela_path.now disk_kind
@@ -147,7 +147,7 @@ fn classify_path_of_known_kind<W: Worktree, F: Find, M: Matcher>(
     requires normal { is_relative_without_dots rela_path.now ≡ true }
     requires entry { entry ≡ index_kinds_by_setting (setting_of_shared M.Matcher shared.now)
         rela_path.now }
-    requires excludes { has_excludes_if_given (setup_of_optional_stack excludes.old) ≡ true }
+    requires excludes { is_absent_or_has_excludes (setup_of_optional_stack excludes.old) ≡ true }
     ensures { (ask_disk : Bool) → AnswersClassQuestion W.Worktree F.Find worktree.old worktree.new
         objects.old objects.new excludes.old excludes.new (setting_of_shared M.Matcher shared.now)
         (question_about_known_kind (walk_options_of shared.now.options) rela_path.now kind ask_disk)
@@ -184,7 +184,7 @@ fn ruling_unless_worktree_root<W: Worktree, F: Find, M: Matcher>(
     requires full { full.now ≡ root_joined_with_relative shared.now.worktree_root.now
         rela_path.now }
     requires normal { is_relative_without_dots rela_path.now ≡ true }
-    requires excludes { has_excludes_if_given (setup_of_optional_stack excludes.old) ≡ true }
+    requires excludes { is_absent_or_has_excludes (setup_of_optional_stack excludes.old) ≡ true }
     ensures ruling { (s : TreeAndObjects) → TellsTreeAndObjects (W.told worktree.old)
         (F.holds objects.old) (setup_of_optional_stack excludes.old) s → IsStackInStepIfGiven s
         excludes.old → CountNotIncreased (W.faults worktree.old) (W.faults worktree.new)

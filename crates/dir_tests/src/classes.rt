@@ -1,6 +1,6 @@
 //! The class of a path, case by case.
 ghost use Rattle.std.specs.Prelude.{◌≡◌, true, IfOk};
-ghost use Rattle.dir_classify.specs.Excludes.{setup_of_optional_stack, has_excludes_if_given};
+ghost use Rattle.dir_classify.specs.Excludes.{setup_of_optional_stack, is_absent_or_has_excludes};
 ghost use Rattle.dir_classify.specs.Layers.{IsLookupOfIndexIfGiven};
 ghost use Rattle.dir_walk.specs.Rooting.{IsNormalRootPath};
 
@@ -10,7 +10,7 @@ use crate::class_cases::{CASES, REPOSITORIES, WAYS};
 use bstr::ByteSlice;
 use dir_classify::classify::{self, Outcome, RootOutcome};
 use dir_classify::{
-    Context, Error, Kind, Options, PathspecMatch, Property, Status, has_excludes_if_given,
+    Context, Error, Kind, Options, PathspecMatch, Property, Status, is_absent_or_has_excludes,
     maybe_upgrade_to_repository,
 };
 use gitbase_core::{AccelerateLookup, MemoryStore, OutOfMemory, PathText, State, is_absolute};
@@ -154,7 +154,7 @@ fn class_in<'a>(
 ) -> Result<Outcome, Error>
     requires root { IsNormalRootPath path.now }
     requires lookup { IsLookupOfIndexIfGiven index.now lookup.now }
-    requires excludes { has_excludes_if_given (setup_of_optional_stack excludes.old) ≡ true }
+    requires excludes { is_absent_or_has_excludes (setup_of_optional_stack excludes.old) ≡ true }
 {
     let mut ctx = Context {
         worktree,
@@ -180,7 +180,7 @@ fn class_of(
     known: Option<Kind>,
     ask: bool,
 ) -> Result<Outcome, Error> {
-    if !has_excludes_if_given(&world.excludes) {
+    if !is_absent_or_has_excludes(&world.excludes) {
         return Err(Error::OutOfMemory);
     }
     let lookup = lookup_of(alloc, &world.index)?;
@@ -224,7 +224,7 @@ fn way_in<'a>(
 ) -> Result<RootOutcome, Error>
     requires root { IsNormalRootPath path.now }
     requires lookup { IsLookupOfIndexIfGiven index.now lookup.now }
-    requires excludes { has_excludes_if_given (setup_of_optional_stack excludes.old) ≡ true }
+    requires excludes { is_absent_or_has_excludes (setup_of_optional_stack excludes.old) ≡ true }
 {
     let mut ctx = Context {
         worktree,
@@ -249,7 +249,7 @@ fn way_of(
     root: &[u8],
     path: &[u8],
 ) -> Result<RootOutcome, Error> {
-    if !has_excludes_if_given(&world.excludes) {
+    if !is_absent_or_has_excludes(&world.excludes) {
         return Err(Error::OutOfMemory);
     }
     let lookup = lookup_of(alloc, &world.index)?;

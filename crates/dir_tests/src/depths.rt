@@ -1,7 +1,7 @@
 //! How deep a walk goes: which directory is refused as it lies too deep, and what was listed
 //! before.
 ghost use Rattle.std.specs.Prelude.{◌≡◌, true};
-ghost use Rattle.dir_classify.specs.Excludes.{setup_of_optional_stack, has_excludes_if_given};
+ghost use Rattle.dir_classify.specs.Excludes.{setup_of_optional_stack, is_absent_or_has_excludes};
 
 use crate::asked::options_of;
 use crate::cases::{lie_at_once, lie_of};
@@ -109,7 +109,7 @@ fn walked<'a>(
     excludes: &'a mut Option<Stack>,
     index: &'a State,
 ) -> Result<Report, Error>
-    requires excludes { has_excludes_if_given (setup_of_optional_stack excludes.old) ≡ true }
+    requires excludes { is_absent_or_has_excludes (setup_of_optional_stack excludes.old) ≡ true }
 {
     let ctx = Context {
         worktree,

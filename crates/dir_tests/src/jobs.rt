@@ -1,10 +1,10 @@
 //! Which worktree lists what, and which store is asked, where subtrees are walked at once.
 ghost use Rattle.std.specs.Prelude.{◌≡◌, true};
-ghost use Rattle.dir_classify.specs.Excludes.{setup_of_optional_stack, has_excludes_if_given};
+ghost use Rattle.dir_classify.specs.Excludes.{setup_of_optional_stack, is_absent_or_has_excludes};
 
 use crate::asked::options_of;
 use crate::noted::{Noted, NotedStore};
-use dir_classify::{Context, Error, Options, has_excludes_if_given};
+use dir_classify::{Context, Error, Options, is_absent_or_has_excludes};
 use dir_walk::{Collect, Outcome, walk_at_once};
 use gitbase_core::{
     Bytes, Find, Flags, IndexEntry, MemoryStore, Mode, ObjectId, OutOfMemory, PathText, State,
@@ -39,7 +39,7 @@ fn walked<'a, F: Find>(
     excludes: &'a mut Option<Stack>,
     index: &'a State,
 ) -> Result<(Outcome, PathText, Collect), Error>
-    requires excludes { has_excludes_if_given (setup_of_optional_stack excludes.old) ≡ true }
+    requires excludes { is_absent_or_has_excludes (setup_of_optional_stack excludes.old) ≡ true }
 {
     let ctx = Context {
         worktree,
@@ -139,7 +139,7 @@ fn is_walked(
     store: &mut NotedStore,
     excludes: &mut Option<Stack>,
 ) -> bool {
-    if !has_excludes_if_given(excludes) {
+    if !is_absent_or_has_excludes(excludes) {
         return false;
     }
     walked(

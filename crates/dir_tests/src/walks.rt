@@ -1,6 +1,6 @@
 //! Walks, case by case.
 ghost use Rattle.std.specs.Prelude.{◌≡◌, true};
-ghost use Rattle.dir_classify.specs.Excludes.{setup_of_optional_stack, has_excludes_if_given};
+ghost use Rattle.dir_classify.specs.Excludes.{setup_of_optional_stack, is_absent_or_has_excludes};
 
 use crate::asked::options_of;
 use crate::cases::{World, lie_at_once, lie_of};
@@ -9,7 +9,7 @@ use crate::odd::{Looks, Odd};
 use crate::refusals::is_error;
 use crate::walk_cases::{DELEGATES, FOLDS, ROOTS, RULES, WALKS};
 use bstr::ByteSlice;
-use dir_classify::{Context, Entry, Error, Options, Status, has_excludes_if_given};
+use dir_classify::{Context, Entry, Error, Options, Status, is_absent_or_has_excludes};
 use dir_walk::{Outcome, Report, Strategy, walk, walk_at_once, walk_sorted_by_path};
 use gitbase_core::{Bytes, MemoryStore, PathText, State};
 use glob_rules::ignore::{Origin, RuleGroup};
@@ -132,7 +132,7 @@ fn report_in<'a>(
     explicit_traversal_root: &'a Option<Bytes>,
     depth_limit: usize,
 ) -> Result<Report, Error>
-    requires excludes { has_excludes_if_given (setup_of_optional_stack excludes.old) ≡ true }
+    requires excludes { is_absent_or_has_excludes (setup_of_optional_stack excludes.old) ≡ true }
 {
     let ctx = Context {
         worktree,
@@ -165,7 +165,7 @@ fn report_at_once<'a>(
     explicit_traversal_root: &'a Option<Bytes>,
     depth_limit: usize,
 ) -> Result<Report, Error>
-    requires excludes { has_excludes_if_given (setup_of_optional_stack excludes.old) ≡ true }
+    requires excludes { is_absent_or_has_excludes (setup_of_optional_stack excludes.old) ≡ true }
 {
     let ctx = Context {
         worktree,
@@ -190,7 +190,7 @@ fn report_at_once<'a>(
 
 /// The report of a walk, over a store that holds nothing.
 fn report(alloc: Global, world: &mut World, root: &[u8]) -> Result<Report, Error> {
-    if !has_excludes_if_given(&world.excludes) {
+    if !is_absent_or_has_excludes(&world.excludes) {
         return Err(Error::OutOfMemory);
     }
     if world.asked.strategy == Strategy::AtOnce {
@@ -244,7 +244,7 @@ fn given_in<'a>(
     explicit_traversal_root: &'a Option<Bytes>,
     delegate: &mut Odd,
 ) -> Result<(Outcome, PathText), Error>
-    requires excludes { has_excludes_if_given (setup_of_optional_stack excludes.old) ≡ true }
+    requires excludes { is_absent_or_has_excludes (setup_of_optional_stack excludes.old) ≡ true }
 {
     let ctx = Context {
         worktree,
@@ -269,7 +269,7 @@ fn given(
     root: &[u8],
     delegate: &mut Odd,
 ) -> Result<(Outcome, PathText), Error> {
-    if !has_excludes_if_given(&world.excludes) {
+    if !is_absent_or_has_excludes(&world.excludes) {
         return Err(Error::OutOfMemory);
     }
     given_in(

@@ -1,5 +1,5 @@
 -- What makes a report right, and safe to act on, and what holds of each.
-use Rattle.std.specs.Prelude.{◌≡◌, ℕ, List, [], false, Option, Some, IsSomeAnd}
+use Rattle.std.specs.Prelude.{◌≡◌, ◌≤◌, ◌-◌, ◌^◌, ℕ, min, length, List, [], false, Option, Some, IsSomeAnd}
 use Rattle.worktree_fs.specs.Paths.{root_joined_with_relative}
 use Rattle.worktree_stack.specs.Reading.{TreeAndObjects}
 use Rattle.worktree_stack.specs.Setup.{StackSetup}
@@ -9,6 +9,7 @@ use Rattle.dir_walk.specs.declared.report.Report.{Report}
 use Rattle.dir_walk.specs.Covered.{CoversUnfoldedReport, options_without_folding, setting_without_folding}
 use Rattle.dir_walk.specs.Distinct.{IsWithoutNestedPaths, IsStrictlyAscendingByPath}
 use Rattle.dir_walk.specs.Emissions.{sort_emissions_by_path}
+use Rattle.dir_walk.specs.Puts.{count_hidden_emissions}
 use Rattle.dir_walk.specs.Report.{emissions_with_handed_up, report, emissions_shown_by_options}
 use Rattle.dir_walk.specs.Root.{walk_over_sources}
 use Rattle.dir_walk.specs.Rooting.{IsNormalizedRoot}
@@ -32,3 +33,13 @@ pub record IsReportFromNormalizedRoot (given : WalkSetting) (explicit : Option (
   pub asked : IsNormalizedRoot given explicit root
   pub named : r.root ≡ root_joined_with_relative given.root root
   pub once : AddsPathsFromRootOnce root (Some []) (Some r.entries)
+
+-- What holds of each report, whatever a worktree tells and however often it fails: its paths ascend strictly, byte by byte, and so each
+-- stands once; its entries are counted, up to the ends of the counts; none is one that the options hide; and they are from the
+-- traversal root on that was asked for.
+pub record IsReportOverAnyWorktree (given : WalkSetting) (explicit : Option (List ℕ)) (r : Report) : Type 0 where
+  pub ordered : IsStrictlyAscendingByPath r.entries
+  pub counted : r.outcome.returned_entries ≡ min (length r.entries) (2 ^ 64 - 1)
+  pub seen : min r.outcome.returned_entries (2 ^ 32 - 1) ≤ r.outcome.seen_entries
+  pub filtered : count_hidden_emissions given.options r.entries ≡ 0
+  pub once : IsReportFromNormalizedRoot given explicit r

@@ -1,6 +1,6 @@
 //! The walk of a worktree whose subtrees are jobs of their own.
 ghost use Rattle.std.specs.Prelude.{◌≡◌, true};
-ghost use Rattle.dir_classify.specs.Excludes.{setup_of_optional_stack, has_excludes_if_given};
+ghost use Rattle.dir_classify.specs.Excludes.{setup_of_optional_stack, is_absent_or_has_excludes};
 ghost use Rattle.dir_classify.specs.Layers.{setting_of_context, IsLookupOfIndexIfGiven};
 ghost use Rattle.dir_walk.specs.declared.strategy.Strategy.TheVariants.{AtOnce};
 ghost use Rattle.dir_walk.specs.WalkRefused.{default_without_refusals};
@@ -42,7 +42,8 @@ pub fn walk_at_once<W: Worktree, F: Find, I: Interrupt, M: Matcher>(
     ctx: Context<'_, W, F, I, M>,
     options: Options<'_>,
 ) -> Result<(Outcome, PathText, Collect), Error>
-    requires excludes { has_excludes_if_given (setup_of_optional_stack ctx.excludes.now) ≡ true }
+    requires excludes { is_absent_or_has_excludes (setup_of_optional_stack ctx.excludes.now)
+        ≡ true }
     requires lookup { IsLookupOfIndexIfGiven ctx.index.now ctx.ignore_case_index_lookup.now }
     // Over a told tree with which the rules are in step, and without a fault, what is collected is that of the tree.
     ensures collects { CollectsReportOfWalk W.Worktree F.Find ctx.entry.worktree.now ctx.exit.0.now
@@ -54,8 +55,8 @@ pub fn walk_at_once<W: Worktree, F: Find, I: Interrupt, M: Matcher>(
         ctx.entry.worktree.now ctx.exit.0.now ctx.entry.objects.now ctx.exit.1.0.now
         ctx.entry.interrupt.now ctx.exit.1.1.0.now ctx.entry.excludes.now ctx.exit.1.1.1.1.0.now
         AtOnce (setting_of_context M.Matcher worktree_root.now options.entry ctx.entry)
-        ctx.entry.explicit_traversal_root.now ctx.entry.depth_limit default_without_refusals (λ r. r.0)
-        full_root_path_of_answer result }
+        ctx.entry.explicit_traversal_root.now ctx.entry.depth_limit default_without_refusals (λ r.
+        r.0) full_root_path_of_answer result }
 {
     let mut delegate = Collect::new(alloc);
     let (outcome, root) = walk_by_strategy(

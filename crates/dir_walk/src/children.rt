@@ -2,7 +2,7 @@
 ghost use Rattle.std.specs.Prelude.{◌≡◌, true, false, OnOk};
 ghost use Rattle.gitbase_core.specs.View.{IsViewOfEntriesBeneath};
 ghost use Rattle.worktree_fs.specs.Naming.{IsValidEntryName};
-ghost use Rattle.dir_classify.specs.Excludes.{setup_of_optional_stack, has_excludes_if_given};
+ghost use Rattle.dir_classify.specs.Excludes.{setup_of_optional_stack, is_absent_or_has_excludes};
 ghost use Rattle.dir_classify.specs.Kept.{KeepsRulesInStep};
 ghost use Rattle.dir_classify.specs.Layers.{setting_of_shared, IsLookupOfIndexIfGiven};
 ghost use Rattle.dir_walk.specs.Moments.{KeepsPartReferences, walk_state_of_parts};
@@ -41,7 +41,7 @@ fn walk_name_as_job<W: Worktree, F: Find, I: Interrupt, M: Matcher, D: Delegate>
     requires root { place.old.root ≡ shared.now.worktree_root.now }
     requires lookup { IsLookupOfIndexIfGiven shared.now.index.now
         shared.now.ignore_case_index_lookup.now }
-    requires excludes { has_excludes_if_given (setup_of_optional_stack parts.old.excludes.now)
+    requires excludes { is_absent_or_has_excludes (setup_of_optional_stack parts.old.excludes.now)
         ≡ true }
     // The parts are behind the same references.
     ensures same { KeepsPartReferences parts.old parts.new }
@@ -123,7 +123,7 @@ pub(crate) fn walk_root_directory_by_jobs<
     requires root { place.old.root ≡ shared.now.worktree_root.now }
     requires lookup { IsLookupOfIndexIfGiven shared.now.index.now
         shared.now.ignore_case_index_lookup.now }
-    requires excludes { has_excludes_if_given (setup_of_optional_stack parts.old.excludes.now)
+    requires excludes { is_absent_or_has_excludes (setup_of_optional_stack parts.old.excludes.now)
         ≡ true }
     // The parts are behind the same references.
     ensures same { KeepsPartReferences parts.old parts.new }

@@ -55,8 +55,8 @@ pub(crate) fn outcome_of_unentered_path<W: Worktree, M: Matcher>(
         (evidence_from_setting_and_sources (setting_of_shared M.Matcher shared.now) made s)
         place.now.path class.now) }
     ensures worktree { KeepsTreeAndListCounts W.Worktree worktree.old worktree.new }
-    ensures reads { deletion_skips_search_of_ignored_directories
-        (walk_options_of shared.now.options).for_deletion ≡ false → W.reads worktree.new ≡ W.reads worktree.old }
+    ensures reads { deletion_skips_search_of_ignored_directories (walk_options_of
+        shared.now.options).for_deletion ≡ false → W.reads worktree.new ≡ W.reads worktree.old }
 {
     if !ignored_directory_may_hide_repositories(&shared.options, class) {
         return Ok(*class);

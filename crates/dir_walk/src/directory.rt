@@ -6,7 +6,7 @@ ghost use Rattle.worktree_fs.specs.Naming.{IsValidEntryName};
 ghost use Rattle.worktree_fs.specs.Paths.{root_joined_with_relative, is_relative_without_dots, slash_joined_components};
 ghost use Rattle.dir_classify.specs.Chosen.{walk_options_of};
 ghost use Rattle.dir_classify.specs.Classes.{ClassifiesPath};
-ghost use Rattle.dir_classify.specs.Excludes.{setup_of_optional_stack, maps_rules_files_to_blobs, has_excludes_if_given};
+ghost use Rattle.dir_classify.specs.Excludes.{setup_of_optional_stack, maps_rules_files_to_blobs, is_absent_or_has_excludes};
 ghost use Rattle.dir_classify.specs.Kept.{KeepsRulesInStep};
 ghost use Rattle.dir_classify.specs.Layers.{setting_of_shared, IsLookupOfIndexIfGiven, IsNameInIndexDirectory};
 ghost use Rattle.dir_walk.specs.Moments.{KeepsPartReferences, walk_state_of_parts};
@@ -48,7 +48,7 @@ pub(crate) fn classify_name_asking_disk<W: Worktree, F: Find, M: Matcher>(
     requires lookup { IsLookupOfIndexIfGiven shared.now.index.now
         shared.now.ignore_case_index_lookup.now }
     requires seen { IsNameInIndexDirectory shared.now.index.now path.now name.now beneath.now }
-    requires excludes { has_excludes_if_given (setup_of_optional_stack excludes.old) ≡ true }
+    requires excludes { is_absent_or_has_excludes (setup_of_optional_stack excludes.old) ≡ true }
     ensures { ClassifiesPath W.Worktree F.Find worktree.old worktree.new objects.old objects.new
         excludes.old excludes.new (setting_of_shared M.Matcher shared.now) path.now None true
         result }
@@ -86,7 +86,7 @@ fn walk_name_in_directory<W: Worktree, F: Find, I: Interrupt, M: Matcher, D: Del
     requires lookup { IsLookupOfIndexIfGiven shared.now.index.now
         shared.now.ignore_case_index_lookup.now }
     // Where rules are given, they tell which paths are excluded.
-    requires excludes { has_excludes_if_given (setup_of_optional_stack parts.old.excludes.now)
+    requires excludes { is_absent_or_has_excludes (setup_of_optional_stack parts.old.excludes.now)
         ≡ true }
     // The parts lie behind the same references as before.
     ensures same { KeepsPartReferences parts.old parts.new }
@@ -206,7 +206,7 @@ pub(crate) fn walk_directory<W: Worktree, F: Find, I: Interrupt, M: Matcher, D: 
     requires root { place.old.root ≡ shared.now.worktree_root.now }
     requires lookup { IsLookupOfIndexIfGiven shared.now.index.now
         shared.now.ignore_case_index_lookup.now }
-    requires excludes { has_excludes_if_given (setup_of_optional_stack parts.old.excludes.now)
+    requires excludes { is_absent_or_has_excludes (setup_of_optional_stack parts.old.excludes.now)
         ≡ true }
     // The parts are behind the same references.
     ensures same { KeepsPartReferences parts.old parts.new }

@@ -7,7 +7,7 @@ ghost use Rattle.worktree_fs.specs.Paths.{is_relative_without_dots, slash_joined
 ghost use Rattle.worktree_stack.specs.Reading.{TreeAndObjects};
 ghost use Rattle.worktree_stack.specs.Setup.{StackSetup};
 ghost use Rattle.dir_classify.specs.Chosen.{walk_options_of};
-ghost use Rattle.dir_classify.specs.Excludes.{setup_of_optional_stack, maps_rules_files_to_blobs, has_excludes_if_given};
+ghost use Rattle.dir_classify.specs.Excludes.{setup_of_optional_stack, maps_rules_files_to_blobs, is_absent_or_has_excludes};
 ghost use Rattle.dir_classify.specs.Layers.{setting_of_shared, evidence_from_setting_and_sources, rest_behind_directory, IsLookupOfIndexIfGiven};
 ghost use Rattle.dir_walk.specs.declared.strategy.Strategy.TheVariants.{Held};
 ghost use Rattle.dir_walk.specs.Emits.{AddsEmissionsAndCounts, AddsAtMostEmissionsAndSeen, count_held_emitted_plainly};
@@ -135,7 +135,7 @@ fn walk_root_within_depth_limit<W: Worktree, F: Find, I: Interrupt, M: Matcher, 
     requires root { place.old.root ≡ shared.now.worktree_root.now }
     requires lookup { IsLookupOfIndexIfGiven shared.now.index.now
         shared.now.ignore_case_index_lookup.now }
-    requires excludes { has_excludes_if_given (setup_of_optional_stack parts.old.excludes.now)
+    requires excludes { is_absent_or_has_excludes (setup_of_optional_stack parts.old.excludes.now)
         ≡ true }
     // The parts are behind the same references.
     ensures same { KeepsPartReferences parts.old parts.new }
@@ -191,7 +191,7 @@ pub(crate) fn walk_entered_traversal_root<
     requires spelled { path.now ≡ slash_joined_components (components path.now) }
     requires lookup { IsLookupOfIndexIfGiven shared.now.index.now
         shared.now.ignore_case_index_lookup.now }
-    requires excludes { has_excludes_if_given (setup_of_optional_stack parts.old.excludes.now)
+    requires excludes { is_absent_or_has_excludes (setup_of_optional_stack parts.old.excludes.now)
         ≡ true }
     // The parts are behind the same references.
     ensures same { KeepsPartReferences parts.old parts.new }

@@ -1,6 +1,6 @@
 //! The walk of a worktree.
 ghost use Rattle.std.specs.Prelude.{◌≡◌, true};
-ghost use Rattle.dir_classify.specs.Excludes.{setup_of_optional_stack, has_excludes_if_given};
+ghost use Rattle.dir_classify.specs.Excludes.{setup_of_optional_stack, is_absent_or_has_excludes};
 ghost use Rattle.dir_classify.specs.Layers.{setting_of_context, setting_of_shared, IsLookupOfIndexIfGiven};
 ghost use Rattle.dir_walk.specs.declared.strategy.Strategy.TheVariants.{Held};
 ghost use Rattle.dir_walk.specs.Moments.{KeepsPartReferences};
@@ -87,7 +87,8 @@ pub fn walk<W: Worktree, F: Find, I: Interrupt, M: Matcher, D: Delegate>(
     options: Options<'_>,
     delegate: &mut D,
 ) -> Result<(Outcome, PathText), Error>
-    requires excludes { has_excludes_if_given (setup_of_optional_stack ctx.excludes.now) ≡ true }
+    requires excludes { is_absent_or_has_excludes (setup_of_optional_stack ctx.excludes.now)
+        ≡ true }
     requires lookup { IsLookupOfIndexIfGiven ctx.index.now ctx.ignore_case_index_lookup.now }
     ensures { WalksForDelegate W.Worktree F.Find I.Interrupt D.Delegate ctx.entry.worktree.now
         ctx.exit.0.now ctx.entry.objects.now ctx.exit.1.0.now ctx.entry.interrupt.now
@@ -107,7 +108,8 @@ pub(crate) fn walk_by_strategy<W: Worktree, F: Find, I: Interrupt, M: Matcher, D
     strategy: Strategy,
     delegate: &mut D,
 ) -> Result<(Outcome, PathText), Error>
-    requires excludes { has_excludes_if_given (setup_of_optional_stack ctx.excludes.now) ≡ true }
+    requires excludes { is_absent_or_has_excludes (setup_of_optional_stack ctx.excludes.now)
+        ≡ true }
     requires lookup { IsLookupOfIndexIfGiven ctx.index.now ctx.ignore_case_index_lookup.now }
     ensures { WalksForDelegate W.Worktree F.Find I.Interrupt D.Delegate ctx.entry.worktree.now
         ctx.exit.0.now ctx.entry.objects.now ctx.exit.1.0.now ctx.entry.interrupt.now
@@ -166,7 +168,7 @@ fn walk_context_parts<W: Worktree, F: Find, I: Interrupt, M: Matcher, D: Delegat
     strategy: Strategy,
     parts: &mut Parts<'_, '_, '_, '_, '_, '_, W, F, I, D>,
 ) -> Result<(Outcome, PathText), Error>
-    requires excludes { has_excludes_if_given (setup_of_optional_stack parts.old.excludes.now)
+    requires excludes { is_absent_or_has_excludes (setup_of_optional_stack parts.old.excludes.now)
         ≡ true }
     requires lookup { IsLookupOfIndexIfGiven shared.now.index.now
         shared.now.ignore_case_index_lookup.now }

@@ -1,7 +1,7 @@
 //! A subtree as a job of its own, over forks of what the walk was handed.
 ghost use Rattle.std.specs.Prelude.{◌≡◌, true, IfOk, OnOk};
 ghost use Rattle.worktree_stack.specs.Reading.{TreeAndObjects};
-ghost use Rattle.dir_classify.specs.Excludes.{setup_of_optional_stack, has_excludes_if_given, IsStackInStepIfGiven};
+ghost use Rattle.dir_classify.specs.Excludes.{setup_of_optional_stack, is_absent_or_has_excludes, IsStackInStepIfGiven};
 ghost use Rattle.dir_classify.specs.Layers.{setting_of_shared, IsLookupOfIndexIfGiven};
 ghost use Rattle.dir_walk.specs.Jobs.{WalksDirectoryAsJob};
 ghost use Rattle.dir_walk.specs.Moments.{KeepsPartReferences, walk_state_of_parts};
@@ -34,7 +34,7 @@ pub(crate) fn walk_as_job<W: Worktree, F: Find, I: Interrupt, M: Matcher, D: Del
     requires root { place.old.root ≡ shared.now.worktree_root.now }
     requires lookup { IsLookupOfIndexIfGiven shared.now.index.now
         shared.now.ignore_case_index_lookup.now }
-    requires excludes { has_excludes_if_given (setup_of_optional_stack parts.old.excludes.now)
+    requires excludes { is_absent_or_has_excludes (setup_of_optional_stack parts.old.excludes.now)
         ≡ true }
     ensures same { KeepsPartReferences parts.old parts.new }
     ensures job { WalksDirectoryAsJob W.Worktree F.Find I.Interrupt D.Delegate
@@ -84,7 +84,7 @@ fn walk_with_worktree_fork<W: Worktree, F: Find, I: Interrupt, M: Matcher, D: De
     requires root { place.old.root ≡ shared.now.worktree_root.now }
     requires lookup { IsLookupOfIndexIfGiven shared.now.index.now
         shared.now.ignore_case_index_lookup.now }
-    requires excludes { has_excludes_if_given (setup_of_optional_stack parts.old.excludes.now)
+    requires excludes { is_absent_or_has_excludes (setup_of_optional_stack parts.old.excludes.now)
         ≡ true }
     ensures same { KeepsPartReferences parts.old parts.new }
     ensures job { WalksDirectoryAsJob W.Worktree F.Find I.Interrupt D.Delegate
@@ -120,7 +120,7 @@ fn walk_with_store_fork<W: Worktree, F: Find, I: Interrupt, M: Matcher, D: Deleg
     requires root { place.old.root ≡ shared.now.worktree_root.now }
     requires lookup { IsLookupOfIndexIfGiven shared.now.index.now
         shared.now.ignore_case_index_lookup.now }
-    requires excludes { has_excludes_if_given (setup_of_optional_stack parts.old.excludes.now)
+    requires excludes { is_absent_or_has_excludes (setup_of_optional_stack parts.old.excludes.now)
         ≡ true }
     ensures same { KeepsPartReferences parts.old parts.new }
     ensures job { WalksDirectoryAsJob W.Worktree F.Find I.Interrupt D.Delegate
@@ -163,7 +163,7 @@ fn walk_with_interrupt_fork<W: Worktree, F: Find, I: Interrupt, M: Matcher, D: D
     requires root { place.old.root ≡ shared.now.worktree_root.now }
     requires lookup { IsLookupOfIndexIfGiven shared.now.index.now
         shared.now.ignore_case_index_lookup.now }
-    requires excludes { has_excludes_if_given (setup_of_optional_stack parts.old.excludes.now)
+    requires excludes { is_absent_or_has_excludes (setup_of_optional_stack parts.old.excludes.now)
         ≡ true }
     ensures same { KeepsPartReferences parts.old parts.new }
     ensures job { WalksDirectoryAsJob W.Worktree F.Find I.Interrupt D.Delegate

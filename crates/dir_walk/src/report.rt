@@ -1,13 +1,10 @@
 //! The report of a worktree: its walk in the order of paths.
-ghost use Rattle.std.specs.Prelude.{◌≡◌, ◌≤◌, ◌-◌, ◌^◌, min, length, true, IfOk};
-ghost use Rattle.dir_walk.specs.Distinct.{IsStrictlyAscendingByPath};
+ghost use Rattle.std.specs.Prelude.{◌≡◌, true, IfOk};
 ghost use Rattle.worktree_fs.specs.Causes.{CountNotIncreased};
 ghost use Rattle.worktree_stack.specs.Reading.{TreeAndObjects};
-ghost use Rattle.dir_classify.specs.Chosen.{walk_options_of};
-ghost use Rattle.dir_classify.specs.Excludes.{setup_of_optional_stack, has_excludes_if_given};
+ghost use Rattle.dir_classify.specs.Excludes.{setup_of_optional_stack, is_absent_or_has_excludes};
 ghost use Rattle.dir_classify.specs.Layers.{setting_of_context, IsLookupOfIndexIfGiven};
-ghost use Rattle.dir_walk.specs.Puts.{count_hidden_emissions};
-ghost use Rattle.dir_walk.specs.Reports.{IsReportFromNormalizedRoot, IsSafeReport};
+ghost use Rattle.dir_walk.specs.Reports.{IsReportOverAnyWorktree, IsSafeReport};
 ghost use Rattle.dir_walk.specs.WalkRefused.{default_without_refusals};
 ghost use Rattle.dir_walk.specs.Walks.{Tells, WalksWorktreeWithCauses};
 
@@ -50,7 +47,8 @@ pub fn walk_sorted_by_path<W: Worktree, F: Find, I: Interrupt, M: Matcher>(
     options: Options<'_>,
     strategy: Strategy,
 ) -> Result<Report, Error>
-    requires excludes { has_excludes_if_given (setup_of_optional_stack ctx.excludes.now) ≡ true }
+    requires excludes { is_absent_or_has_excludes (setup_of_optional_stack ctx.excludes.now)
+        ≡ true }
     requires lookup { IsLookupOfIndexIfGiven ctx.index.now ctx.ignore_case_index_lookup.now }
     // Over a told tree with which the rules are in step, and without a fault, the report is exactly that of the tree, and safe.
     ensures gives { (s : TreeAndObjects) → Tells W.Worktree F.Find ctx.entry.worktree.now
@@ -59,17 +57,9 @@ pub fn walk_sorted_by_path<W: Worktree, F: Find, I: Interrupt, M: Matcher>(
         → IfOk result (IsSafeReport (setting_of_context M.Matcher worktree_root.now options.entry
         ctx.entry) (setup_of_optional_stack ctx.entry.excludes.now) s
         ctx.entry.explicit_traversal_root.now ctx.entry.depth_limit) }
-    // Over any worktree the paths ascend strictly, and the entries are counted.
-    ensures ordered { IfOk result (λ r. IsStrictlyAscendingByPath r.entries) }
-    ensures counted { IfOk result
-        (λ r. r.outcome.returned_entries ≡ min (length r.entries) (2 ^ 64 - 1)) }
-    ensures seen { IfOk result
-        (λ r. min r.outcome.returned_entries (2 ^ 32 - 1) ≤ r.outcome.seen_entries) }
-    // None of them is one that the options hide.
-    ensures filtered { IfOk result (λ r. count_hidden_emissions (walk_options_of options.entry)
-        r.entries ≡ 0) }
-    // They are from the traversal root on that is named, which was asked for.
-    ensures once { IfOk result (IsReportFromNormalizedRoot (setting_of_context M.Matcher
+    // Over any worktree the paths ascend strictly from the traversal root on, and the entries are
+    // counted, of which none is one that the options hide.
+    ensures any_worktree { IfOk result (IsReportOverAnyWorktree (setting_of_context M.Matcher
         worktree_root.now options.entry ctx.entry) ctx.entry.explicit_traversal_root.now) }
     // Each refusal has its cause, a tree that has a report is walked, and what stays.
     ensures walks_worktree { WalksWorktreeWithCauses W.Worktree F.Find I.Interrupt

@@ -5,7 +5,7 @@ ghost use Rattle.worktree_fs.specs.Kept.{KeepsTreeAndListCounts};
 ghost use Rattle.worktree_stack.specs.Reading.{TreeAndObjects};
 ghost use Rattle.worktree_stack.specs.Setup.{StackSetup};
 ghost use Rattle.dir_classify.specs.Chosen.{walk_options_of};
-ghost use Rattle.dir_classify.specs.Excludes.{setup_of_optional_stack, maps_rules_files_to_blobs, has_excludes_if_given};
+ghost use Rattle.dir_classify.specs.Excludes.{setup_of_optional_stack, maps_rules_files_to_blobs, is_absent_or_has_excludes};
 ghost use Rattle.gitbase_core.specs.Path.{is_empty};
 ghost use Rattle.dir_classify.specs.Kinds.{is_some_directory_kind, is_symlink_kind};
 ghost use Rattle.dir_classify.specs.Layers.{setting_of_shared, evidence_from_setting_and_sources, IsLookupOfIndexIfGiven};
@@ -190,7 +190,7 @@ pub(crate) fn walk_from_traversal_root<W: Worktree, F: Find, I: Interrupt, M: Ma
     requires root { IsNormalRootPath root.now }
     requires lookup { IsLookupOfIndexIfGiven shared.now.index.now
         shared.now.ignore_case_index_lookup.now }
-    requires excludes { has_excludes_if_given (setup_of_optional_stack parts.old.excludes.now)
+    requires excludes { is_absent_or_has_excludes (setup_of_optional_stack parts.old.excludes.now)
         ≡ true }
     // The parts are behind the same references.
     ensures same { KeepsPartReferences parts.old parts.new }

@@ -16,7 +16,7 @@ use Rattle.worktree_report.specs.SetupMeant.{insert_paths_in_order}
 use Rattle.worktree_report.specs.declared.report.ReportEntry.{ReportEntry}
 use Rattle.git_clean.specs.Beneath.{AreSortedByPath, path_starts_with, entry_lies_beneath_directory, rela_path_of_report_entry, path_sorts_before}
 use Rattle.git_clean.specs.Lines.{line_of_path_in_directory, would_remove_words, line_if_repository_skipped, would_skip_repository_words}
-use Rattle.git_clean.specs.Parts.{topmost_removable_part, entry_stays_in_directory, removable_part_for_entry, removable_parts_of_entries}
+use Rattle.git_clean.specs.Parts.{topmost_removable_part, entry_stays_in_place, removable_part_for_entry, removable_parts_of_entries}
 use Rattle.git_clean.specs.Places.{lies_in_kept_directory}
 use Rattle.git_clean.specs.Scenes.{CleaningInputs}
 
@@ -122,7 +122,7 @@ module _ (s : CleaningInputs) (directory : List ℕ) where
       go false = refl
 
   part-none : (e : ReportEntry) → entry_lies_beneath_directory directory e ≡ false → removable_part_for_entry s directory e.entry ≡ None
-  part-none e apart = ap (λ (b : Bool). cond (b && not (entry_stays_in_directory s e.entry)) (Some (topmost_removable_part s directory e.entry.rela_path)) None) apart
+  part-none e apart = ap (λ (b : Bool). cond (b && not (entry_stays_in_place s e.entry)) (Some (topmost_removable_part s directory e.entry.rela_path)) None) apart
 
   parts-passing : (found : List ReportEntry) → removable_parts_of_entries s directory (filter (entry_lies_beneath_directory directory) found) ≡ removable_parts_of_entries s directory found
   parts-passing [] = refl

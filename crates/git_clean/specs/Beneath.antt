@@ -6,9 +6,11 @@ use Rattle.gitbase_core.specs.Index.{key_begins_with_prefix, compare_path_bytes}
 use Rattle.gitbase_core.specs.Path.{is_beneath_directory}
 use Rattle.worktree_report.specs.declared.report.ReportEntry.{ReportEntry}
 
+-- the path from the top, which is the key that the entries are in order by
 abbrev pub rela_path_of_report_entry : ReportEntry → List ℕ
 rela_path_of_report_entry e = e.entry.rela_path
 
+-- the path of an entry comes before that of the other by its bytes, and is not the same
 abbrev pub path_sorts_before : ReportEntry → ReportEntry → Bool
 path_sorts_before e other = is_lt (compare_path_bytes (rela_path_of_report_entry e) (rela_path_of_report_entry other))
 

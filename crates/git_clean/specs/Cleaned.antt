@@ -20,15 +20,17 @@ use Rattle.git_clean.specs.Scenes.{scene_of_setup_and_entries}
 
 -- ---- by the entries of a report
 
-unfoldable pub dry_run_text_after_patterns : Cleaning → List ℕ → List NamedSpec → Setup → List ReportEntry → List ℕ
-dry_run_text_after_patterns c prefix named setup found = text (scene_of_setup_and_entries c prefix named setup found)
+-- what `git clean -n` prints, where the patterns of `-e` have had their say about the entries
+unfoldable pub dry_run_text_of_ruled_entries : Cleaning → List ℕ → List NamedSpec → Setup → List ReportEntry → List ℕ
+dry_run_text_of_ruled_entries c prefix named setup found = text (scene_of_setup_and_entries c prefix named setup found)
 
 -- with `-x` the patterns of `-e` are the only rules
 unfoldable pub dry_run_text_of_entries : Cleaning → List ℕ → List NamedSpec → Setup → List ReportEntry → List ℕ
-dry_run_text_of_entries c prefix named setup found = dry_run_text_after_patterns c prefix named setup (entries_ignored_by_sole_patterns c setup found)
+dry_run_text_of_entries c prefix named setup found = dry_run_text_of_ruled_entries c prefix named setup (entries_ignored_by_sole_patterns c setup found)
 
 -- ---- over a tree
 
+-- what `git clean -n` prints by a report: of this the entries alone count
 abbrev pub dry_run_text_of_report : Cleaning → List ℕ → List NamedSpec → Setup → Report → List ℕ
 dry_run_text_of_report c prefix named setup report = dry_run_text_of_entries c prefix named setup report.entries
 

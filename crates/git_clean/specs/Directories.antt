@@ -42,6 +42,7 @@ lies_beneath_any_directory directories path = list_any (set_contains_directory d
 abbrev pub marks_parents_outside_dot_git_holders : Cleaning → List (List ℕ) → ReportEntry → Bool
 marks_parents_outside_dot_git_holders c guards e = entry_marks_parents_against_removal c e.entry && (c.directories || not (lies_beneath_any_directory guards e.entry.rela_path))
 
+-- all directories above an entry that keeps them from going whole; none for any other entry
 abbrev pub directories_marked_by_entry : Cleaning → List (List ℕ) → ReportEntry → List (List ℕ)
 directories_marked_by_entry c guards e = if marks_parents_outside_dot_git_holders c guards e then directories_above_path e.entry.rela_path else []
 

@@ -23,12 +23,14 @@ is_always_or_prefix_match_kind Prefix = true
 is_always_or_prefix_match_kind WildcardMatch = false
 is_always_or_prefix_match_kind Verbatim = false
 
+-- the wildcards of the spec match, and not its bytes alone or a directory above the path
 abbrev pub is_wildcard_match_kind : MatchKind → Bool
 is_wildcard_match_kind Always = false
 is_wildcard_match_kind Prefix = false
 is_wildcard_match_kind WildcardMatch = true
 is_wildcard_match_kind Verbatim = false
 
+-- the wildcards of a spec that asks for paths match: one that excludes does not count
 abbrev pub is_including_wildcard_match : Option Match → Bool
 is_including_wildcard_match None = false
 is_including_wildcard_match (Some m) = not m.excluded && is_wildcard_match_kind m.kind
@@ -39,9 +41,9 @@ is_including_match_of_path_itself None = false
 is_including_match_of_path_itself (Some m) = not (m.excluded || is_always_or_prefix_match_kind m.kind)
 
 -- it is about all beneath a directory above, or takes out
-abbrev pub is_excluding_always_or_prefix_match : Option Match → Bool
-is_excluding_always_or_prefix_match None = false
-is_excluding_always_or_prefix_match (Some m) = m.excluded || is_always_or_prefix_match_kind m.kind
+abbrev pub excludes_or_matches_all_beneath : Option Match → Bool
+excludes_or_matches_all_beneath None = false
+excludes_or_matches_all_beneath (Some m) = m.excluded || is_always_or_prefix_match_kind m.kind
 
 -- ---- specs that settle
 
@@ -72,6 +74,7 @@ is_spec_without_magic (b ∷ text) = not (b == 58)
 abbrev pub common_directory_of_spec : NamedSpec → List ℕ
 common_directory_of_spec named = unwrap_or (common_directory_of_specs named.spec) []
 
+-- the rest of a path does not begin as the spec does; where there is no rest, as the path lies elsewhere, nothing is said
 abbrev pub starts_unlike_front : List ℕ → Option (List ℕ) → Bool
 starts_unlike_front front None = false
 starts_unlike_front front (Some rest) = not (starts_with nat_eq rest front)
@@ -84,7 +87,7 @@ directory_differs_from_wildcard_start d named = is_spec_without_magic named.text
 abbrev pub spec_may_match_deeper : List ℕ → List ℕ → NamedSpec → Bool
 spec_may_match_deeper name d named =
     can_match named.spec d
-    && not (spec_takes_directory_whole name d named || (is_excluding_always_or_prefix_match (match_of_path_by_specs named.spec name (Some true)) || directory_differs_from_wildcard_start d named))
+    && not (spec_takes_directory_whole name d named || (excludes_or_matches_all_beneath (match_of_path_by_specs named.spec name (Some true)) || directory_differs_from_wildcard_start d named))
 
 -- ---- all of them
 

@@ -25,13 +25,15 @@ abbrev pub topmost_removable_part : CleaningInputs → List ℕ → List ℕ →
 topmost_removable_part s directory path = unwrap_or (find (is_removable_subdirectory s directory) (directories_above_path path)) path
 
 -- an entry beneath a directory stays
-abbrev pub entry_stays_in_directory : CleaningInputs → Entry → Bool
-entry_stays_in_directory s e = is_repository_or_dot_git_kept s.cleaning e || (lies_in_kept_directory s e.rela_path || is_text_in_list e.rela_path s.held)
+abbrev pub entry_stays_in_place : CleaningInputs → Entry → Bool
+entry_stays_in_place s e = is_repository_or_dot_git_kept s.cleaning e || (lies_in_kept_directory s e.rela_path || is_text_in_list e.rela_path s.held)
 
+-- what goes for an entry in a directory that stays: the highest directory that can, or the entry; none where the entry stays
 abbrev pub removable_part_for_entry : CleaningInputs → List ℕ → Entry → Option (List ℕ)
 removable_part_for_entry s directory e =
-    if is_beneath_directory directory e.rela_path && not (entry_stays_in_directory s e) then Some (topmost_removable_part s directory e.rela_path) else None
+    if is_beneath_directory directory e.rela_path && not (entry_stays_in_place s e) then Some (topmost_removable_part s directory e.rela_path) else None
 
+-- what goes for each entry, in the order of the report; a directory comes once for each entry in it
 abbrev pub removable_parts_of_entries : CleaningInputs → List ℕ → List ReportEntry → List (List ℕ)
 removable_parts_of_entries s directory [] = []
 removable_parts_of_entries s directory (e ∷ found) = prepend_name_if_some (removable_part_for_entry s directory e.entry) (removable_parts_of_entries s directory found)
@@ -40,6 +42,7 @@ removable_parts_of_entries s directory (e ∷ found) = prepend_name_if_some (rem
 abbrev pub removable_parts_of_directory : CleaningInputs → List ℕ → List (List ℕ)
 removable_parts_of_directory s directory = insert_paths_in_order [] (removable_parts_of_entries s directory s.found)
 
+-- an entry is a repository that lies in the directory, and is not the directory itself
 abbrev pub is_repository_beneath : List ℕ → Entry → Bool
 is_repository_beneath directory e = is_beneath_directory directory e.rela_path && is_repository_kind e.disk_kind
 
@@ -51,6 +54,7 @@ is_skipped_repository_in s directory e = not (s.cleaning.repositories || not (is
 abbrev pub stays_in_current_directory : CleaningInputs → ReportEntry → Bool
 stays_in_current_directory s e = is_repository_or_dot_git_kept s.cleaning e.entry && is_prefix_by_whole_components s.prefix e.entry.rela_path
 
+-- git keeps a repository or a `.git` in the current directory, so that this is not emptied
 abbrev pub any_stays_in_current_directory : CleaningInputs → Bool
 any_stays_in_current_directory s = list_any (stays_in_current_directory s) s.found
 

@@ -19,6 +19,7 @@ use Rattle.git_clean.specs.Scenes.{CleaningInputs}
 
 -- ---- what is kept
 
+-- the index has a submodule there; not where it has nothing, or paths beneath
 abbrev pub is_submodule_index_kind : Option EntryKind → Bool
 is_submodule_index_kind None = false
 is_submodule_index_kind (Some index.File) = false
@@ -44,9 +45,11 @@ lies_in_kept_directory s path = list_any (holds_dot_git_or_is_submodule s) (dire
 abbrev pub is_directory_unindexed_and_unmarked : CleaningInputs → List ℕ → Bool
 is_directory_unindexed_and_unmarked s d = not (has_index_entry_beneath s.index (name (directory_place_of_path d))) && not (is_text_in_list d s.marked)
 
+-- the directory that ends before a byte of a path is one; a byte that is no slash ends none
 abbrev pub unindexed_unmarked_directory_ends_at : CleaningInputs → List ℕ → ℕ → Bool
 unindexed_unmarked_directory_ends_at s path at = is_slash (slice_index path at) && is_directory_unindexed_and_unmarked s (take at path)
 
+-- a path lies in such a directory, and is hidden without `-d`
 abbrev pub lies_in_unindexed_unmarked_directory : CleaningInputs → List ℕ → Bool
 lies_in_unindexed_unmarked_directory s path = list_any (is_directory_unindexed_and_unmarked s) (directories_above_path path)
 
@@ -58,6 +61,7 @@ scene_specs_take_directory_whole s d = specs_take_directory_whole s.specs s.name
 abbrev pub directory_goes_whole : CleaningInputs → List ℕ → Bool
 directory_goes_whole s d = is_directory_unindexed_and_unmarked s d && scene_specs_take_directory_whole s d
 
+-- the directory that ends before a byte of a path does; a byte that is no slash ends none
 abbrev pub directory_ending_at_goes_whole : CleaningInputs → List ℕ → ℕ → Bool
 directory_ending_at_goes_whole s path at = is_slash (slice_index path at) && directory_goes_whole s (take at path)
 
@@ -69,6 +73,7 @@ highest_removed_directory_above s path = find (directory_goes_whole s) (director
 abbrev pub is_place_outside_skipped_directory : CleaningInputs → List ℕ → Bool
 is_place_outside_skipped_directory s name = not (lies_in_spec_skipped_directory s.index s.named name)
 
+-- an entry may go, the path specs match it, and git comes to it
 abbrev pub is_visited_and_removable : CleaningInputs → Entry → Bool
 is_visited_and_removable s e = is_entry_matched_and_removable s.cleaning s.specs e && is_place_outside_skipped_directory s (name (place_of_report_entry e))
 
@@ -76,6 +81,7 @@ is_visited_and_removable s e = is_entry_matched_and_removable s.cleaning s.specs
 abbrev pub may_parent_go_for_entry : CleaningInputs → Entry → Bool
 may_parent_go_for_entry s e = if s.cleaning.ignored_only then is_visited_and_removable s e else do_specs_match_report_entry s.specs e
 
+-- the highest directory that goes with an entry in it; none where the entry is no cause for that, or none goes whole
 abbrev pub removed_whole_directory_above_entry : CleaningInputs → Entry → Option PathWithDirectoryFlag
 removed_whole_directory_above_entry s e = if may_parent_go_for_entry s e then option_map directory_place_of_path (highest_removed_directory_above s e.rela_path) else None
 
@@ -86,6 +92,7 @@ removed_whole_directory_above_entry s e = if may_parent_go_for_entry s e then op
 abbrev pub do_specs_take_entry_if_directory : CleaningInputs → Entry → Bool
 do_specs_take_entry_if_directory s e = if is_some_directory_kind e.disk_kind && is_untracked_status e.status then scene_specs_take_directory_whole s e.rela_path else true
 
+-- the entry by itself, where it may go and the path specs match it, and take it if it is a directory
 abbrev pub entry_place_if_removed : CleaningInputs → Entry → Option PathWithDirectoryFlag
 entry_place_if_removed s e = if is_entry_matched_and_removable s.cleaning s.specs e && do_specs_take_entry_if_directory s e then Some (place_of_report_entry e) else None
 
@@ -93,23 +100,27 @@ entry_place_if_removed s e = if is_entry_matched_and_removable s.cleaning s.spec
 abbrev pub entry_place_unless_below_unindexed : CleaningInputs → Entry → Option PathWithDirectoryFlag
 entry_place_unless_below_unindexed s e = if lies_in_unindexed_unmarked_directory s e.rela_path then None else entry_place_if_removed s e
 
+-- the highest directory above an entry that goes with it, else the entry by itself if it may go
 abbrev pub whole_directory_or_entry : CleaningInputs → Entry → Option PathWithDirectoryFlag
 whole_directory_or_entry s e = option_or (removed_whole_directory_above_entry s e) (entry_place_if_removed s e)
 
-abbrev pub removal_place_unless_kept : CleaningInputs → Entry → Option PathWithDirectoryFlag
-removal_place_unless_kept s e = if s.cleaning.directories then whole_directory_or_entry s e else entry_place_unless_below_unindexed s e
+-- with `-d` a directory may go for what it holds; without, an entry goes only by itself
+abbrev pub removal_place_of_unkept_entry : CleaningInputs → Entry → Option PathWithDirectoryFlag
+removal_place_of_unkept_entry s e = if s.cleaning.directories then whole_directory_or_entry s e else entry_place_unless_below_unindexed s e
 
 -- what goes for an entry: a directory above it, or itself
 abbrev pub removal_place_of_entry : CleaningInputs → Entry → Option PathWithDirectoryFlag
-removal_place_of_entry s e = if lies_in_kept_directory s e.rela_path then None else removal_place_unless_kept s e
+removal_place_of_entry s e = if lies_in_kept_directory s e.rela_path then None else removal_place_of_unkept_entry s e
 
 -- no path of the index goes, nor what git does not come to, since a path spec takes out a directory above it
 abbrev pub name_if_visited_and_unindexed : CleaningInputs → PathWithDirectoryFlag → Option (List ℕ)
 name_if_visited_and_unindexed s place = if is_place_outside_skipped_directory s (name place) then name_of_place_unless_indexed s.index place else None
 
+-- the name of what goes for an entry; none where nothing does, the index has the path, or git does not come there
 abbrev pub removal_name_of_entry : CleaningInputs → Entry → Option (List ℕ)
 removal_name_of_entry s e = option_and_then (name_if_visited_and_unindexed s) (removal_place_of_entry s e)
 
+-- what goes for each entry, in the order of the report; a directory comes once for each entry in it
 abbrev pub removal_names_of_entries : CleaningInputs → List ReportEntry → List (List ℕ)
 removal_names_of_entries s [] = []
 removal_names_of_entries s (e ∷ found) = prepend_name_if_some (removal_name_of_entry s e.entry) (removal_names_of_entries s found)

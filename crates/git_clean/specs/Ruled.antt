@@ -44,6 +44,7 @@ is_untracked_and_excluded rules e = is_untracked_status e.status && patterns_exc
 abbrev pub entry_ignored_if_excluded : List RulesList → ReportEntry → ReportEntry
 entry_ignored_if_excluded rules e = if is_untracked_and_excluded rules e.entry then record e { entry = record e.entry { status = Ignored Expendable } } else e
 
+-- the patterns of `-e`, as the one list of rules that `-x` leaves
 abbrev pub rules_of_command_patterns : Setup → List RulesList
 rules_of_command_patterns setup = ignore_rules_of_text false setup.overrides ∷ []
 

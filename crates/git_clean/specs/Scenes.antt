@@ -9,6 +9,8 @@ use Rattle.git_clean.specs.declared.options.Cleaning.{Cleaning}
 use Rattle.git_clean.specs.declared.scene.Scene as declared
 use Rattle.git_clean.specs.Directories as directories
 
+-- what decides a cleaning. Directories that are `marked` do not go whole for an entry in them; those that
+-- are `guarded` hold a `.git`, and are kept; those that are `held` cannot go, though parts of them may
 pub record CleaningInputs : Type 0 where
   pub cleaning : Cleaning
   pub index : List IndexEntry
@@ -23,6 +25,7 @@ pub record CleaningInputs : Type 0 where
   pub guarded : List (List ℕ)
   pub held : List (List ℕ)
 
+-- a scene of the code as contracts see it: the values that it borrows, and sets as the lists of their keys
 abbrev pub scene_in_specification : declared.Scene → CleaningInputs
 scene_in_specification s =
     record {

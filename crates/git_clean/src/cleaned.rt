@@ -106,8 +106,8 @@ fn dry_run_text_of_scene(alloc: Global, scene: &Scene<'_>, rise: bool) -> Result
 }
 
 /// What would go by entries, as the patterns have them.
-#[tactic(auto, unfolding(crate::specs::Cleaned::dry_run_text_after_patterns))]
-fn dry_run_text_after_patterns(
+#[tactic(auto, unfolding(crate::specs::Cleaned::dry_run_text_of_ruled_entries))]
+fn dry_run_text_of_ruled_entries(
     alloc: Global,
     cleaning: &Cleaning,
     prefix: &[u8],
@@ -115,8 +115,8 @@ fn dry_run_text_after_patterns(
     setup: &Setup,
     found: &[ReportEntry],
 ) -> Result<Bytes, OutOfMemory>
-    ensures { IfOk result (λ text. text
-        ≡ words.dry_run_text_after_patterns cleaning.now prefix.now named.now setup.now found.now) }
+    ensures { IfOk result (λ text. text ≡ words.dry_run_text_of_ruled_entries cleaning.now
+        prefix.now named.now setup.now found.now) }
 {
     let guarded = directories_holding_dot_git(alloc, found)?;
     let marked = directories_marked_against_removal(alloc, cleaning, &guarded, found)?;
@@ -158,5 +158,5 @@ pub fn dry_run_text_of_entries(
         ≡ words.dry_run_text_of_entries cleaning.now prefix.now named.now setup.now found.items) }
 {
     let ruled = entries_ignored_by_sole_patterns(alloc, cleaning, setup, found)?;
-    dry_run_text_after_patterns(alloc, cleaning, prefix, named, setup, &ruled)
+    dry_run_text_of_ruled_entries(alloc, cleaning, prefix, named, setup, &ruled)
 }

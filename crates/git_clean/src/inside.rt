@@ -160,7 +160,7 @@ fn append_would_remove_lines_inside(
 }
 
 /// The same scene, with the entries beneath a directory alone where paths do not fall.
-fn scene_narrowed_to_directory<'a>(
+fn scene_narrowed_to_directory_if_sorted<'a>(
     alloc: Global,
     scene: &Scene<'a>,
     rise: bool,
@@ -191,7 +191,7 @@ pub fn append_lines_of_unremovable_directory(
     ensures { OnOk result (text.new.items ≡ text.old.items
         ++ lines.lines_of_unremovable_directory (scene_in_specification scene.now) directory.now) }
 {
-    let narrow = scene_narrowed_to_directory(alloc, scene, rise, directory)?;
+    let narrow = scene_narrowed_to_directory_if_sorted(alloc, scene, rise, directory)?;
     append_skipped_repository_lines(alloc, text, &narrow, directory)?;
     append_line_if_current_directory_refused(text, scene, directory)?;
     append_would_remove_lines_inside(alloc, text, &narrow, directory)

@@ -55,8 +55,8 @@ fn is_including_match_of_path_itself(found: Option<Match>) -> bool
 }
 
 /// Whether a spec takes out, or is about all beneath a directory above.
-fn is_excluding_always_or_prefix_match(found: Option<Match>) -> bool
-    ensures { result ≡ words.is_excluding_always_or_prefix_match found }
+fn excludes_or_matches_all_beneath(found: Option<Match>) -> bool
+    ensures { result ≡ words.excludes_or_matches_all_beneath found }
 {
     match found {
         Some(found) => found.is_excluded() || is_always_or_prefix_match_kind(found.kind),
@@ -192,7 +192,7 @@ fn spec_may_match_deeper(name: &[u8], directory: &[u8], named: &NamedSpec) -> bo
         return false;
     }
     let found = named.spec.pattern_matching_relative_path(name, Some(true));
-    !(is_excluding_always_or_prefix_match(found)
+    !(excludes_or_matches_all_beneath(found)
         || directory_differs_from_wildcard_start(directory, named))
 }
 

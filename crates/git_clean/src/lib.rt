@@ -23,4 +23,4 @@ pub use answer::clean_dry_run_text;
 pub use cleaned::dry_run_text_of_entries;
 pub use options::Cleaning;
 pub use walk_request::walk_options_for_cleaning;
-pub use wrong::{WrongCleaning, reason_cleaning_unsupported};
+pub use wrong::{UnsupportedCleaning, reason_cleaning_unsupported};

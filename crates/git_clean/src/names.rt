@@ -214,7 +214,8 @@ fn removal_name_of_entry(
 
 /// The names of what goes, each once.
 pub fn names_of_removed(alloc: Global, scene: &Scene<'_>) -> Result<BTreeSet<Bytes>, OutOfMemory>
-    ensures { IfOk result (λ names. names.keys ≡ words.names_of_removed (scene_in_specification scene.now)) }
+    ensures { IfOk result (λ names. names.keys ≡ words.names_of_removed (scene_in_specification
+        scene.now)) }
 {
     let mut names = BTreeSet::new(alloc);
     for entry in scene.found {

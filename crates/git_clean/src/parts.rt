@@ -70,12 +70,12 @@ fn topmost_removable_part<'a>(
 }
 
 /// Whether an entry beneath a directory stays.
-fn entry_stays_in_directory(
+fn entry_stays_in_place(
     alloc: Global,
     scene: &Scene<'_>,
     entry: &Entry,
 ) -> Result<bool, OutOfMemory>
-    ensures { IfOk result (λ left. left ≡ words.entry_stays_in_directory (scene_in_specification
+    ensures { IfOk result (λ left. left ≡ words.entry_stays_in_place (scene_in_specification
         scene.now) entry.now) }
 {
     if is_repository_or_dot_git_kept(scene.cleaning, entry) {
@@ -100,7 +100,7 @@ fn removable_part_for_entry(
     if !is_beneath_directory(directory, entry.rela_path.as_bytes()) {
         return Ok(None);
     }
-    if entry_stays_in_directory(alloc, scene, entry)? {
+    if entry_stays_in_place(alloc, scene, entry)? {
         return Ok(None);
     }
     let part = topmost_removable_part(alloc, scene, directory, entry.rela_path.as_bytes())?;

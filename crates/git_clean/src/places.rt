@@ -188,8 +188,8 @@ pub fn highest_removed_directory_above<'a>(
     scene: &Scene<'_>,
     path: &'a [u8],
 ) -> Result<Option<&'a [u8]>, OutOfMemory>
-    ensures { IfOk result
-        (λ found. option_copied found ≡ words.highest_removed_directory_above (scene_in_specification scene.now) path.now) }
+    ensures { IfOk result (λ found. option_copied found ≡ words.highest_removed_directory_above
+        (scene_in_specification scene.now) path.now) }
 {
     let mut at = 0;
     while at < path.len() {

@@ -111,7 +111,8 @@ pub fn is_entry_matched_and_removable(
     specs: &Search,
     entry: &Entry,
 ) -> Result<bool, OutOfMemory>
-    ensures { IfOk result (λ may. may ≡ words.is_entry_matched_and_removable cleaning.now specs.now entry.now) }
+    ensures { IfOk result (λ may. may ≡ words.is_entry_matched_and_removable cleaning.now specs.now
+        entry.now) }
 {
     if !may_remove_if_matched(cleaning, entry) {
         return Ok(false);

@@ -7,7 +7,7 @@ use worktree_report::Setup;
 
 /// Why there is no such cleaning: in git, or not here.
 #[derive(Clone, Copy, Debug, PartialEq, Eq)]
-pub enum WrongCleaning {
+pub enum UnsupportedCleaning {
     /// Something would be removed, which is not done here.
     Removes,
     /// `-x` with `-X`, which git refuses.
@@ -16,15 +16,16 @@ pub enum WrongCleaning {
     FoldedCase,
 }
 
-impl WrongCleaning {
+impl UnsupportedCleaning {
     /// What is told of it, behind `fatal: `; of what git refuses too in git's words.
     pub fn text(&self) -> &'static [u8]
         ensures { result.now ≡ words.message_of_wrong_cleaning self.now }
     {
         match self {
-            WrongCleaning::Removes => b"clean is not supported without -n: nothing is removed",
-            WrongCleaning::BothIgnored => b"-x and -X cannot be used together",
-            WrongCleaning::FoldedCase => b"clean is not supported with core.ignoreCase",
+            UnsupportedCleaning::Removes =>
+                b"clean is not supported without -n: nothing is removed",
+            UnsupportedCleaning::BothIgnored => b"-x and -X cannot be used together",
+            UnsupportedCleaning::FoldedCase => b"clean is not supported with core.ignoreCase",
         }
     }
 }
@@ -33,17 +34,20 @@ impl WrongCleaning {
 /// one.
 ///
 /// See docs/DIFFERENCES.md#dry-clean-forms.
-pub fn reason_cleaning_unsupported(cleaning: &Cleaning, setup: &Setup) -> Option<WrongCleaning>
+pub fn reason_cleaning_unsupported(
+    cleaning: &Cleaning,
+    setup: &Setup,
+) -> Option<UnsupportedCleaning>
     ensures { result ≡ words.reason_cleaning_unsupported cleaning.now setup.now }
 {
     if !cleaning.dry_run {
-        return Some(WrongCleaning::Removes);
+        return Some(UnsupportedCleaning::Removes);
     }
     if cleaning.ignored_too & cleaning.ignored_only {
-        return Some(WrongCleaning::BothIgnored);
+        return Some(UnsupportedCleaning::BothIgnored);
     }
     if setup.options.ignore_case {
-        return Some(WrongCleaning::FoldedCase);
+        return Some(UnsupportedCleaning::FoldedCase);
     }
     None
 }

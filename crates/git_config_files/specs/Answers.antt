@@ -6,6 +6,7 @@ use Rattle.git_places.specs.Answers.{IsFoundOrOutOfMemory}
 use Rattle.git_config_files.specs.declared.error.FilesError.{FilesError}
 use Rattle.git_config_files.specs.declared.error.FilesError.TheVariants as errors
 
+-- the answer is what is found, or that memory is wanted; it is never `Fault`, since no worktree is asked
 abbrev pub AgreesUnlessFaultOrOutOfMemory : {A : Type 0} → Result A FilesError → Result A FilesError → Type 0
 AgreesUnlessFaultOrOutOfMemory result found = IsFoundOrOutOfMemory errors.Fault errors.OutOfMemory result found
 

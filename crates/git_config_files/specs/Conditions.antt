@@ -41,9 +41,11 @@ pattern_with_tilde_expanded (Some home) (Some rest) pattern = home ++ rest
 abbrev pub with_double_star_unless_absolute : List ℕ → List ℕ
 with_double_star_unless_absolute pattern = if is_absolute pattern then pattern else codes "**/" ++ pattern
 
+-- `~` becomes the home, a pattern that is not absolute gets `**/` in front, and one that ends in `/` gets `**` behind
 abbrev pub expanded_gitdir_pattern : Option (List ℕ) → List ℕ → List ℕ
 expanded_gitdir_pattern home pattern = pattern_with_stars_after_slash (with_double_star_unless_absolute (pattern_with_tilde_expanded home (text_after_prefix (codes "~") pattern) pattern))
 
+-- a wildcard pattern matches the whole path, where `*` and `?` take no slash
 abbrev pub pattern_matches_path : Case → List ℕ → List ℕ → Bool
 pattern_matches_path case pattern text = matches (wild_mode_of_rules case) pattern text
 
@@ -60,6 +62,7 @@ text_after_prefix_in_case_mode case front text =
     if nat_lt (length text) (length front) then None
     else if is_equal_in_case_mode case (take (length front) text) front then Some (drop (length front) text) else None
 
+-- no pattern matches where there is no text
 abbrev pub pattern_matches_optional_text : Case → List ℕ → Option (List ℕ) → Bool
 pattern_matches_optional_text case pattern None = false
 pattern_matches_optional_text case pattern (Some text) = pattern_matches_path case pattern text
@@ -120,15 +123,18 @@ gitdir_condition_holds_if_repository t home from case pattern (Some here) =
     if needs_unavailable_home home pattern then Err (errors.Home from)
     else Ok (git_directory_matches_pattern t here home from case (text_after_prefix (codes "./") pattern) pattern)
 
+-- the git directory lies where the pattern says, with `~` as the home without links; refused where the home cannot be had
 abbrev pub gitdir_condition_holds : Names → IncludeContext → List ℕ → Case → List ℕ → Result Bool FilesError
 gitdir_condition_holds t known from case pattern = gitdir_condition_holds_if_repository t known.real_home from case pattern known.repository
 
 -- ---- `onbranch:`
 
+-- `onbranch:` holds where the branch matches, by the case of letters; a pattern that ends in `/` means all branches beneath
 abbrev pub branch_matches_pattern : Option (List ℕ) → List ℕ → Bool
 branch_matches_pattern None pattern = false
 branch_matches_pattern (Some branch) pattern = pattern_matches_path cases.Sensitive (pattern_with_stars_after_slash pattern) branch
 
+-- the branch of the repository; none where no repository is known or its `HEAD` names no branch
 abbrev pub branch_of_optional_repository : Option Repository → Option (List ℕ)
 branch_of_optional_repository None = None
 branch_of_optional_repository (Some here) = here.branch

@@ -26,6 +26,7 @@ single_key_sections (section ∷ sections) = map (single_key_section section) se
 abbrev pub metadata_of_file : Source → List ℕ → Metadata
 metadata_of_file source path = record { source = source; path = Some path }
 
+-- the keys one by one, or the path of the file with its first line outside the grammar
 abbrev pub keys_or_config_error : List ℕ → Result (List Section) ℕ → Result (List Section) FilesError
 keys_or_config_error path (Ok sections) = Ok (single_key_sections sections)
 keys_or_config_error path (Err line) = Err (errors.Config path line)
@@ -38,6 +39,7 @@ parse_keys_of_file source path bytes = keys_or_config_error path (parse_text_sec
 abbrev pub ReadKeysAtPath : Type 0
 ReadKeysAtPath = List ℕ → Result (List Section) FilesError
 
+-- a key that includes no file adds nothing
 abbrev pub keys_of_optional_path : ReadKeysAtPath → Option (List ℕ) → Result (List Section) FilesError
 keys_of_optional_path follow None = Ok []
 keys_of_optional_path follow (Some path) = follow path
@@ -47,6 +49,7 @@ abbrev pub keys_included_by_entries : Names → IncludeContext → ReadKeysAtPat
 keys_included_by_entries t known follow from key [] = Ok []
 keys_included_by_entries t known follow from key (e ∷ es) = and_then (keys_of_optional_path follow) (target t known from key e)
 
+-- what the one entry of such a section includes: nothing, unless it is the `path` of an include whose condition holds
 abbrev pub keys_included_by_key : Names → IncludeContext → ReadKeysAtPath → List ℕ → Section → Result (List Section) FilesError
 keys_included_by_key t known follow from key = keys_included_by_entries t known follow from key key.entries
 
@@ -78,6 +81,7 @@ text_by_look_answer path real too_many_links = Err (errors.NoFile path)
 abbrev pub read_optional_file_text : Names → List ℕ → Result (Option (List ℕ)) FilesError
 read_optional_file_text t path = text_by_look_answer path (real_path t path (47 ∷ [])) (look t path true)
 
+-- a file that is not there says nothing; another is read whole, with what it includes right behind each key
 abbrev pub keys_with_includes_of_text : Names → IncludeContext → ReadKeysAtPath → Source → List ℕ → Option (List ℕ) → Result (List Section) FilesError
 keys_with_includes_of_text t known follow source path None = Ok []
 keys_with_includes_of_text t known follow source path (Some bytes) = and_then (expand_includes_of_keys t known follow path) (parse_keys_of_file source path bytes)

@@ -5,7 +5,7 @@ use Rattle.gitbase_core.specs.Text.{eq_ignore_case, without_byte_order_mark}
 use Rattle.git_config_lite.specs.declared.entry.Entry.{Entry}
 use Rattle.git_config_lite.specs.Lookups.{last_string_value}
 use Rattle.git_config_lite.specs.Sections.{Section}
-use Rattle.git_places.specs.Format.{file_of_last_key_value}
+use Rattle.git_places.specs.Format.{file_of_last_section_with_key}
 use Rattle.git_places.specs.Places.{RepositoryPlaces}
 use Rattle.git_places.specs.Surroundings.{Surroundings}
 use Rattle.worktree_fs.specs.Changes.{resolve_path_from_directory}
@@ -23,10 +23,12 @@ use Rattle.git_config_files.specs.declared.error.FilesError.TheVariants as error
 abbrev pub is_excludes_file_without_value : Entry → Bool
 is_excludes_file_without_value e = eq_ignore_case e.key (codes "excludesfile") && is_none e.value
 
+-- `[core]` in any case of letters; `[core "x"]` is another section
 abbrev pub is_core_section : List ℕ → Option (List ℕ) → Bool
 is_core_section name None = eq_ignore_case name (codes "core")
 is_core_section name (Some subsection) = false
 
+-- a `[core]` section has the key `excludesFile` with no `=` behind it, which git refuses
 abbrev pub section_lacks_excludes_file_value : Section → Bool
 section_lacks_excludes_file_value section = is_core_section section.name section.subsection && list_any is_excludes_file_without_value section.entries
 
@@ -56,8 +58,9 @@ excludes_path_by_configured_value root around file (Some text) =
 
 -- the file in which the last value of `core.excludesFile` stands
 unfoldable pub file_configuring_excludes_file : List Section → Option (List ℕ)
-file_configuring_excludes_file sections = file_of_last_key_value (codes "core") (codes "excludesfile") sections
+file_configuring_excludes_file sections = file_of_last_section_with_key (codes "core") (codes "excludesfile") sections
 
+-- where the user's ignore rules are: what `core.excludesFile` names, or `git/ignore` among his configurations
 abbrev pub path_of_user_excludes_file : List ℕ → Surroundings → List Section → Result (Option (List ℕ)) FilesError
 path_of_user_excludes_file root around sections =
     and_then (excludes_path_by_configured_value root around (file_configuring_excludes_file sections)) (configured_excludes_file_value sections)
@@ -70,14 +73,17 @@ path_of_info_exclude common = resolve_path_from_directory (codes "info/exclude")
 
 -- ---- both
 
+-- a file of ignore rules that was found and read
 pub record RulesFile : Type 0 where
   pub path : List ℕ  -- an absolute path
   pub bytes : List ℕ  -- without the byte order mark at the front, if there is one
 
+-- what `core.excludesFile` and `info/exclude` hold; none where such a file is not there
 pub record RulesOutsideWorkTree : Type 0 where
   pub user : Option RulesFile
   pub repository : Option RulesFile
 
+-- a file that is not there gives no rules; a byte order mark at the front of a text is dropped
 abbrev pub rules_file_of_optional_text : List ℕ → Option (List ℕ) → Option RulesFile
 rules_file_of_optional_text path None = None
 rules_file_of_optional_text path (Some bytes) = Some (record { path = path; bytes = without_byte_order_mark bytes })
@@ -86,13 +92,16 @@ rules_file_of_optional_text path (Some bytes) = Some (record { path = path; byte
 abbrev pub read_rules_file_if_present : Names → List ℕ → Result (Option RulesFile) FilesError
 read_rules_file_if_present t path = and_then (λ text. Ok (rules_file_of_optional_text path text)) (read_optional_file_text t path)
 
+-- where no path is named nothing is read, and that is no error
 abbrev pub read_rules_file_of_optional_path : Names → Option (List ℕ) → Result (Option RulesFile) FilesError
 read_rules_file_of_optional_path t None = Ok None
 read_rules_file_of_optional_path t (Some path) = read_rules_file_if_present t path
 
+-- both files side by side, of which either may be missing
 abbrev pub rules_of_user_and_repository : Option RulesFile → Option RulesFile → RulesOutsideWorkTree
 rules_of_user_and_repository user repository = record { user = user; repository = repository }
 
+-- the user's rules with those of `info/exclude`, which is read from the directory that all work trees share
 abbrev pub rules_with_info_exclude : Names → RepositoryPlaces → Option RulesFile → Result RulesOutsideWorkTree FilesError
 rules_with_info_exclude t layout user = and_then (λ repository. Ok (rules_of_user_and_repository user repository)) (read_rules_file_if_present t (path_of_info_exclude layout.common))
 

@@ -17,6 +17,7 @@ use Rattle.git_config_files.specs.declared.error.FilesError.TheVariants as error
 
 -- ---- what is the user's
 
+-- the number of the owner, of the link itself or where it leads; none where nothing is there
 abbrev pub owner_of_path : OwnershipByPath → List ℕ → Bool → Option ℕ
 owner_of_path owned path follow = option_map (λ (found : Ownership). found.owner) (owned path follow)
 
@@ -39,6 +40,7 @@ is_owned_by_user_if_known None sudo owner = false
 is_owned_by_user_if_known (Some user) sudo None = false
 is_owned_by_user_if_known (Some user) sudo (Some owner) = owner_counts_as_user user sudo owner
 
+-- the owner is that of `/proc/self`, or for root the one that `SUDO_UID` names; what is not there is not the user's
 abbrev pub is_path_owned_by_user : OwnershipByPath → Option (List ℕ) → List ℕ → Bool → Bool
 is_path_owned_by_user owned sudo path follow = is_owned_by_user_if_known (owner_of_current_process owned) sudo (owner_of_path owned path follow)
 
@@ -58,10 +60,12 @@ is_safe_after_value home path safe text =
     else if bytes_eq text (codes "*") then Ok true
     else and_then (λ named. Ok (safe || bytes_eq named path)) (path_of_config_value None (codes "safe.directory") home text)
 
+-- more values of `safe.directory`, in their order; the first that cannot be read is refused
 abbrev pub is_safe_after_values : Option (List ℕ) → List ℕ → Bool → List (List ℕ) → Result Bool FilesError
 is_safe_after_values home path safe [] = Ok safe
 is_safe_after_values home path safe (text ∷ texts) = and_then (λ now. is_safe_after_values home path now texts) (is_safe_after_value home path safe text)
 
+-- what all values of `safe.directory` say together of a directory; without a value it is not safe
 abbrev pub is_safe_by_configuration : Option (List ℕ) → List ℕ → List Section → Result Bool FilesError
 is_safe_by_configuration home path sections = is_safe_after_values home path false (all_string_values (codes "safe") None (codes "directory") sections)
 
@@ -69,15 +73,18 @@ is_safe_by_configuration home path sections = is_safe_after_values home path fal
 abbrev pub read_stack_outside_repository : Names → Surroundings → Result Stack FilesError
 read_stack_outside_repository t around = and_then (read_stack_of_files t (include_context_of_repository t None around.directory around.home)) (config_files_outside_repository around)
 
+-- only the system's and the user's `safe.directory` count, so that no repository calls itself safe
 abbrev pub is_safe_by_outer_configurations : Names → Surroundings → List ℕ → Result Bool FilesError
 is_safe_by_outer_configurations t around path = and_then (λ (stack : Stack). is_safe_by_configuration around.home path stack.file.sections) (read_stack_outside_repository t around)
 
 -- ---- both
 
+-- a work tree that is another's and not safe is refused as `Foreign`, with its top
 abbrev pub top_or_foreign_error : WorkTreeTop → Bool → Result WorkTreeTop FilesError
 top_or_foreign_error top true = Ok top
 top_or_foreign_error top false = Err (errors.Foreign top.directory)
 
+-- a work tree passes whose top `safe.directory` names, as `*` does, whoever owns it
 abbrev pub require_safe_top : Names → Surroundings → WorkTreeTop → Result WorkTreeTop FilesError
 require_safe_top t around top = and_then (top_or_foreign_error top) (is_safe_by_outer_configurations t around top.directory)
 
@@ -85,5 +92,6 @@ require_safe_top t around top = and_then (top_or_foreign_error top) (is_safe_by_
 abbrev pub require_owned_or_safe_top : Names → OwnershipByPath → Surroundings → WorkTreeTop → Result WorkTreeTop FilesError
 require_owned_or_safe_top t owned around top = if is_work_tree_owned_by_user owned around.sudo_user top then Ok top else require_safe_top t around top
 
+-- the same, unless a variable as `GIT_DIR` points git elsewhere: it is refused by its name, whoever owns the work tree
 abbrev pub require_trusted_top : Names → OwnershipByPath → Surroundings → WorkTreeTop → Result WorkTreeTop FilesError
 require_trusted_top t owned around top = answer_or_elsewhere_error around.elsewhere (require_owned_or_safe_top t owned around top)

@@ -28,6 +28,7 @@ abbrev pub branch_named_by_head_text : Option (List ℕ) → Option (List ℕ)
 branch_named_by_head_text None = None
 branch_named_by_head_text (Some text) = option_and_then path_unless_empty (text_after_prefix (codes "ref: refs/heads/") (without_trailing_line_ends text))
 
+-- the branch that `HEAD` of this git directory names; none where it is detached, or no such file is there
 abbrev pub checked_out_branch : Names → List ℕ → Option (List ℕ)
 checked_out_branch t git = branch_named_by_head_text (bytes_of_file_lookup (look t (resolve_path_from_directory (codes "HEAD") git) true))
 
@@ -35,10 +36,12 @@ checked_out_branch t git = branch_named_by_head_text (bytes_of_file_lookup (look
 abbrev pub dot_git_of_worktree_or_real_git_directory : List ℕ → List ℕ → List ℕ → List ℕ
 dot_git_of_worktree_or_real_git_directory root git real = if bytes_eq git (dot_git_path root) then git else real
 
+-- the home as `gitdir:` patterns see it: links followed, and a relative one taken from `root`
 abbrev pub home_without_links : Names → List ℕ → Option (List ℕ) → Option (List ℕ)
 home_without_links t root None = None
 home_without_links t root (Some home) = Some (if is_empty home then home else real_path_or_same t home root)
 
+-- what `gitdir:` and `onbranch:` are judged by: both spellings of the git directory, and the branch
 abbrev pub repository_for_conditions : Names → RepositoryPlaces → Repository
 repository_for_conditions t layout =
     record {
@@ -51,11 +54,13 @@ repository_for_conditions t layout =
 abbrev pub include_context_of_repository : Names → Option Repository → List ℕ → Option (List ℕ) → IncludeContext
 include_context_of_repository t repository directory home = record { repository = repository; home = home; real_home = home_without_links t directory home }
 
+-- conditions of includes are judged by this repository; a relative home is taken from the top of the work tree
 abbrev pub include_context_of_work_tree : Names → RepositoryPlaces → Surroundings → IncludeContext
 include_context_of_work_tree t layout around = include_context_of_repository t (Some (repository_for_conditions t layout)) layout.root around.home
 
 -- ---- the files in which keys stand
 
+-- a file has exactly this path, whatever it belongs to
 abbrev pub is_path_of_some_file : List ℕ → List ConfiguredFile → Bool
 is_path_of_some_file path files = list_any (λ at. bytes_eq path at.path) files
 
@@ -63,6 +68,7 @@ is_path_of_some_file path files = list_any (λ at. bytes_eq path at.path) files
 abbrev pub ArePathsOfFiles : List (List ℕ) → List ConfiguredFile → Type 0
 ArePathsOfFiles texts files = (path : List ℕ) → among.is_text_in_list path texts ≡ is_path_of_some_file path files
 
+-- the path as it stands, and what is read there belongs to this source
 abbrev pub file_at_path : Source → List ℕ → ConfiguredFile
 file_at_path source path = record { source = source; path = path }
 
@@ -78,13 +84,16 @@ files_in_order_of_appearance files (key ∷ keys) = files_in_order_of_appearance
 
 -- ---- all of it
 
+-- what files of configuration say together, in the order in which git reads them, and where it stands
 pub record Stack : Type 0 where
   pub file : Configuration  -- what all the files say, each key by itself, with what is included in place
   pub files : List ConfiguredFile  -- the files in which these keys stand, in the order in which they first appear
 
+-- the keys as they stand, and each file that one of them comes from, once
 abbrev pub stack_of_keys : List Section → Stack
 stack_of_keys keys = record { file = record { meta = metadata_of_joined_files; sections = keys }; files = files_in_order_of_appearance [] keys }
 
+-- the files one behind another, with what they include in place; one that is not there adds nothing
 abbrev pub read_stack_of_files : Names → IncludeContext → List ConfiguredFile → Result Stack FilesError
 read_stack_of_files t known files = and_then (λ keys. Ok (stack_of_keys keys)) (keys_of_files_with_includes t known files)
 
@@ -93,6 +102,7 @@ abbrev pub answer_or_elsewhere_error : {A : Type 0} → Option (List ℕ) → Re
 answer_or_elsewhere_error None answer = answer
 answer_or_elsewhere_error (Some name) answer = Err (errors.Elsewhere name)
 
+-- all that git reads for this work tree; a variable as `GIT_DIR`, which points it elsewhere, is refused first
 abbrev pub read_stack_of_work_tree : Names → RepositoryPlaces → Surroundings → Result Stack FilesError
 read_stack_of_work_tree t layout around =
     answer_or_elsewhere_error around.elsewhere (and_then (read_stack_of_files t (include_context_of_work_tree t layout around)) (config_files_of_work_tree layout around))

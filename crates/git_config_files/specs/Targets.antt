@@ -18,6 +18,7 @@ abbrev pub home_followed_by_rest : Option (List ℕ) → List ℕ → Option (Li
 home_followed_by_rest None rest = None
 home_followed_by_rest (Some home) rest = Some (home ++ rest)
 
+-- a path without a `~` at its front, as it is; with one it begins with the home, and is none where that is not known
 abbrev pub path_or_home_with_rest : Option (List ℕ) → List ℕ → Option (List ℕ) → Option (List ℕ)
 path_or_home_with_rest home path None = Some path
 path_or_home_with_rest home path (Some rest) = home_followed_by_rest home rest
@@ -30,6 +31,7 @@ path_with_tilde_expanded home path = if begins_with_unsupported_home path then N
 abbrev pub has_nul : List ℕ → Bool
 has_nul text = list_any (λ b. b == 0) text
 
+-- a value that begins with an unknown home is refused by its text and the file that it stands in
 abbrev pub expanded_path_or_user_dir_error : Option (List ℕ) → List ℕ → Option (List ℕ) → Result (List ℕ) FilesError
 expanded_path_or_user_dir_error file text None = Err (errors.UserDir file text)
 expanded_path_or_user_dir_error file text (Some path) = Ok path
@@ -42,6 +44,7 @@ path_of_config_value file key home text = if has_nul text then Err (errors.Value
 abbrev pub path_from_directory_of_file : List ℕ → List ℕ → List ℕ
 path_from_directory_of_file from path = resolve_path_from_directory path (unwrap_or (parent from) [])
 
+-- the included path, from the directory of the file `from`; an unknown home is refused by that file
 abbrev pub included_file_or_home_error : List ℕ → Option (List ℕ) → Result (Option (List ℕ)) FilesError
 included_file_or_home_error from None = Err (errors.Home from)
 included_file_or_home_error from (Some path) = Ok (Some (path_from_directory_of_file from path))
@@ -52,9 +55,11 @@ included_file_of_value known from None = Err (errors.Include from)
 included_file_of_value known from (Some text) =
     if has_nul text then Err (errors.Value (Some from) (codes "include.path")) else included_file_or_home_error from (path_with_tilde_expanded known.home text)
 
+-- where the condition does not hold nothing is included, and not even a missing value is refused
 abbrev pub included_file_if_true : IncludeContext → List ℕ → Entry → Bool → Result (Option (List ℕ)) FilesError
 included_file_if_true known from e does = if does then included_file_of_value known from e.value else Ok None
 
+-- what a `path` under `[includeIf "CONDITION"]` includes; a condition that cannot be judged is refused
 abbrev pub included_file_if_condition_holds : Names → IncludeContext → List ℕ → List ℕ → Entry → Result (Option (List ℕ)) FilesError
 included_file_if_condition_holds t known from condition e = and_then (included_file_if_true known from e) (include_condition_holds t known from condition)
 

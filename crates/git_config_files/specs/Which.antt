@@ -17,12 +17,14 @@ use Rattle.git_config_files.specs.declared.error.FilesError.TheVariants as error
 abbrev pub file_at_path_unless_empty : List ℕ → Source → List ℕ → List ConfiguredFile
 file_at_path_unless_empty root source path = if is_empty path then [] else record { source = source; path = resolve_path_from_directory path root } ∷ []
 
+-- no file where there is no path, as that of `~/.gitconfig` where `HOME` is not set
 abbrev pub file_of_optional_path : List ℕ → Source → Option (List ℕ) → List ConfiguredFile
 file_of_optional_path root source None = []
 file_of_optional_path root source (Some path) = file_at_path_unless_empty root source path
 
 -- ---- that of the system
 
+-- a `GIT_CONFIG_NOSYSTEM` that is no boolean is refused by its name
 abbrev pub boolean_or_nosystem_error : Option Bool → Result Bool FilesError
 boolean_or_nosystem_error None = Err (errors.Value None (codes "GIT_CONFIG_NOSYSTEM"))
 boolean_or_nosystem_error (Some b) = Ok b
@@ -36,6 +38,7 @@ is_system_config_skipped (Some text) = boolean_or_nosystem_error (parse_boolean 
 abbrev pub path_of_system_config : Option (List ℕ) → List ℕ
 path_of_system_config told = unwrap_or told (codes "/etc/gitconfig")
 
+-- the system's file, from `root` on where it is relative; none where it is skipped or its path is empty
 abbrev pub system_config_unless_skipped : List ℕ → Option (List ℕ) → Bool → List ConfiguredFile
 system_config_unless_skipped root told true = []
 system_config_unless_skipped root told false = file_at_path_unless_empty root sources.System (path_of_system_config told)
@@ -48,9 +51,11 @@ file_in_config_directory_or_home (Some directory) home name = Some (directory ++
 file_in_config_directory_or_home None (Some home) name = Some (home ++ codes "/.config/git/" ++ name)
 file_in_config_directory_or_home None None name = None
 
+-- `$XDG_CONFIG_HOME/git/NAME` or else `~/.config/git/NAME`; none where `HOME` is not set either
 abbrev pub path_in_user_config_directory : Surroundings → List ℕ → Option (List ℕ)
 path_in_user_config_directory around name = file_in_config_directory_or_home (option_and_then path_unless_empty around.config_home) around.home name
 
+-- `~/.gitconfig`; none where `HOME` is not set
 abbrev pub path_of_home_gitconfig : Option (List ℕ) → Option (List ℕ)
 path_of_home_gitconfig home = option_map (λ directory. directory ++ codes "/.gitconfig") home
 
@@ -60,14 +65,17 @@ user_configs_by_global_variable root around (Some path) = file_at_path_unless_em
 user_configs_by_global_variable root around None =
     file_of_optional_path root sources.User (path_in_user_config_directory around (codes "config")) ++ file_of_optional_path root sources.User (path_of_home_gitconfig around.home)
 
+-- the user's `git/config` and behind it `~/.gitconfig`; the file of `GIT_CONFIG_GLOBAL` alone where that is set
 abbrev pub user_configs : List ℕ → Surroundings → List ConfiguredFile
 user_configs root around = user_configs_by_global_variable root around around.config_global
 
 -- ---- those of the repository
 
+-- a file of the repository's own, be it shared or that of one work tree
 abbrev pub repository_config_file : List ℕ → ConfiguredFile
 repository_config_file path = record { source = sources.Local; path = path }
 
+-- `config.worktree` of the git directory, where `extensions.worktreeConfig` is true; no file where it is not
 abbrev pub worktree_config_if_present : List ℕ → Bool → List ConfiguredFile
 worktree_config_if_present git true = repository_config_file (worktree_config_path git) ∷ []
 worktree_config_if_present git false = []
@@ -86,8 +94,10 @@ configs_outside_repository directory around skips = system_config_unless_skipped
 abbrev pub config_files_outside_repository : Surroundings → Result (List ConfiguredFile) FilesError
 config_files_outside_repository around = and_then (λ skips. Ok (configs_outside_repository around.directory around skips)) (is_system_config_skipped around.no_system)
 
+-- the system's, the user's, the repository's, in this order: a later value wins
 abbrev pub configs_of_work_tree : RepositoryPlaces → Surroundings → Bool → List ConfiguredFile
 configs_of_work_tree layout around skips = configs_outside_repository layout.root around skips ++ repository_configs layout
 
+-- the files that git reads for a work tree, in order; refused where `GIT_CONFIG_NOSYSTEM` is no boolean
 abbrev pub config_files_of_work_tree : RepositoryPlaces → Surroundings → Result (List ConfiguredFile) FilesError
 config_files_of_work_tree layout around = and_then (λ skips. Ok (configs_of_work_tree layout around skips)) (is_system_config_skipped around.no_system)

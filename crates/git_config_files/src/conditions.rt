@@ -263,7 +263,8 @@ pub fn begins_with_unsupported_home(path: &[u8]) -> bool
 
 /// Whether a pattern begins with a home that is the empty text.
 fn expands_to_empty_home(home: Option<&[u8]>, rest: Option<&[u8]>) -> bool
-    ensures { result ≡ words.expands_to_empty_home (option_copied home.entry) (option_copied rest.entry) }
+    ensures { result ≡ words.expands_to_empty_home (option_copied home.entry) (option_copied
+        rest.entry) }
 {
     match (home, rest) {
         (Some(home), Some(_)) => home.is_empty(),

@@ -118,7 +118,8 @@ fn keys_with_those_of_section(
     keys: Keys,
     section: &Section,
 ) -> Result<Keys, OutOfMemory>
-    ensures { IfOk result (λ all. all ≡ keys ++ map (words.single_key_section section.now) section.now.entries) }
+    ensures { IfOk result (λ all. all ≡ keys ++ map (words.single_key_section section.now)
+        section.now.entries) }
 {
     let mut all = keys;
     for entry in section.entries() {

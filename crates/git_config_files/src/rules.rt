@@ -11,7 +11,7 @@ use crate::includes::read_optional_file_text;
 use crate::targets::path_of_config_value;
 use crate::which::{path_in_user_config_directory, value_error};
 use git_config_lite::{Entry, File, Section};
-use git_places::{Places, Surroundings, file_of_last_key_value};
+use git_places::{Places, Surroundings, file_of_last_section_with_key};
 use gitbase_core::{Bytes, OutOfMemory, PathText, eq_ignore_case, without_byte_order_mark};
 use std::alloc::Global;
 use std::marker::Model;
@@ -168,7 +168,7 @@ fn default_excludes_path(
 fn file_configuring_excludes_file(config: &File) -> Option<&PathText>
     ensures { option_copied result ≡ words.file_configuring_excludes_file config.now.sections }
 {
-    file_of_last_key_value(config, b"core", b"excludesfile")
+    file_of_last_section_with_key(config, b"core", b"excludesfile")
 }
 
 /// Where the user's rules lie.

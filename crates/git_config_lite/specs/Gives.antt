@@ -13,6 +13,7 @@ DraftAgreesWithGrammar (Ok draft) given = given ≡ Ok draft.sections
 DraftAgreesWithGrammar (Err (errors.Syntax line)) given = given ≡ Err line
 DraftAgreesWithGrammar (Err errors.OutOfMemory) given = Unit {0}
 
+-- a file has the sections that its text says and this origin, and a refusal names the line that the grammar does
 abbrev pub ParseAgreesWithGrammar : Result Configuration ParseError → Metadata → List ℕ → Type 0
 ParseAgreesWithGrammar (Ok file) meta text = (parse_text_sections meta text ≡ Ok file.sections) × (file.meta ≡ meta)
 ParseAgreesWithGrammar (Err (errors.Syntax line)) meta text = parse_text_sections meta text ≡ Err line

@@ -15,9 +15,11 @@ is_same_subsection None (Some b) = false
 is_same_subsection (Some a) None = false
 is_same_subsection (Some a) (Some b) = bytes_eq a b
 
+-- the names agree but for case, and the subsections byte for byte; without a subsection, both have none
 abbrev pub is_section_of_name_and_subsection : List ℕ → Option (List ℕ) → Section → Bool
 is_section_of_name_and_subsection name subsection section = is_equal_ignoring_ascii_case section.name name && is_same_subsection section.subsection subsection
 
+-- the key of the entry is this one but for case
 abbrev pub entry_has_key : List ℕ → Entry → Bool
 entry_has_key key e = is_equal_ignoring_ascii_case e.key key
 
@@ -56,6 +58,7 @@ pub record FoundValueAndSource : Type 0 where
   pub value : Option (List ℕ)
   pub source : Source
 
+-- the value of an entry with the source of its section; a key without `=` is found too, without a value
 abbrev pub found_value_of_entry : Source → Entry → FoundValueAndSource
 found_value_of_entry source e = record { value = e.value; source = source }
 
@@ -77,15 +80,19 @@ value_of_first_section_with_key name subsection key (section ∷ sections) = fir
 abbrev pub last_value_in_sections : List ℕ → Option (List ℕ) → List ℕ → List Section → Option FoundValueAndSource
 last_value_in_sections name subsection key sections = value_of_first_section_with_key name subsection key (reverse sections)
 
+-- the value as a text: the empty one for a key without a value
 abbrev pub text_of_found_value : FoundValueAndSource → List ℕ
 text_of_found_value found = value_or_empty_text found.value
 
+-- the last value of a key, as a text; none where the key is not set, the empty one where it has no value
 abbrev pub last_string_value : List ℕ → Option (List ℕ) → List ℕ → List Section → Option (List ℕ)
 last_string_value name subsection key sections = option_map text_of_found_value (last_value_in_sections name subsection key sections)
 
+-- the value as a text, the empty one for a key without a value, and the source of its section
 abbrev pub text_and_source_of_found : FoundValueAndSource → List ℕ × Source
 text_and_source_of_found found = (text_of_found_value found, found.source)
 
+-- the last value of a key, as a text, and the source of the section that has it
 abbrev pub last_string_with_source : List ℕ → Option (List ℕ) → List ℕ → List Section → Option (List ℕ × Source)
 last_string_with_source name subsection key sections = option_map text_and_source_of_found (last_value_in_sections name subsection key sections)
 
@@ -96,10 +103,12 @@ abbrev pub boolean_or_text_error : List ℕ → Option Bool → Result (Option B
 boolean_or_text_error text None = Err text
 boolean_or_text_error text (Some b) = Ok (Some b)
 
+-- a key without a value is true; a text that is no boolean is refused by itself
 abbrev pub boolean_of_value : Option (List ℕ) → Result (Option Bool) (List ℕ)
 boolean_of_value None = Ok (Some true)
 boolean_of_value (Some text) = boolean_or_text_error text (parse_boolean text)
 
+-- what a key says as a boolean: none where it is not set, its text where that is no boolean
 abbrev pub boolean_of_found_value : Option FoundValueAndSource → Result (Option Bool) (List ℕ)
 boolean_of_found_value None = Ok None
 boolean_of_found_value (Some found) = boolean_of_value found.value

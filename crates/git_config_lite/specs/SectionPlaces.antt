@@ -15,6 +15,7 @@ use Rattle.git_config_lite.specs.Lookups.{FoundValueAndSource, last_value_in_mat
 abbrev pub subsection_or_empty_text : Option (List ℕ) → List ℕ
 subsection_or_empty_text subsection = unwrap_or subsection []
 
+-- the text by which a section is found, and how many sections stand before it
 abbrev pub section_place : List ℕ → ℕ → SectionPlace
 section_place key number = record { key = key; number = number }
 
@@ -24,24 +25,24 @@ places_numbered_from number [] = []
 places_numbered_from number (section ∷ sections) = section_place (subsection_or_empty_text section.subsection) number ∷ places_numbered_from (number + 1) sections
 
 -- the text of a place is less than another's
-abbrev pub is_place_key_before : SectionPlace → SectionPlace → Bool
-is_place_key_before a b = is_lt (slice_cmp nat_cmp a.key b.key)
+abbrev pub is_subsection_text_before : SectionPlace → SectionPlace → Bool
+is_subsection_text_before a b = is_lt (slice_cmp nat_cmp a.key b.key)
 
 -- the text of a place is less than this one
-abbrev pub is_place_key_below : List ℕ → SectionPlace → Bool
-is_place_key_below key p = is_place_key_before p (section_place key 0)
+abbrev pub is_subsection_text_below : List ℕ → SectionPlace → Bool
+is_subsection_text_below key p = is_subsection_text_before p (section_place key 0)
 
 -- the text of a place is not greater than this one
-abbrev pub is_place_key_at_most : List ℕ → SectionPlace → Bool
-is_place_key_at_most key p = not (is_place_key_before (section_place key 0) p)
+abbrev pub is_subsection_text_at_most : List ℕ → SectionPlace → Bool
+is_subsection_text_at_most key p = not (is_subsection_text_before (section_place key 0) p)
 
 -- a place has this text
-abbrev pub place_has_key : List ℕ → SectionPlace → Bool
-place_has_key key p = ties is_place_key_before (section_place key 0) p
+abbrev pub place_has_subsection_text : List ℕ → SectionPlace → Bool
+place_has_subsection_text key p = ties is_subsection_text_before (section_place key 0) p
 
 -- places are those of sections; those of one text stand in the order of the sections
 abbrev pub IsSortedIndexOfSections : List SectionPlace → List Section → Type 0
-IsSortedIndexOfSections places sections = IsStableBy is_place_key_before (places_numbered_from 0 sections) places
+IsSortedIndexOfSections places sections = IsStableBy is_subsection_text_before (places_numbered_from 0 sections) places
 
 -- the last value of a key in the section of a place
 abbrev pub last_value_in_optional_section : List ℕ → Option (List ℕ) → List ℕ → Option Section → Option FoundValueAndSource

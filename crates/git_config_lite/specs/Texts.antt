@@ -28,6 +28,7 @@ abbrev pub first_byte_passes : (ℕ → Bool) → List ℕ → Bool
 first_byte_passes test [] = false
 first_byte_passes test (b ∷ _) = test b
 
+-- the first byte is there and is this one
 abbrev pub begins_with_byte : ℕ → List ℕ → Bool
 begins_with_byte c bytes = first_byte_passes (λ b. b == c) bytes
 

@@ -23,9 +23,10 @@ byte_for_escape_letter b =
     else if b == 98 then Some 8
     else None
 
-abbrev pub effect_of_unescaped_byte : Option ℕ → ValueByte
-effect_of_unescaped_byte None = Outside
-effect_of_unescaped_byte (Some b) = Gives (Plain b)
+-- what an escape does: it gives its byte as a plain one; an unknown escape is outside the grammar
+abbrev pub effect_of_escape : Option ℕ → ValueByte
+effect_of_escape None = Outside
+effect_of_escape (Some b) = Gives (Plain b)
 
 -- what a byte of a value does that is no backslash and behind none
 abbrev pub effect_of_unquoted_byte : ℕ → ValueByte
@@ -37,7 +38,7 @@ effect_of_unquoted_byte b =
 -- what a byte of a value does
 abbrev pub effect_of_value_byte : Place → ℕ → ValueByte
 effect_of_value_byte place b =
-    if place.is_escaped then effect_of_unescaped_byte (byte_for_escape_letter b)
+    if place.is_escaped then effect_of_escape (byte_for_escape_letter b)
     else if b == 92 then Escapes
     else if b == 34 then Gives Quote
     else if place.is_quoted then Gives (Plain b)
@@ -62,6 +63,7 @@ pub record ValuePiece : Type 0 where
 abbrev pub piece_with_elements_before : List Element → ValuePiece → ValuePiece
 piece_with_elements_before more piece = record { elements = more ++ piece.elements; continues = piece.continues }
 
+-- a line that adds nothing to a value, which goes on on the next line or not
 abbrev pub piece_without_elements : Bool → ValuePiece
 piece_without_elements continues = record { elements = []; continues = continues }
 
@@ -85,14 +87,17 @@ parse_value_piece_from_place place (b ∷ bytes) = piece_by_effect_of_first_byte
 abbrev pub unquoted_unescaped_place : Place
 unquoted_unescaped_place = record { is_quoted = false; is_escaped = false }
 
+-- the elements of one line of a value, which begins outside quotes; none where the line is outside the grammar
 abbrev pub parse_value_piece : List ℕ → Option ValuePiece
 parse_value_piece line = parse_value_piece_from_place unquoted_unescaped_place line
 
+-- a space or tab outside quotes; neither a quoted one nor a quote is blank
 abbrev pub is_blank_element : Element → Bool
 is_blank_element (Blank _) = true
 is_blank_element (Plain _) = false
 is_blank_element Quote = false
 
+-- the byte that an element adds to the value; a quote adds none
 abbrev pub byte_of_element : Element → Option ℕ
 byte_of_element (Blank b) = Some b
 byte_of_element (Plain b) = Some b
@@ -107,6 +112,7 @@ without_leading_blank_elements (e ∷ es) = if is_blank_element e then without_l
 abbrev pub elements_without_outer_blanks : List Element → List Element
 elements_without_outer_blanks es = reverse (without_leading_blank_elements (reverse (without_leading_blank_elements es)))
 
+-- the bytes of all elements, blanks at both ends included
 abbrev pub bytes_of_elements : List Element → List ℕ
 bytes_of_elements [] = []
 bytes_of_elements (e ∷ es) = option_to_list (byte_of_element e) ++ bytes_of_elements es

@@ -13,17 +13,22 @@ is_section_name name = first_byte_passes is_section_name_byte name && list_all i
 abbrev pub is_key_name : List ℕ → Bool
 is_key_name key = first_byte_passes is_ascii_letter key && list_all is_key_byte key
 
-abbrev pub configuration_with_sections : Configuration → List Section → Configuration
-configuration_with_sections file sections = record { meta = file.meta; sections = sections }
+-- a configuration with these sections in place of its own, as if read from the same place
+abbrev pub configuration_with_replaced_sections : Configuration → List Section → Configuration
+configuration_with_replaced_sections file sections = record { meta = file.meta; sections = sections }
 
+-- the sections of another configuration at the end, where they win; the first one's origin stays
 abbrev pub configuration_with_other_appended : Configuration → Configuration → Configuration
-configuration_with_other_appended file other = configuration_with_sections file (file.sections ++ other.sections)
+configuration_with_other_appended file other = configuration_with_replaced_sections file (file.sections ++ other.sections)
 
+-- one more section at the end, without keys, of the same origin as the configuration
 abbrev pub configuration_with_empty_section : Configuration → List ℕ → List ℕ → Configuration
-configuration_with_empty_section file name subsection = configuration_with_sections file (file.sections ++ empty_section name (Some subsection) file.meta ∷ [])
+configuration_with_empty_section file name subsection = configuration_with_replaced_sections file (file.sections ++ empty_section name (Some subsection) file.meta ∷ [])
 
+-- a key that has a value, be it the empty text
 abbrev pub entry_of_key_and_value : List ℕ → List ℕ → Entry
 entry_of_key_and_value key value = record { key = key; value = Some value }
 
-abbrev pub configuration_with_value : Configuration → List ℕ → List ℕ → Configuration
-configuration_with_value file key value = configuration_with_sections file (sections_with_entry_in_last (entry_of_key_and_value key value) file.sections)
+-- one more key at the end of the last section; dropped where there is no section
+abbrev pub configuration_with_value_in_last_section : Configuration → List ℕ → List ℕ → Configuration
+configuration_with_value_in_last_section file key value = configuration_with_replaced_sections file (sections_with_entry_in_last (entry_of_key_and_value key value) file.sections)

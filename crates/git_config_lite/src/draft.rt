@@ -135,12 +135,12 @@ fn parse_key_line_in_section(
 }
 
 /// Sections, and what may follow a header on its line.
-fn parse_rest_of_header_line(
+fn parse_comment_or_key_line(
     alloc: Global,
     sections: Vec<Section>,
     bytes: &[u8],
 ) -> Result<Option<Draft>, OutOfMemory>
-    ensures { IfOk result (λ draft. draft ≡ grammar.parse_rest_of_header_line sections.items
+    ensures { IfOk result (λ draft. draft ≡ grammar.parse_comment_or_key_line sections.items
         bytes.now) }
 {
     if is_empty_or_comment(bytes) {
@@ -167,7 +167,7 @@ fn draft_with_header_line(
     };
     let section = Section::new(alloc, headed.name, headed.subsection, meta)?;
     sections.push(section)?;
-    parse_rest_of_header_line(alloc, sections, without_leading_blanks(headed.rest))
+    parse_comment_or_key_line(alloc, sections, without_leading_blanks(headed.rest))
 }
 
 /// Sections, and a line that is not more of a value and begins with no blank.
@@ -181,7 +181,7 @@ fn parse_line_outside_value(
         bytes.now) }
 {
     if !begins_with_byte(b'[', bytes) {
-        return parse_rest_of_header_line(alloc, sections, bytes);
+        return parse_comment_or_key_line(alloc, sections, bytes);
     }
     let headed = parse_header_after_bracket(alloc, bytes_after_first_byte(bytes))?;
     draft_with_header_line(alloc, meta, sections, headed)

@@ -39,7 +39,7 @@ pub enum ValueByte {
 
 /// What a byte does behind a backslash.
 fn effect_of_byte_after_backslash(byte: u8) -> ValueByte
-    ensures { result ≡ values.effect_of_unescaped_byte (values.byte_for_escape_letter byte) }
+    ensures { result ≡ values.effect_of_escape (values.byte_for_escape_letter byte) }
 {
     match byte {
         b'"' => ValueByte::Gives(Element::Plain(b'"')),

@@ -246,8 +246,8 @@ impl File {
     pub fn push_value(&mut self, alloc: Global, key: &[u8], value: &[u8]) -> Result<(), OutOfMemory>
         requires section { 0 < length self.old.sections }
         requires key { IsTrue (writers.is_key_name key.now) }
-        ensures pushed { OnOk result (self.new ≡ writers.configuration_with_value self.old key.now
-            value.now) }
+        ensures pushed { OnOk result (self.new ≡ writers.configuration_with_value_in_last_section
+            self.old key.now value.now) }
         ensures refused { OnErr result (self.new ≡ self.old) }
     {
         let entry = Entry {

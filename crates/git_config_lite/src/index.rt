@@ -27,13 +27,13 @@ impl Model for Index {
     ghost use Rattle.std.specs.Prelude.{List};
     ghost use Rattle.std.specs.List.Sorted.{IsSortedBy};
     ghost use Rattle.git_config_lite.specs.declared.section_place.SectionPlace as declared;
-    ghost use Rattle.git_config_lite.specs.SectionPlaces.{is_place_key_before};
+    ghost use Rattle.git_config_lite.specs.SectionPlaces.{is_subsection_text_before};
 
     ghost Value = { List declared.SectionPlace };
 
     ghost view = { λ index. index.places.items };
 
-    ghost invariant = { λ index. IsSortedBy is_place_key_before index.places.items };
+    ghost invariant = { λ index. IsSortedBy is_subsection_text_before index.places.items };
 }
 
 /// The text by which a section of a subsection is found.
@@ -62,27 +62,27 @@ fn places_of_sections(alloc: Global, sections: &[Section]) -> Result<Vec<Section
 }
 
 /// Whether the text of a place is less than this one.
-fn is_place_key_below(place: &SectionPlace, key: &[u8]) -> bool
+fn is_subsection_text_below(place: &SectionPlace, key: &[u8]) -> bool
     ensures { result ≡ is_lt (slice_cmp nat_cmp place.now.key key.now) }
 {
     place.key.as_bytes().cmp(&key).is_lt()
 }
 
 /// Whether the text of a place is not greater than this one.
-fn is_place_key_at_most(place: &SectionPlace, key: &[u8]) -> bool
+fn is_subsection_text_at_most(place: &SectionPlace, key: &[u8]) -> bool
     ensures { result ≡ not (is_lt (slice_cmp nat_cmp key.now place.now.key)) }
 {
     !key.cmp(&place.key.as_bytes()).is_lt()
 }
 
 /// The places of a text, which stand beside one another.
-fn places_with_key<'a>(places: &'a [SectionPlace], key: &[u8]) -> &'a [SectionPlace]
-    requires { IsSortedBy spots.is_place_key_before places.now }
-    ensures { result.now ≡ filter (spots.place_has_key key.now) places.now }
+fn places_with_subsection_text<'a>(places: &'a [SectionPlace], key: &[u8]) -> &'a [SectionPlace]
+    requires { IsSortedBy spots.is_subsection_text_before places.now }
+    ensures { result.now ≡ filter (spots.place_has_subsection_text key.now) places.now }
 {
-    let start = places.partition_point(|place| is_place_key_below(place, key));
+    let start = places.partition_point(|place| is_subsection_text_below(place, key));
     let (_, rest) = places.split_at(start);
-    let length = rest.partition_point(|place| is_place_key_at_most(place, key));
+    let length = rest.partition_point(|place| is_subsection_text_at_most(place, key));
     let (run, _) = rest.split_at(length);
     run
 }
@@ -109,7 +109,7 @@ impl Index {
         ensures { option_map seen.found result ≡ last_value_in_sections name.now
             (option_copied subsection.entry) key.now sections.now }
     {
-        let run = places_with_key(&self.places, subsection_or_empty_text(subsection));
+        let run = places_with_subsection_text(&self.places, subsection_or_empty_text(subsection));
         last_value_at_places(sections, run, name, subsection, key)
     }
 }

@@ -8,11 +8,11 @@ use Rattle.gitbase_core.specs.declared.entry.IndexEntry.{IndexEntry}
 use Rattle.gitbase_core.specs.Steps.{and_then}
 use Rattle.gitbase_core.specs.Entry.{is_sparse_directory_entry}
 use Rattle.gitbase_core.specs.Text.{is_nul}
-use Rattle.git_index.specs.Parts.{big_endian_word_at_index}
+use Rattle.git_index.specs.Parts.{nth_big_endian_u32}
 use Rattle.git_index.specs.Entries.{EntriesAndRest, EntriesAndDetails, EntryAndRest, read_entries_after_others, read_entry, path_of_last_entry, no_entries_and_details, path_of_optional_entry, entries_and_details_with_one_more}
-use Rattle.git_index.specs.Extensions.{ExtensionHead, read_extension_head, is_sparse_after_extensions, is_optional_extension_name, extension_head_of_name_and_size}
+use Rattle.git_index.specs.Extensions.{ExtensionHead, read_extension_head, read_sparse_mark_of_rest, is_optional_extension_name, extension_head_of_name_and_size}
 use Rattle.git_index.specs.Fault.{IsFirstBadEntryAt, path_of_last_written_entry}
-use Rattle.git_index.specs.IndexFile.{index_after_reading_extensions, verify_and_read_body, read_entries_and_extensions, index_of_file_bytes, index_of_entries_and_sparseness, is_checksum_or_nuls, is_supported_version, index_unless_unmarked_directory, index_or_directory_error}
+use Rattle.git_index.specs.IndexFile.{index_after_extensions_and_directory_check, verify_and_read_body, read_entries_and_extensions, parse_index_file_bytes, index_of_entries_and_sparseness, is_checksum_or_nuls, is_supported_version, index_unless_stray_sparse_directory, index_or_directory_error}
 use Rattle.git_index.specs.Written.{AreWritableEntriesAfterPath, IsWritableEntryAfterPath, WrittenEntry, detail_of_written, entries_bytes, index_entry_of_written, entry_bytes}
 use Rattle.git_index.specs.declared.error.IndexFileError.{IndexFileError}
 use Rattle.git_index.specs.declared.error.IndexFileError.TheVariants as errors
@@ -112,32 +112,32 @@ extension_without bytes at h = go (nat_le 8 (length bytes)) h where
   go true h = named_without (take 4 bytes) (big_number 4 (drop 4 bytes)) at h
   go false h = cc
 
-extensions_without : (n : ℕ) (sparse : Bool) (bytes : List ℕ) (at : ℕ) → is_sparse_after_extensions n sparse bytes ≡ Err (errors.Entry at) → ⊥
+extensions_without : (n : ℕ) (sparse : Bool) (bytes : List ℕ) (at : ℕ) → read_sparse_mark_of_rest n sparse bytes ≡ Err (errors.Entry at) → ⊥
 extensions_without zero sparse [] at h = cc
 extensions_without (suc n) sparse [] at h = cc
 extensions_without (suc n) sparse (b ∷ bytes) at h = extensions_without n sparse bytes at h
 extensions_without zero sparse (b ∷ bytes) at h = go (read_extension_head (b ∷ bytes)) refl h (λ n s h. extensions_without n s bytes at h) where
   go : (r : Result ExtensionHead IndexFileError) → read_extension_head (b ∷ bytes) ≡ r
-      → and_then (λ (e : ExtensionHead). is_sparse_after_extensions (e.size + 7) (sparse || e.is_sparse) bytes) r ≡ Err (errors.Entry at)
-      → ((n : ℕ) (s : Bool) → is_sparse_after_extensions n s bytes ≡ Err (errors.Entry at) → ⊥) → ⊥
+      → and_then (λ (e : ExtensionHead). read_sparse_mark_of_rest (e.size + 7) (sparse || e.is_sparse) bytes) r ≡ Err (errors.Entry at)
+      → ((n : ℕ) (s : Bool) → read_sparse_mark_of_rest n s bytes ≡ Err (errors.Entry at) → ⊥) → ⊥
   go (Ok e) is h again = again (e.size + 7) (sparse || e.is_sparse) h
   go (Err e) is h again = extension_without (b ∷ bytes) at (is ∙ ap (λ (x : IndexFileError). Err x) (fault_is h))
 
-marked_without : (listed : EntriesAndDetails) (sparse : Bool) (at : ℕ) → index_unless_unmarked_directory listed sparse ≡ Err (errors.Entry at) → ⊥
+marked_without : (listed : EntriesAndDetails) (sparse : Bool) (at : ℕ) → index_unless_stray_sparse_directory listed sparse ≡ Err (errors.Entry at) → ⊥
 marked_without listed sparse at h = go sparse (position is_sparse_directory_entry listed.entries) h where
   go : (s : Bool) (place : Option ℕ) → index_or_directory_error s (index_of_entries_and_sparseness listed sparse) place ≡ Err (errors.Entry at) → ⊥
   go s None h = cc
   go true (Some a) h = cc
   go false (Some a) h = cc
 
-behind_without : (read : EntriesAndRest) (at : ℕ) → index_after_reading_extensions read ≡ Err (errors.Entry at) → ⊥
-behind_without read at h = go (is_sparse_after_extensions 0 false read.rest) refl h where
-  go : (r : Result Bool IndexFileError) → is_sparse_after_extensions 0 false read.rest ≡ r → and_then (index_unless_unmarked_directory read.listed) r ≡ Err (errors.Entry at) → ⊥
+behind_without : (read : EntriesAndRest) (at : ℕ) → index_after_extensions_and_directory_check read ≡ Err (errors.Entry at) → ⊥
+behind_without read at h = go (read_sparse_mark_of_rest 0 false read.rest) refl h where
+  go : (r : Result Bool IndexFileError) → read_sparse_mark_of_rest 0 false read.rest ≡ r → and_then (index_unless_stray_sparse_directory read.listed) r ≡ Err (errors.Entry at) → ⊥
   go (Ok sparse) is h = marked_without read.listed sparse at h
   go (Err e) is h = extensions_without 0 false read.rest at (is ∙ ap (λ (x : IndexFileError). Err x) (fault_is h))
 
 -- so the entries have it
-of_entries : (r : Result EntriesAndRest IndexFileError) (at : ℕ) → and_then index_after_reading_extensions r ≡ Err (errors.Entry at) → r ≡ Err (errors.Entry at)
+of_entries : (r : Result EntriesAndRest IndexFileError) (at : ℕ) → and_then index_after_extensions_and_directory_check r ≡ Err (errors.Entry at) → r ≡ Err (errors.Entry at)
 of_entries (Ok read) at h = absurd (behind_without read at h)
 of_entries (Err e) at h = ap (λ (x : IndexFileError). Err x) (fault_is h)
 
@@ -153,8 +153,8 @@ record IsBodyFault (body : List ℕ) (at : ℕ) : Type 0 where
 
 fault_in_body : (body sum : List ℕ) (at : ℕ) → 12 ≤ length body → AreBytes body → verify_and_read_body body sum ≡ Err (errors.Entry at) → IsBodyFault body at
 fault_in_body body sum at long ok h =
-    let version = big_endian_word_at_index 1 body in
-    let count = big_endian_word_at_index 2 body in
+    let version = nth_big_endian_u32 1 body in
+    let count = nth_big_endian_u32 2 body in
     let rest = drop 12 body in
     let read_on = read_entries_and_extensions version count rest in
     let sums = if not (is_checksum_or_nuls body sum) then Err errors.Sum else read_on in
@@ -186,8 +186,8 @@ fault_in_body body sum at long ok h =
     other_sum h = cc
 
 -- The fault of an entry comes only where none stands.
-pub fault_is_first : (bytes : List ℕ) (at : ℕ) → AreBytes bytes → index_of_file_bytes bytes ≡ Err (errors.Entry at) → IsFirstBadEntryAt bytes at
-unfolding index_of_file_bytes
+pub fault_is_first : (bytes : List ℕ) (at : ℕ) → AreBytes bytes → parse_index_file_bytes bytes ≡ Err (errors.Entry at) → IsFirstBadEntryAt bytes at
+unfolding parse_index_file_bytes
 fault_is_first bytes at ok h =
     let body = take (length bytes - 20) bytes in
     let sum = drop (length bytes - 20) bytes in

@@ -5,7 +5,7 @@ use Rattle.byteorder.specs.Endian.{big_number, big_bytes}
 use Rattle.gitbase_core.specs.declared.entry.Mode.{Mode}
 use Rattle.gitbase_core.specs.Steps.{◌>>=◌}
 use Rattle.gitbase_core.specs.Text.{is_nul}
-use Rattle.git_index.specs.Parts.{PartAndRest, split_first_bytes, text, big_endian_word_at_index}
+use Rattle.git_index.specs.Parts.{PartAndRest, split_first_bytes, text, nth_big_endian_u32}
 use Rattle.git_index.specs.Varint.{VarintAndRest, varint_leading_bytes, read_varint, varint_bytes_of_number}
 use Rattle.git_index.specs.Head.{FixedEntryFields, parse_fixed_entry_fields, is_assume_valid_set, is_extended_flag_set, known_mode_of_bits, mode_with_bits, stage_from_flags, stat_of_entry_head}
 use Rattle.git_index.specs.More.{ExtendedFlagsAndRest, has_only_known_bits, read_extended_flags_if_present, extended_flags_from_bits, read_extended_flags}
@@ -167,7 +167,7 @@ pub record IsEntryOf (version : ℕ) (previous bytes : List ℕ) (read : EntryAn
 written_by : List ℕ → ExtendedFlagsAndRest → PathAndRest → ℕ → WrittenEntry
 written_by head more named cut = record {
   stat = stat_of_entry_head head;
-  mode = big_endian_word_at_index 6 head;
+  mode = nth_big_endian_u32 6 head;
   id = take 20 (drop 40 head);
   assumed = is_assume_valid_set (big_number 2 (drop 60 head));
   stage = stage_from_flags (big_number 2 (drop 60 head));
@@ -197,12 +197,12 @@ record AreParts (version : ℕ) (previous bytes : List ℕ) (read : EntryAndRest
   p : PartAndRest
   is_front : IsFront 62 bytes p
   m : ExtendedFlagsAndRest
-  mode_is : known_mode_of_bits (big_endian_word_at_index 6 p.part) ≡ Some (mode_with_bits (big_endian_word_at_index 6 p.part))
+  mode_is : known_mode_of_bits (nth_big_endian_u32 6 p.part) ≡ Some (mode_with_bits (nth_big_endian_u32 6 p.part))
   more_is : read_extended_flags_if_present version (is_extended_flag_set (big_number 2 (drop 60 p.part))) p.rest ≡ Some m
   n : PathAndRest
   path_is : read_entry_path version previous (62 + m.size) m.rest ≡ Some n
   fits : path_length_matches_flags (big_number 2 (drop 60 p.part)) n ≡ true
-  is : entry_of_parts_read (record { stat = stat_of_entry_head p.part; mode = mode_with_bits (big_endian_word_at_index 6 p.part); id = take 20 (drop 40 p.part); flags = big_number 2 (drop 60 p.part) }) m n ≡ read
+  is : entry_of_parts_read (record { stat = stat_of_entry_head p.part; mode = mode_with_bits (nth_big_endian_u32 6 p.part); id = take 20 (drop 40 p.part); flags = big_number 2 (drop 60 p.part) }) m n ≡ read
 
 parts_of : (version : ℕ) (previous bytes : List ℕ) (read : EntryAndRest) → read_entry version previous bytes ≡ Some read → AreParts version previous bytes read
 parts_of version previous bytes read h =
@@ -211,9 +211,9 @@ parts_of version previous bytes read h =
     let head = p.part in
     let f = big_number 2 (drop 60 head) in
     let fixed = bound (parse_fixed_entry_fields head) (λ (x : FixedEntryFields). read_entry_after_fixed_fields version previous x p.rest) read front_of.2 in
-    let mode = mapped (known_mode_of_bits (big_endian_word_at_index 6 head)) (λ (mode : Mode). record { stat = stat_of_entry_head head; mode = mode; id = take 20 (drop 40 head); flags = f }) fixed.0 fixed.1 in
-    let mode_same : mode.0 ≡ mode_with_bits (big_endian_word_at_index 6 head) = mode_back (big_endian_word_at_index 6 head) mode.0 mode.1 in
-    let fixed_with : FixedEntryFields = record { stat = stat_of_entry_head head; mode = mode_with_bits (big_endian_word_at_index 6 head); id = take 20 (drop 40 head); flags = f } in
+    let mode = mapped (known_mode_of_bits (nth_big_endian_u32 6 head)) (λ (mode : Mode). record { stat = stat_of_entry_head head; mode = mode; id = take 20 (drop 40 head); flags = f }) fixed.0 fixed.1 in
+    let mode_same : mode.0 ≡ mode_with_bits (nth_big_endian_u32 6 head) = mode_back (nth_big_endian_u32 6 head) mode.0 mode.1 in
+    let fixed_with : FixedEntryFields = record { stat = stat_of_entry_head head; mode = mode_with_bits (nth_big_endian_u32 6 head); id = take 20 (drop 40 head); flags = f } in
     let fixed_same : fixed_with ≡ fixed.0 = ap (λ (x : Mode). record { stat = stat_of_entry_head head; mode = x; id = take 20 (drop 40 head); flags = f }) (sym mode_same) ∙ mode.2 in
     let by : read_entry_after_fixed_fields version previous fixed_with p.rest ≡ Some read = ap (λ (x : FixedEntryFields). read_entry_after_fixed_fields version previous x p.rest) fixed_same ∙ fixed.2 in
     let more = bound (read_extended_flags_if_present version (is_extended_flag_set f) p.rest) (λ (m : ExtendedFlagsAndRest). read_path_of_flagged_length version previous f m >>= (λ (n : PathAndRest). Some (entry_of_parts_read fixed_with m n))) read by in

@@ -4,7 +4,7 @@ use Rattle.std.specs.Str.{bytes_eq}
 use Rattle.std.specs.Cmp.Lexicographic.{bytes_decides}
 use Rattle.std.specs.List.{list_any}
 use Rattle.byteorder.specs.Endian.{big_number, big_bytes}
-use Rattle.git_index.specs.Extensions.{ExtensionHead, read_extension_head, is_sparse_after_extensions, is_optional_extension_name, extension_head_of_name_and_size}
+use Rattle.git_index.specs.Extensions.{ExtensionHead, read_extension_head, read_sparse_mark_of_rest, is_optional_extension_name, extension_head_of_name_and_size}
 use Rattle.git_index.specs.Written.{AreWritableExtensions, WrittenExtension, extensions_bytes, is_sparse_mark_extension}
 use Rattle.git_index.specs.declared.error.IndexFileError.{IndexFileError}
 use Rattle.git_index.specs.declared.error.IndexFileError.TheVariants as errors
@@ -51,7 +51,7 @@ together : (a b c : Bool) → ((a || b) || c) ≡ (a || (b || c))
 together true b c = refl
 together false b c = refl
 
-pub from_extensions : (n : ℕ) (sparse : Bool) (bytes : List ℕ) (out : Bool) → AreBytes bytes → is_sparse_after_extensions n sparse bytes ≡ Ok out → AreExtensionsOf n sparse bytes out
+pub from_extensions : (n : ℕ) (sparse : Bool) (bytes : List ℕ) (out : Bool) → AreBytes bytes → read_sparse_mark_of_rest n sparse bytes ≡ Ok out → AreExtensionsOf n sparse bytes out
 from_extensions zero sparse [] out ok h = record { es = []; fits = omega arith; whole = refl; held = tt; says = sym (ok_is h) ∙ or_false sparse }
 from_extensions (suc n) sparse [] out ok h = absurd (cc)
 from_extensions (suc n) sparse (b ∷ bytes) out ok h =
@@ -59,7 +59,7 @@ from_extensions (suc n) sparse (b ∷ bytes) out ok h =
     record { es = rest.es; fits = omega (arith, rest.fits); whole = rest.whole; held = rest.held; says = rest.says }
 from_extensions zero sparse (b ∷ bytes) out ok h =
     let left = b ∷ bytes in
-    let step = went (read_extension_head left) (λ (e : ExtensionHead). is_sparse_after_extensions (e.size + 7) (sparse || e.is_sparse) bytes) out h in
+    let step = went (read_extension_head left) (λ (e : ExtensionHead). read_sparse_mark_of_rest (e.size + 7) (sparse || e.is_sparse) bytes) out h in
     let e = step.0 in
     let read = where_so (nat_le 8 (length left)) errors.Extensions (extension_head_of_name_and_size (take 4 left) (big_number 4 (drop 4 left))) e step.1 in
     let long : 8 ≤ length left = leb-true 8 (length left) read.0 in

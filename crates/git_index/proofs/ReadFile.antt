@@ -9,11 +9,11 @@ use Rattle.sha1.specs.Sha1.{sha1}
 use Rattle.gitbase_core.specs.declared.entry.IndexEntry.{IndexEntry}
 use Rattle.gitbase_core.specs.Entry.{is_sparse_directory_entry}
 use Rattle.gitbase_core.specs.Text.{is_nul}
-use Rattle.git_index.specs.Parts.{big_endian_word_at_index}
+use Rattle.git_index.specs.Parts.{nth_big_endian_u32}
 use Rattle.git_index.specs.Entries.{EntriesAndRest, EntriesAndDetails, EntryAndRest, read_entries_after_others, read_entry, path_of_last_entry, no_entries_and_details, path_of_optional_entry, entries_and_details_with_one_more}
-use Rattle.git_index.specs.Extensions.{is_sparse_after_extensions}
+use Rattle.git_index.specs.Extensions.{read_sparse_mark_of_rest}
 use Rattle.git_index.specs.Gives.{IndexResultAgrees}
-use Rattle.git_index.specs.IndexFile.{IndexFileContents, index_after_reading_extensions, verify_and_read_body, read_entries_and_extensions, index_of_file_bytes, index_of_entries_and_sparseness, is_checksum_or_nuls, is_supported_version, index_unless_unmarked_directory, index_or_directory_error}
+use Rattle.git_index.specs.IndexFile.{IndexFileContents, index_after_extensions_and_directory_check, verify_and_read_body, read_entries_and_extensions, parse_index_file_bytes, index_of_entries_and_sparseness, is_checksum_or_nuls, is_supported_version, index_unless_stray_sparse_directory, index_or_directory_error}
 use Rattle.git_index.specs.Written.{AreWritableExtensions, AreWritableEntriesAfterPath, WrittenExtension, IsIndexFileOfContents, WrittenEntry, index_body_bytes, detail_of_written, entries_bytes, index_entry_of_written, entry_bytes, extensions_bytes, index_of_written, is_sparse_mark_extension, is_written_sparse_directory}
 use Rattle.git_index.specs.declared.stat.Detail.{Detail}
 use Rattle.git_index.specs.declared.error.IndexFileError.{IndexFileError}
@@ -93,7 +93,7 @@ record IsMarked (listed : EntriesAndDetails) (sparse : Bool) (index : IndexFileC
   none : sparse ≡ false → list_any is_sparse_directory_entry listed.entries ≡ false
   says : index_of_entries_and_sparseness listed sparse ≡ index
 
-from_mark : (listed : EntriesAndDetails) (sparse : Bool) (index : IndexFileContents) → index_unless_unmarked_directory listed sparse ≡ Ok index → IsMarked listed sparse index
+from_mark : (listed : EntriesAndDetails) (sparse : Bool) (index : IndexFileContents) → index_unless_stray_sparse_directory listed sparse ≡ Ok index → IsMarked listed sparse index
 from_mark listed sparse index h = go (position is_sparse_directory_entry listed.entries) refl h where
   clash : (b : Bool) → b ≡ true → b ≡ false → ⊥
   clash true e f = cc
@@ -124,17 +124,17 @@ pub record IsBodyOf (body sum : List ℕ) (index : IndexFileContents) : Type 0 w
 
 from_body : (body sum : List ℕ) (index : IndexFileContents) → 12 ≤ length body → AreBytes body → verify_and_read_body body sum ≡ Ok index → IsBodyOf body sum index
 from_body body sum index long ok h =
-    let version = big_endian_word_at_index 1 body in
-    let count = big_endian_word_at_index 2 body in
+    let version = nth_big_endian_u32 1 body in
+    let count = nth_big_endian_u32 2 body in
     let rest = drop 12 body in
     let read_on = read_entries_and_extensions version count rest in
     let sums = if not (is_checksum_or_nuls body sum) then Err errors.Sum else read_on in
     let signed = unless (not (bytes_eq (take 4 body) (codes "DIRC"))) errors.Signature (if not (is_supported_version version) then Err (errors.Version version) else sums) index h in
     let versioned = unless (not (is_supported_version version)) (errors.Version version) sums index signed.1 in
     let summed = unless (not (is_checksum_or_nuls body sum)) errors.Sum read_on index versioned.1 in
-    let read = went (read_entries_after_others version no_entries_and_details count rest) index_after_reading_extensions index summed.1 in
+    let read = went (read_entries_after_others version no_entries_and_details count rest) index_after_extensions_and_directory_check index summed.1 in
     let entries = from_entries version no_entries_and_details [] count rest read.0 (bytes_behind 12 body ok) refl refl read.1 in
-    let marks = went (is_sparse_after_extensions 0 false read.0.rest) (index_unless_unmarked_directory read.0.listed) index read.2 in
+    let marks = went (read_sparse_mark_of_rest 0 false read.0.rest) (index_unless_stray_sparse_directory read.0.listed) index read.2 in
     let mark = from_mark read.0.listed marks.0 index marks.2 in
     let rest_ok = bytes_tail (entries_bytes version [] entries.ws) read.0.rest (subst AreBytes entries.whole (bytes_behind 12 body ok)) in
     let extensions = from_extensions 0 false read.0.rest marks.0 rest_ok marks.1 in
@@ -161,8 +161,8 @@ from_body body sum index long ok h =
     }
 
 -- Whatever is read in some bytes is written in them.
-pub read_is_written : (bytes : List ℕ) (index : IndexFileContents) → AreBytes bytes → index_of_file_bytes bytes ≡ Ok index → IsIndexFileOfContents bytes index
-unfolding index_of_file_bytes
+pub read_is_written : (bytes : List ℕ) (index : IndexFileContents) → AreBytes bytes → parse_index_file_bytes bytes ≡ Ok index → IsIndexFileOfContents bytes index
+unfolding parse_index_file_bytes
 read_is_written bytes index ok h =
     let body = take (length bytes - 20) bytes in
     let sum = drop (length bytes - 20) bytes in
@@ -190,12 +190,12 @@ read_is_written bytes index ok h =
     }
 
 -- an answer is what is written in the bytes
-pub answers_written : (result : Result IndexFileContents IndexFileError) (bytes : List ℕ) → AreBytes bytes → IndexResultAgrees result (index_of_file_bytes bytes) → IfOk result (IsIndexFileOfContents bytes)
+pub answers_written : (result : Result IndexFileContents IndexFileError) (bytes : List ℕ) → AreBytes bytes → IndexResultAgrees result (parse_index_file_bytes bytes) → IfOk result (IsIndexFileOfContents bytes)
 answers_written (Ok index) bytes ok h = read_is_written bytes index ok h
 answers_written (Err e) bytes ok h = tt
 
 -- as many details as entries
-pub beside : (result : Result IndexFileContents IndexFileError) (bytes : List ℕ) → AreBytes bytes → IndexResultAgrees result (index_of_file_bytes bytes) → IfOk result (λ index. length index.details ≡ length index.entries)
+pub beside : (result : Result IndexFileContents IndexFileError) (bytes : List ℕ) → AreBytes bytes → IndexResultAgrees result (parse_index_file_bytes bytes) → IfOk result (λ index. length index.details ≡ length index.entries)
 beside (Ok index) bytes ok h =
     let read = read_is_written bytes index ok h in
     ap (λ (i : IndexFileContents). length i.details) read.says ∙ length-map read.ws detail_of_written ∙ sym (length-map read.ws index_entry_of_written) ∙ sym (ap (λ (i : IndexFileContents). length i.entries) read.says)

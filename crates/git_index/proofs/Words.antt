@@ -2,7 +2,7 @@
 use Rattle.std.proofs.Common.{◌≡◌, refl, sym, ap, ◌∙◌, arith, ℕ, zero, suc, ◌+◌, ◌*◌, ◌≤◌, ◌<◌, List, [], ◌∷◌, ◌++◌, length, take, drop, get_or, append_assoc, length-append, take-append-drop, drop-drop}
 use Rattle.byteorder.specs.Endian.{big_number, big_bytes}
 use Rattle.byteorder.specs.Numbers.{big_number-reads_back, length-bytes_high_first}
-use Rattle.git_index.specs.Parts.{big_endian_word_at_index}
+use Rattle.git_index.specs.Parts.{nth_big_endian_u32}
 use Rattle.git_index.specs.Written.{AreFourByteNumbers, big_endian_bytes_of_words}
 use Rattle.git_index.proofs.Numbers.{AreBytes, bytes_behind, number_at, number_small}
 use Rattle.git_index.proofs.Seams.{drop_exact}
@@ -13,7 +13,7 @@ words_length [] = refl
 words_length (n ∷ ns) = omega (arith, length-append (big_bytes 4 n) (big_endian_bytes_of_words ns), length-bytes_high_first 4 n, words_length ns)
 
 -- each number is read at its place
-pub word_exact : (k : ℕ) (ns rest : List ℕ) → AreFourByteNumbers ns → k < length ns → big_endian_word_at_index k (big_endian_bytes_of_words ns ++ rest) ≡ get_or ns k 0
+pub word_exact : (k : ℕ) (ns rest : List ℕ) → AreFourByteNumbers ns → k < length ns → nth_big_endian_u32 k (big_endian_bytes_of_words ns ++ rest) ≡ get_or ns k 0
 unfolding big_endian_bytes_of_words
 word_exact k [] rest ok h = absurd (omega (arith, h))
 word_exact zero (n ∷ ns) rest ok h = ap (big_number 4) (append_assoc (big_bytes 4 n) (big_endian_bytes_of_words ns) rest) ∙ big_number-reads_back 4 n (big_endian_bytes_of_words ns ++ rest) ok.0
@@ -30,7 +30,7 @@ word_exact (suc k) (n ∷ ns) rest ok h =
 -- so many numbers from a place on
 unfoldable pub words_at : ℕ → ℕ → List ℕ → List ℕ
 words_at zero k bytes = []
-words_at (suc n) k bytes = big_endian_word_at_index k bytes ∷ words_at n (k + 1) bytes
+words_at (suc n) k bytes = nth_big_endian_u32 k bytes ∷ words_at n (k + 1) bytes
 
 pub words_small : (n k : ℕ) (bytes : List ℕ) → AreBytes bytes → AreFourByteNumbers (words_at n k bytes)
 unfolding words_at
@@ -47,8 +47,8 @@ words_back (suc n) k bytes h ok =
     let next : 4 * k + 4 ≡ 4 * (k + 1) = omega arith in
     let last : 4 * (k + 1 + n) ≡ 4 * (k + suc n) = omega arith in
     let rest = big_endian_bytes_of_words (words_at n (k + 1) bytes) in
-    let first : big_bytes 4 (big_endian_word_at_index k bytes) ≡ take 4 here = number_at (4 * k) bytes (omega (arith, h)) ok in
+    let first : big_bytes 4 (nth_big_endian_u32 k bytes) ≡ take 4 here = number_at (4 * k) bytes (omega (arith, h)) ok in
     let behind : drop 4 here ≡ rest ++ drop (4 * (k + suc n)) bytes =
     drop-drop 4 (4 * k) bytes ∙ ap (λ j. drop j bytes) next ∙ words_back n (k + 1) bytes (omega (arith, h)) ok ∙ ap (λ j. rest ++ drop j bytes) last in
-    sym (take-append-drop 4 here) ∙ ap (λ x. x ++ drop 4 here) (sym first) ∙ ap (λ x. big_bytes 4 (big_endian_word_at_index k bytes) ++ x) behind
-    ∙ sym (append_assoc (big_bytes 4 (big_endian_word_at_index k bytes)) rest (drop (4 * (k + suc n)) bytes))
+    sym (take-append-drop 4 here) ∙ ap (λ x. x ++ drop 4 here) (sym first) ∙ ap (λ x. big_bytes 4 (nth_big_endian_u32 k bytes) ++ x) behind
+    ∙ sym (append_assoc (big_bytes 4 (nth_big_endian_u32 k bytes)) rest (drop (4 * (k + suc n)) bytes))

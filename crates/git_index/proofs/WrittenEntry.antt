@@ -7,7 +7,7 @@ use Rattle.byteorder.specs.Numbers.{big_number-reads_back, length-bytes_high_fir
 use Rattle.gitbase_core.specs.declared.entry.Mode.{Mode}
 use Rattle.gitbase_core.specs.Steps.{◌>>=◌}
 use Rattle.gitbase_core.specs.Text.{is_nul}
-use Rattle.git_index.specs.Parts.{PartAndRest, text, big_endian_word_at_index}
+use Rattle.git_index.specs.Parts.{PartAndRest, text, nth_big_endian_u32}
 use Rattle.git_index.specs.Varint.{VarintAndRest, varint_bytes_of_number}
 use Rattle.git_index.specs.Head.{FixedEntryFields, parse_fixed_entry_fields, flags_of_assumed_and_skipped, known_mode_of_bits, mode_with_bits, stage_from_flags, stat_of_entry_head}
 use Rattle.git_index.specs.More.{ExtendedFlagsAndRest, read_extended_flags_if_present, extended_flags_from_bits, read_extended_flags}
@@ -47,14 +47,14 @@ stat_exact w rest ok =
     let ns = head_words_of_written w in
     let head = big_endian_bytes_of_words ns ++ rest in
     let s = w.stat in
-    ap (λ n. stat_with n (big_endian_word_at_index 1 head) (big_endian_word_at_index 2 head) (big_endian_word_at_index 3 head) (big_endian_word_at_index 4 head) (big_endian_word_at_index 5 head) (big_endian_word_at_index 7 head) (big_endian_word_at_index 8 head) (big_endian_word_at_index 9 head)) (word_exact 0 ns rest ok (omega arith))
-    ∙ ap (λ n. stat_with s.ctime.seconds n (big_endian_word_at_index 2 head) (big_endian_word_at_index 3 head) (big_endian_word_at_index 4 head) (big_endian_word_at_index 5 head) (big_endian_word_at_index 7 head) (big_endian_word_at_index 8 head) (big_endian_word_at_index 9 head)) (word_exact 1 ns rest ok (omega arith))
-    ∙ ap (λ n. stat_with s.ctime.seconds s.ctime.nanoseconds n (big_endian_word_at_index 3 head) (big_endian_word_at_index 4 head) (big_endian_word_at_index 5 head) (big_endian_word_at_index 7 head) (big_endian_word_at_index 8 head) (big_endian_word_at_index 9 head)) (word_exact 2 ns rest ok (omega arith))
-    ∙ ap (λ n. stat_with s.ctime.seconds s.ctime.nanoseconds s.mtime.seconds n (big_endian_word_at_index 4 head) (big_endian_word_at_index 5 head) (big_endian_word_at_index 7 head) (big_endian_word_at_index 8 head) (big_endian_word_at_index 9 head)) (word_exact 3 ns rest ok (omega arith))
-    ∙ ap (λ n. stat_with s.ctime.seconds s.ctime.nanoseconds s.mtime.seconds s.mtime.nanoseconds n (big_endian_word_at_index 5 head) (big_endian_word_at_index 7 head) (big_endian_word_at_index 8 head) (big_endian_word_at_index 9 head)) (word_exact 4 ns rest ok (omega arith))
-    ∙ ap (λ n. stat_with s.ctime.seconds s.ctime.nanoseconds s.mtime.seconds s.mtime.nanoseconds s.dev n (big_endian_word_at_index 7 head) (big_endian_word_at_index 8 head) (big_endian_word_at_index 9 head)) (word_exact 5 ns rest ok (omega arith))
-    ∙ ap (λ n. stat_with s.ctime.seconds s.ctime.nanoseconds s.mtime.seconds s.mtime.nanoseconds s.dev s.ino n (big_endian_word_at_index 8 head) (big_endian_word_at_index 9 head)) (word_exact 7 ns rest ok (omega arith))
-    ∙ ap (λ n. stat_with s.ctime.seconds s.ctime.nanoseconds s.mtime.seconds s.mtime.nanoseconds s.dev s.ino s.uid n (big_endian_word_at_index 9 head)) (word_exact 8 ns rest ok (omega arith))
+    ap (λ n. stat_with n (nth_big_endian_u32 1 head) (nth_big_endian_u32 2 head) (nth_big_endian_u32 3 head) (nth_big_endian_u32 4 head) (nth_big_endian_u32 5 head) (nth_big_endian_u32 7 head) (nth_big_endian_u32 8 head) (nth_big_endian_u32 9 head)) (word_exact 0 ns rest ok (omega arith))
+    ∙ ap (λ n. stat_with s.ctime.seconds n (nth_big_endian_u32 2 head) (nth_big_endian_u32 3 head) (nth_big_endian_u32 4 head) (nth_big_endian_u32 5 head) (nth_big_endian_u32 7 head) (nth_big_endian_u32 8 head) (nth_big_endian_u32 9 head)) (word_exact 1 ns rest ok (omega arith))
+    ∙ ap (λ n. stat_with s.ctime.seconds s.ctime.nanoseconds n (nth_big_endian_u32 3 head) (nth_big_endian_u32 4 head) (nth_big_endian_u32 5 head) (nth_big_endian_u32 7 head) (nth_big_endian_u32 8 head) (nth_big_endian_u32 9 head)) (word_exact 2 ns rest ok (omega arith))
+    ∙ ap (λ n. stat_with s.ctime.seconds s.ctime.nanoseconds s.mtime.seconds n (nth_big_endian_u32 4 head) (nth_big_endian_u32 5 head) (nth_big_endian_u32 7 head) (nth_big_endian_u32 8 head) (nth_big_endian_u32 9 head)) (word_exact 3 ns rest ok (omega arith))
+    ∙ ap (λ n. stat_with s.ctime.seconds s.ctime.nanoseconds s.mtime.seconds s.mtime.nanoseconds n (nth_big_endian_u32 5 head) (nth_big_endian_u32 7 head) (nth_big_endian_u32 8 head) (nth_big_endian_u32 9 head)) (word_exact 4 ns rest ok (omega arith))
+    ∙ ap (λ n. stat_with s.ctime.seconds s.ctime.nanoseconds s.mtime.seconds s.mtime.nanoseconds s.dev n (nth_big_endian_u32 7 head) (nth_big_endian_u32 8 head) (nth_big_endian_u32 9 head)) (word_exact 5 ns rest ok (omega arith))
+    ∙ ap (λ n. stat_with s.ctime.seconds s.ctime.nanoseconds s.mtime.seconds s.mtime.nanoseconds s.dev s.ino n (nth_big_endian_u32 8 head) (nth_big_endian_u32 9 head)) (word_exact 7 ns rest ok (omega arith))
+    ∙ ap (λ n. stat_with s.ctime.seconds s.ctime.nanoseconds s.mtime.seconds s.mtime.nanoseconds s.dev s.ino s.uid n (nth_big_endian_u32 9 head)) (word_exact 8 ns rest ok (omega arith))
     ∙ ap (λ n. stat_with s.ctime.seconds s.ctime.nanoseconds s.mtime.seconds s.mtime.nanoseconds s.dev s.ino s.uid s.gid n) (word_exact 9 ns rest ok (omega arith))
 
 pub fixed_exact : (version : ℕ) (previous : List ℕ) (w : WrittenEntry) → IsWritableEntryAfterPath version previous w
@@ -62,7 +62,7 @@ pub fixed_exact : (version : ℕ) (previous : List ℕ) (w : WrittenEntry) → I
 fixed_exact version previous w ok =
     let f = big_bytes 2 (first_flags_number w) in
     let head = entry_head_bytes w in
-    let mode_at : big_endian_word_at_index 6 head ≡ w.mode = word_exact 6 (head_words_of_written w) (w.id ++ f) ok.words (omega arith) in
+    let mode_at : nth_big_endian_u32 6 head ≡ w.mode = word_exact 6 (head_words_of_written w) (w.id ++ f) ok.words (omega arith) in
     let behind : drop 40 head ≡ w.id ++ f = drop_exact 40 (big_endian_bytes_of_words (head_words_of_written w)) (w.id ++ f) (words_length (head_words_of_written w)) in
     let id_at : take 20 (drop 40 head) ≡ w.id = ap (take 20) behind ∙ take_exact 20 w.id f ok.id in
     let last : drop 60 head ≡ f = sym (drop-drop 20 40 head) ∙ ap (drop 20) behind ∙ drop_exact 20 w.id f ok.id in

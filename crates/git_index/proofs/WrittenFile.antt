@@ -13,10 +13,10 @@ use Rattle.gitbase_core.specs.declared.entry.IndexEntry.{IndexEntry}
 use Rattle.gitbase_core.specs.Steps.{and_then}
 use Rattle.gitbase_core.specs.Entry.{is_sparse_directory_entry}
 use Rattle.gitbase_core.specs.Text.{is_nul}
-use Rattle.git_index.specs.Parts.{big_endian_word_at_index}
+use Rattle.git_index.specs.Parts.{nth_big_endian_u32}
 use Rattle.git_index.specs.Entries.{EntriesAndDetails, EntryAndRest, read_entries_after_others, read_entry, path_of_last_entry, no_entries_and_details, path_of_optional_entry, entries_and_details_with_one_more}
-use Rattle.git_index.specs.Extensions.{read_extension_head, is_sparse_after_extensions, is_optional_extension_name, extension_head_of_name_and_size}
-use Rattle.git_index.specs.IndexFile.{IndexFileContents, index_after_reading_extensions, verify_and_read_body, read_entries_and_extensions, index_of_file_bytes, is_checksum_or_nuls, is_supported_version, index_unless_unmarked_directory, index_or_directory_error}
+use Rattle.git_index.specs.Extensions.{read_extension_head, read_sparse_mark_of_rest, is_optional_extension_name, extension_head_of_name_and_size}
+use Rattle.git_index.specs.IndexFile.{IndexFileContents, index_after_extensions_and_directory_check, verify_and_read_body, read_entries_and_extensions, parse_index_file_bytes, is_checksum_or_nuls, is_supported_version, index_unless_stray_sparse_directory, index_or_directory_error}
 use Rattle.git_index.specs.Written.{WrittenEntry, AreWritableEntriesAfterPath, WrittenExtension, IsWritableExtension, AreWritableExtensions, IsIndexFileOfWritten, index_body_bytes, entries_bytes, index_entry_of_written, entry_bytes, extensions_bytes, extension_bytes, detail_of_written, index_of_written, is_sparse_mark_extension, is_written_sparse_directory}
 use Rattle.git_index.specs.Gives.{IndexResultAgrees}
 use Rattle.git_index.specs.declared.stat.Detail.{Detail}
@@ -108,7 +108,7 @@ held_at e rest ok =
     ∙ ap (extension_head_of_name_and_size e.name) number
     ∙ named_exact e.name (length e.content) ok.known
 
-pub extensions_exact : (sparse : Bool) (es : List WrittenExtension) → AreWritableExtensions es → is_sparse_after_extensions 0 sparse (extensions_bytes es) ≡ Ok (sparse || list_any is_sparse_mark_extension es)
+pub extensions_exact : (sparse : Bool) (es : List WrittenExtension) → AreWritableExtensions es → read_sparse_mark_of_rest 0 sparse (extensions_bytes es) ≡ Ok (sparse || list_any is_sparse_mark_extension es)
 extensions_exact sparse [] ok = ap (λ b. Ok b) (go sparse) where
   go : (b : Bool) → b ≡ (b || false)
   go true = refl
@@ -125,7 +125,7 @@ extensions_exact sparse (e ∷ es) ok =
     let behind : drop (length e.content) (drop 8 left) ≡ rest =
     ap (drop (length e.content)) (ap (drop 8) bytes ∙ drop_exact 8 (e.name ++ size) (e.content ++ rest) eight) ∙ drop_exact (length e.content) e.content rest refl in
     past_one sparse left (record { size = length e.content; is_sparse = is_sparse_mark_extension e }) long (held_at e rest ok.0)
-    ∙ ap (is_sparse_after_extensions 0 (sparse || is_sparse_mark_extension e)) behind
+    ∙ ap (read_sparse_mark_of_rest 0 (sparse || is_sparse_mark_extension e)) behind
     ∙ extensions_exact (sparse || is_sparse_mark_extension e) es ok.1
     ∙ ap (λ b. Ok b) (together sparse (is_sparse_mark_extension e) (list_any is_sparse_mark_extension es))
   where
@@ -157,7 +157,7 @@ directory_of ws none = no_place (map index_entry_of_written ws) (mapped ws ∙ n
     mapped (w ∷ ws) = ap (λ b. is_written_sparse_directory w || b) (mapped ws)
 
 marked_exact : (listed : EntriesAndDetails) (sparse : Bool) → (sparse ≡ false → position is_sparse_directory_entry listed.entries ≡ None)
-    → index_unless_unmarked_directory listed sparse ≡ Ok (record { entries = listed.entries; details = listed.details; is_sparse = sparse })
+    → index_unless_stray_sparse_directory listed sparse ≡ Ok (record { entries = listed.entries; details = listed.details; is_sparse = sparse })
 marked_exact listed true none = go (position is_sparse_directory_entry listed.entries) where
   go : (at : Option ℕ) → index_or_directory_error true (record { entries = listed.entries; details = listed.details; is_sparse = true }) at
       ≡ Ok (record { entries = listed.entries; details = listed.details; is_sparse = true })
@@ -176,27 +176,27 @@ body_exact version ws es sum is few entries extensions marked summed =
     let small : version < 256 ^ 4 = version_small version is in
     let name : take 4 body ≡ codes "DIRC" = take_exact 4 (codes "DIRC") (v ++ (n ++ rest)) refl in
     let behind : drop 4 body ≡ v ++ (n ++ rest) = drop_exact 4 (codes "DIRC") (v ++ (n ++ rest)) refl in
-    let version_at : big_endian_word_at_index 1 body ≡ version = ap (big_number 4) behind ∙ big_number-reads_back 4 version (n ++ rest) small in
+    let version_at : nth_big_endian_u32 1 body ≡ version = ap (big_number 4) behind ∙ big_number-reads_back 4 version (n ++ rest) small in
     let eight : drop 8 body ≡ n ++ rest = sym (drop-drop 4 4 body) ∙ ap (drop 4) behind ∙ drop_exact 4 v (n ++ rest) (length-bytes_high_first 4 version) in
-    let count_at : big_endian_word_at_index 2 body ≡ length ws = ap (big_number 4) eight ∙ big_number-reads_back 4 (length ws) rest few in
+    let count_at : nth_big_endian_u32 2 body ≡ length ws = ap (big_number 4) eight ∙ big_number-reads_back 4 (length ws) rest few in
     let twelve : drop 12 body ≡ rest = sym (drop-drop 4 8 body) ∙ ap (drop 4) eight ∙ drop_exact 4 n rest (length-bytes_high_first 4 (length ws)) in
     let listed = listed_with no_entries_and_details ws in
     ap (λ (x : List ℕ). if not (bytes_eq x (codes "DIRC")) then Err errors.Signature
-    else (if not (is_supported_version (big_endian_word_at_index 1 body)) then Err (errors.Version (big_endian_word_at_index 1 body))
-    else (if not (is_checksum_or_nuls body sum) then Err errors.Sum else read_entries_and_extensions (big_endian_word_at_index 1 body) (big_endian_word_at_index 2 body) (drop 12 body)))) name
-    ∙ ap (λ (x : ℕ). if not (is_supported_version x) then Err (errors.Version x) else (if not (is_checksum_or_nuls body sum) then Err errors.Sum else read_entries_and_extensions x (big_endian_word_at_index 2 body) (drop 12 body))) version_at
-    ∙ ap (λ b. if not b then Err (errors.Version version) else (if not (is_checksum_or_nuls body sum) then Err errors.Sum else read_entries_and_extensions version (big_endian_word_at_index 2 body) (drop 12 body))) is
-    ∙ ap (λ b. if not b then Err errors.Sum else read_entries_and_extensions version (big_endian_word_at_index 2 body) (drop 12 body)) summed
+    else (if not (is_supported_version (nth_big_endian_u32 1 body)) then Err (errors.Version (nth_big_endian_u32 1 body))
+    else (if not (is_checksum_or_nuls body sum) then Err errors.Sum else read_entries_and_extensions (nth_big_endian_u32 1 body) (nth_big_endian_u32 2 body) (drop 12 body)))) name
+    ∙ ap (λ (x : ℕ). if not (is_supported_version x) then Err (errors.Version x) else (if not (is_checksum_or_nuls body sum) then Err errors.Sum else read_entries_and_extensions x (nth_big_endian_u32 2 body) (drop 12 body))) version_at
+    ∙ ap (λ b. if not b then Err (errors.Version version) else (if not (is_checksum_or_nuls body sum) then Err errors.Sum else read_entries_and_extensions version (nth_big_endian_u32 2 body) (drop 12 body))) is
+    ∙ ap (λ b. if not b then Err errors.Sum else read_entries_and_extensions version (nth_big_endian_u32 2 body) (drop 12 body)) summed
     ∙ ap (λ c. read_entries_and_extensions version c (drop 12 body)) count_at
     ∙ ap (read_entries_and_extensions version (length ws)) twelve
-    ∙ ap (and_then index_after_reading_extensions) (entries_exact version no_entries_and_details [] ws (extensions_bytes es) refl entries)
-    ∙ ap (and_then (index_unless_unmarked_directory listed)) (extensions_exact false es extensions)
+    ∙ ap (and_then index_after_extensions_and_directory_check) (entries_exact version no_entries_and_details [] ws (extensions_bytes es) refl entries)
+    ∙ ap (and_then (index_unless_stray_sparse_directory listed)) (extensions_exact false es extensions)
     ∙ marked_exact listed (list_any is_sparse_mark_extension es) (λ none. directory_of ws (marked none))
 
 -- Whatever is written in some bytes is what is read in them: so what they say is one.
 pub reads_written : (bytes : List ℕ) (version : ℕ) (ws : List WrittenEntry) (es : List WrittenExtension) → IsIndexFileOfWritten bytes version ws es
-    → index_of_file_bytes bytes ≡ Ok (index_of_written ws es)
-unfolding index_of_file_bytes
+    → parse_index_file_bytes bytes ≡ Ok (index_of_written ws es)
+unfolding parse_index_file_bytes
 reads_written bytes version ws es text =
     let body = index_body_bytes version ws es in
     let head : 12 ≤ length body =
@@ -214,7 +214,7 @@ reads_written bytes version ws es text =
     let cut : length whole - 20 ≡ length body = omega (arith, all) in
     let front : take (length whole - 20) whole ≡ body = take_exact (length whole - 20) body text.sum (sym cut) in
     let back : drop (length whole - 20) whole ≡ text.sum = drop_exact (length whole - 20) body text.sum (sym cut) in
-    ap index_of_file_bytes text.whole
+    ap parse_index_file_bytes text.whole
     ∙ ap (λ b. if b then Err errors.Short else verify_and_read_body (take (length whole - 20) whole) (drop (length whole - 20) whole)) (le-ltb _ _ long)
     ∙ ap (λ x. verify_and_read_body x (drop (length whole - 20) whole)) front
     ∙ ap (verify_and_read_body body) back

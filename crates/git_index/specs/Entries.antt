@@ -18,6 +18,7 @@ pub record EntryAndRest : Type 0 where
   pub detail : Detail
   pub rest : List ℕ
 
+-- the parts put together: what an index keeps goes to the entry, what only the file says to the detail
 abbrev pub entry_of_parts_read : FixedEntryFields → ExtendedFlagsAndRest → PathAndRest → EntryAndRest
 entry_of_parts_read fixed more named = record {
   entry = record { path = named.path; stage = stage_from_flags fixed.flags; mode = fixed.mode; flags = flags_of_assumed_and_skipped (is_assume_valid_set fixed.flags) more.is_skipped; id = fixed.id };
@@ -25,11 +26,13 @@ entry_of_parts_read fixed more named = record {
   rest = named.rest;
 }
 
+-- the path in front; none where it is outside the grammar, or its length is not the one that the flags tell
 abbrev pub read_path_of_flagged_length : ℕ → List ℕ → ℕ → ExtendedFlagsAndRest → Option PathAndRest
 read_path_of_flagged_length version previous flags more = do
   named ← read_entry_path version previous (62 + more.size) more.rest
   path_if_length_matches_flags flags named
 
+-- the entry whose 62 bytes are read; none where its second flags or its path are outside the grammar
 abbrev pub read_entry_after_fixed_fields : ℕ → List ℕ → FixedEntryFields → List ℕ → Option EntryAndRest
 read_entry_after_fixed_fields version previous fixed bytes = do
   more ← read_extended_flags_if_present version (is_extended_flag_set fixed.flags) bytes
@@ -50,9 +53,11 @@ pub record EntriesAndDetails : Type 0 where
   pub entries : List IndexEntry
   pub details : List Detail
 
+-- what is listed before the first entry is read
 abbrev pub no_entries_and_details : EntriesAndDetails
 no_entries_and_details = record { entries = []; details = [] }
 
+-- an entry and its detail, each put at the end of its list: the two lists keep the same length
 abbrev pub entries_and_details_with_one_more : EntriesAndDetails → IndexEntry → Detail → EntriesAndDetails
 entries_and_details_with_one_more listed entry detail = record { entries = listed.entries ++ entry ∷ []; details = listed.details ++ detail ∷ [] }
 
@@ -61,6 +66,7 @@ pub record EntriesAndRest : Type 0 where
   pub listed : EntriesAndDetails
   pub rest : List ℕ
 
+-- the entry's path; the empty one, from which the first path of version 4 is built, where there is no entry
 abbrev pub path_of_optional_entry : Option IndexEntry → List ℕ
 path_of_optional_entry None = []
 path_of_optional_entry (Some e) = e.path

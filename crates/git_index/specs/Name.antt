@@ -29,6 +29,7 @@ read_padded_path before bytes = do
   name ← text bytes
   path_with_checked_padding name.part (before + length name.part) name.rest
 
+-- the path before without its last `cut` bytes, and the text in front; none where it is shorter, or no NUL is there
 abbrev pub path_with_kept_prefix : List ℕ → ℕ → List ℕ → Option PathAndRest
 path_with_kept_prefix previous cut bytes =
     if nat_le cut (length previous)
@@ -41,6 +42,7 @@ read_prefix_compressed_path previous bytes = do
   cut ← read_varint bytes
   path_with_kept_prefix previous cut.value cut.rest
 
+-- the path in front, by version: 4 builds it from the path before, 2 and 3 have it whole, with NULs behind
 abbrev pub read_entry_path : ℕ → List ℕ → ℕ → List ℕ → Option PathAndRest
 read_entry_path version previous before bytes = if version == 4 then read_prefix_compressed_path previous bytes else read_padded_path before bytes
 
@@ -48,5 +50,6 @@ read_entry_path version previous before bytes = if version == 4 then read_prefix
 abbrev pub path_length_matches_flags : ℕ → PathAndRest → Bool
 path_length_matches_flags flags named = min (length named.path) 4095 == path_length_from_flags flags
 
+-- the path again; none where the flags tell another length
 abbrev pub path_if_length_matches_flags : ℕ → PathAndRest → Option PathAndRest
 path_if_length_matches_flags flags named = if path_length_matches_flags flags named then Some named else None

@@ -12,6 +12,7 @@ pub record PartAndRest : Type 0 where
 abbrev pub split_first_bytes : ℕ → List ℕ → Option PartAndRest
 split_first_bytes n bytes = if nat_le n (length bytes) then Some (record { part = take n bytes; rest = drop n bytes }) else None
 
+-- what is before the byte at this place, and what is behind it; the byte itself is in neither
 abbrev pub split_around_byte_at : List ℕ → ℕ → PartAndRest
 split_around_byte_at bytes place = record { part = take place bytes; rest = drop (place + 1) bytes }
 
@@ -20,5 +21,5 @@ abbrev pub text : List ℕ → Option PartAndRest
 text bytes = option_map (split_around_byte_at bytes) (position is_nul bytes)
 
 -- the number of four bytes at a place, where such numbers follow one another and the first has place 0
-abbrev pub big_endian_word_at_index : ℕ → List ℕ → ℕ
-big_endian_word_at_index place bytes = big_number 4 (drop (4 * place) bytes)
+abbrev pub nth_big_endian_u32 : ℕ → List ℕ → ℕ
+nth_big_endian_u32 place bytes = big_number 4 (drop (4 * place) bytes)

@@ -34,5 +34,6 @@ read_varint_after_part so_far (b ∷ bytes) =
     then (if nat_lt b 128 then Some (record { value = varint_with_byte_added so_far b; rest = bytes }) else read_varint_after_part (varint_with_byte_added so_far b + 1) bytes)
     else None
 
+-- the number in front; none where the bytes end within it, or it has more than 32 bits
 abbrev pub read_varint : List ℕ → Option VarintAndRest
 read_varint bytes = read_varint_after_part 0 bytes

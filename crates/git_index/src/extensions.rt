@@ -4,7 +4,7 @@ ghost use Rattle.git_index.specs.Extensions as extensions;
 ghost use Rattle.git_index.specs.Seen.{extension_head_result_as_record};
 
 use crate::error::IndexFileError;
-use crate::parts::big_endian_word_at_index;
+use crate::parts::nth_big_endian_u32;
 
 /// What the head of an extension says: how many bytes are behind it, and whether it marks a sparse
 /// index.
@@ -16,8 +16,8 @@ struct Extension {
 
 /// Whether one of the extensions marks a sparse index; or the first that is cut, or has to be
 /// understood and is not.
-pub fn is_sparse_by_extensions(bytes: &[u8]) -> Result<bool, IndexFileError>
-    ensures { result ≡ extensions.is_sparse_after_extensions 0 false bytes.now }
+pub fn read_sparse_mark_of_extensions(bytes: &[u8]) -> Result<bool, IndexFileError>
+    ensures { result ≡ extensions.read_sparse_mark_of_rest 0 false bytes.now }
 {
     let mut is_sparse = false;
     let mut left = bytes;
@@ -42,10 +42,7 @@ fn read_extension_head(bytes: &[u8]) -> Result<Extension, IndexFileError>
         return Err(IndexFileError::Extensions);
     }
     match bytes.split_first_chunk::<4>() {
-        Some((name, _)) => extension_head_of_name_and_size(
-            *name,
-            big_endian_word_at_index(bytes, 1),
-        ),
+        Some((name, _)) => extension_head_of_name_and_size(*name, nth_big_endian_u32(bytes, 1)),
         None => Err(IndexFileError::Extensions),
     }
 }

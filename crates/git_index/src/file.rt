@@ -11,8 +11,8 @@ ghost use Rattle.git_index.specs.Written.{WrittenExtension, IsIndexFileOfContent
 
 use crate::entries::{Entries, Listed, read_entries};
 use crate::error::IndexFileError;
-use crate::extensions::is_sparse_by_extensions;
-use crate::parts::{are_all_nul, big_endian_word_at_index};
+use crate::extensions::read_sparse_mark_of_extensions;
+use crate::parts::{are_all_nul, nth_big_endian_u32};
 use crate::stat::Detail;
 use gitbase_core::IndexEntry;
 use sha1::Sha1;
@@ -100,7 +100,7 @@ impl IndexFile {
 ///   more entries than the bytes can hold.
 pub fn read_index(alloc: Global, bytes: &[u8]) -> Result<IndexFile, IndexFileError>
     // It answers what the bytes say, or what is wrong with them first; want of memory alone is free.
-    ensures gives { IndexResultAgrees result (files.index_of_file_bytes bytes.now) }
+    ensures gives { IndexResultAgrees result (files.parse_index_file_bytes bytes.now) }
 
     // Where it answers a file, the bytes are one that a writer makes of these entries.
     ensures sound { IfOk result (IsIndexFileOfContents bytes.now) }
@@ -114,25 +114,25 @@ pub fn read_index(alloc: Global, bytes: &[u8]) -> Result<IndexFile, IndexFileErr
     // These bytes are the file of one index at most, whether memory is wanted or not: the one that the
     // definition reads.
     ensures unique { (index : files.IndexFileContents) → IsIndexFileOfContents bytes.now index
-        → files.index_of_file_bytes bytes.now ≡ Ok index }
-    ensures told { (index : files.IndexFileContents) → files.index_of_file_bytes bytes.now
+        → files.parse_index_file_bytes bytes.now ≡ Ok index }
+    ensures told { (index : files.IndexFileContents) → files.parse_index_file_bytes bytes.now
         ≡ Ok index → IsIndexFileOfContents bytes.now index }
 
     // `Entry` is told where as many entries as it says stand behind the head, which promises more, and what is
     // behind them begins with none.
-    ensures fault { (at : ℕ) → files.index_of_file_bytes bytes.now ≡ Err (IndexFileError.Entry at)
-        → IsFirstBadEntryAt bytes.now at }
+    ensures fault { (at : ℕ) → files.parse_index_file_bytes bytes.now
+        ≡ Err (IndexFileError.Entry at) → IsFirstBadEntryAt bytes.now at }
 
     // Beside each entry stands what else the file says of it.
     ensures beside { IfOk result (λ file. length file.details ≡ length file.entries) }
 {
-    index_of_file_bytes(alloc, bytes)
+    parse_index_file_bytes(alloc, bytes)
 }
 
 /// The index of a file.
-#[tactic(auto, unfolding(crate::specs::IndexFile::index_of_file_bytes))]
-fn index_of_file_bytes(alloc: Global, bytes: &[u8]) -> Result<IndexFile, IndexFileError>
-    ensures { IndexResultAgrees result (files.index_of_file_bytes bytes.now) }
+#[tactic(auto, unfolding(crate::specs::IndexFile::parse_index_file_bytes))]
+fn parse_index_file_bytes(alloc: Global, bytes: &[u8]) -> Result<IndexFile, IndexFileError>
+    ensures { IndexResultAgrees result (files.parse_index_file_bytes bytes.now) }
 {
     if bytes.len() < HEAD_LENGTH + SUM_LENGTH {
         return Err(IndexFileError::Short);
@@ -149,7 +149,7 @@ fn verify_and_read_body(alloc: Global, body: &[u8], sum: &[u8]) -> Result<IndexF
     if !has_index_signature(body) {
         return Err(IndexFileError::Signature);
     }
-    let version = big_endian_word_at_index(body, 1);
+    let version = nth_big_endian_u32(body, 1);
     if !is_supported_version(version) {
         return Err(IndexFileError::Version { version });
     }
@@ -157,7 +157,7 @@ fn verify_and_read_body(alloc: Global, body: &[u8], sum: &[u8]) -> Result<IndexF
         return Err(IndexFileError::Sum);
     }
     let (_, rest) = body.split_at(HEAD_LENGTH);
-    read_entries_and_extensions(alloc, version, big_endian_word_at_index(body, 2), rest)
+    read_entries_and_extensions(alloc, version, nth_big_endian_u32(body, 2), rest)
 }
 
 /// Whether a body begins as git's index files do.
@@ -201,26 +201,28 @@ fn read_entries_and_extensions(
     ensures { IndexResultAgrees result (files.read_entries_and_extensions version count bytes.now) }
 {
     let read = read_entries(alloc, version, count, bytes)?;
-    index_after_reading_extensions(read)
+    index_after_extensions_and_directory_check(read)
 }
 
 /// The index of these entries, and of the extensions behind them.
-fn index_after_reading_extensions(read: Entries<'_>) -> Result<IndexFile, IndexFileError>
-    ensures { IndexResultAgrees result (files.index_after_reading_extensions
+fn index_after_extensions_and_directory_check(
+    read: Entries<'_>,
+) -> Result<IndexFile, IndexFileError>
+    ensures { IndexResultAgrees result (files.index_after_extensions_and_directory_check
         (entries_and_rest_as_record read.entry)) }
 {
-    let is_sparse = is_sparse_by_extensions(read.rest)?;
-    index_unless_unmarked_directory(read.listed, is_sparse)
+    let is_sparse = read_sparse_mark_of_extensions(read.rest)?;
+    index_unless_stray_sparse_directory(read.listed, is_sparse)
 }
 
 /// The index of these entries; refused where one stands for a directory, and the index is not
 /// sparse.
-fn index_unless_unmarked_directory(
+fn index_unless_stray_sparse_directory(
     listed: Listed,
     is_sparse: bool,
 ) -> Result<IndexFile, IndexFileError>
-    ensures { result ≡ files.index_unless_unmarked_directory (entries_and_details_as_record listed)
-        is_sparse }
+    ensures { result ≡ files.index_unless_stray_sparse_directory
+        (entries_and_details_as_record listed) is_sparse }
 {
     match place_of_first_sparse_directory(&listed.entries) {
         Some(at) if !is_sparse => Err(IndexFileError::Directory { at }),

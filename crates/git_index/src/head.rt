@@ -3,7 +3,7 @@ ghost use Rattle.std.specs.Prelude.{◌≡◌, length, take, drop, option_map};
 ghost use Rattle.git_index.specs.Head as heads;
 ghost use Rattle.git_index.specs.Seen.{fixed_fields_as_record};
 
-use crate::parts::{big_endian_u16_after_skip, big_endian_word_at_index};
+use crate::parts::{big_endian_u16_after_skip, nth_big_endian_u32};
 use crate::stat::{Stat, Time};
 use gitbase_core::{Flags, Mode, ObjectId};
 
@@ -24,7 +24,7 @@ pub fn parse_fixed_entry_fields(head: &[u8]) -> Option<Fixed>
     requires { length head.now ≡ 62 }
     ensures { option_map fixed_fields_as_record result ≡ heads.parse_fixed_entry_fields head.now }
 {
-    let Some(mode) = known_mode_of_bits(big_endian_word_at_index(head, 6)) else {
+    let Some(mode) = known_mode_of_bits(nth_big_endian_u32(head, 6)) else {
         return None;
     };
     Some(Fixed {
@@ -56,18 +56,18 @@ fn stat_of_entry_head(head: &[u8]) -> Stat
 {
     Stat {
         ctime: Time {
-            seconds: big_endian_word_at_index(head, 0),
-            nanoseconds: big_endian_word_at_index(head, 1),
+            seconds: nth_big_endian_u32(head, 0),
+            nanoseconds: nth_big_endian_u32(head, 1),
         },
         mtime: Time {
-            seconds: big_endian_word_at_index(head, 2),
-            nanoseconds: big_endian_word_at_index(head, 3),
+            seconds: nth_big_endian_u32(head, 2),
+            nanoseconds: nth_big_endian_u32(head, 3),
         },
-        dev: big_endian_word_at_index(head, 4),
-        ino: big_endian_word_at_index(head, 5),
-        uid: big_endian_word_at_index(head, 7),
-        gid: big_endian_word_at_index(head, 8),
-        size: big_endian_word_at_index(head, 9),
+        dev: nth_big_endian_u32(head, 4),
+        ino: nth_big_endian_u32(head, 5),
+        uid: nth_big_endian_u32(head, 7),
+        gid: nth_big_endian_u32(head, 8),
+        size: nth_big_endian_u32(head, 9),
     }
 }
 

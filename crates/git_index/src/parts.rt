@@ -3,7 +3,7 @@ ghost use Rattle.std.specs.Prelude.{◌≡◌, ◌≤◌, ◌<◌, ◌+◌, ◌*
 ghost use Rattle.std.specs.List.{list_all};
 ghost use Rattle.gitbase_core.specs.Text.{is_nul};
 ghost use Rattle.byteorder.specs.Endian.{big_number};
-ghost use Rattle.git_index.specs.Parts.{split_first_bytes, text, big_endian_word_at_index};
+ghost use Rattle.git_index.specs.Parts.{split_first_bytes, text, nth_big_endian_u32};
 ghost use Rattle.git_index.specs.Seen.{part_and_rest_as_record};
 
 use byteorder::{BigEndian, ByteOrder};
@@ -56,9 +56,9 @@ pub fn are_all_nul(bytes: &[u8]) -> bool
 
 /// The number of four bytes at `place`, where such numbers follow one another and the first has
 /// place 0.
-pub fn big_endian_word_at_index(bytes: &[u8], place: usize) -> u32
+pub fn nth_big_endian_u32(bytes: &[u8], place: usize) -> u32
     requires { 4 * place + 4 ≤ length bytes.now }
-    ensures { result ≡ big_endian_word_at_index place bytes.now }
+    ensures { result ≡ nth_big_endian_u32 place bytes.now }
 {
     let (_, rest) = bytes.split_at(4 * place);
     BigEndian::read_u32(rest)

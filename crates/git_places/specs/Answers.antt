@@ -27,6 +27,7 @@ map_error of (Err e) = Err (of e)
 
 -- ---- the refusals of this crate
 
+-- a call that asks no worktree answers what is to be found, or that memory was wanted
 abbrev pub AnswersUnlessOutOfMemory : {A : Type 0} → Result A PlacesError → Result A PlacesError → Type 0
 AnswersUnlessOutOfMemory result found = IsFoundOrOutOfMemory errors.Fault errors.OutOfMemory result found
 

@@ -24,6 +24,7 @@ ceiling_of_absolute_entry t false entry = option_map without_leading_slash (real
 abbrev pub ceiling_of_entry : Names → Bool → List ℕ → Option (List ℕ)
 ceiling_of_entry t as_it_is entry = if is_absolute entry then ceiling_of_absolute_entry t as_it_is entry else None
 
+-- the ceilings with that of one more entry; an entry without one adds none
 abbrev pub append_ceiling_if_any : List (List ℕ) → Option (List ℕ) → List (List ℕ)
 append_ceiling_if_any ceilings None = ceilings
 append_ceiling_if_any ceilings (Some ceiling) = ceilings ++ ceiling ∷ []

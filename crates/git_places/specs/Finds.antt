@@ -36,11 +36,14 @@ pub record FindsInTreeAndOwnersByErrors {W O A E : Type 0} (w : WorktreeOf W) (o
 
 -- ---- the refusals of this crate
 
+-- a call that asks a worktree alone, with `Fault` of this crate where the worktree failed
 abbrev pub FindsInTree : {W A : Type 0} → WorktreeOf W → W → W → (Names → Result A PlacesError) → Result A PlacesError → Type 0
 FindsInTree w before now found result = FindsInTreeByErrors w before now errors.Fault errors.OutOfMemory found result
 
+-- a call that asks owners alone, with `Fault` of this crate where they failed
 abbrev pub FindsInOwners : {O A : Type 0} → OwnersOf O → O → O → (OwnershipByPath → Result A PlacesError) → Result A PlacesError → Type 0
 FindsInOwners o before now found result = FindsInOwnersByErrors o before now errors.Fault errors.OutOfMemory found result
 
+-- a call that asks both, with `Fault` of this crate where one of them failed
 abbrev pub FindsInTreeAndOwners : {W O A : Type 0} → WorktreeOf W → OwnersOf O → W → W → O → O → (Names → OwnershipByPath → Result A PlacesError) → Result A PlacesError → Type 0
 FindsInTreeAndOwners w o w0 w1 o0 o1 found result = FindsInTreeAndOwnersByErrors w o w0 w1 o0 o1 errors.Fault errors.OutOfMemory found result

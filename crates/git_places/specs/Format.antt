@@ -20,8 +20,10 @@ abbrev pub file_of_last_key_value_or : Option (List ℕ) → List ℕ → List �
 file_of_last_key_value_or found name key [] = found
 file_of_last_key_value_or found name key (section ∷ sections) = file_of_last_key_value_or (if is_plain_section_with_key name key section then section.meta.path else found) name key sections
 
-abbrev pub file_of_last_key_value : List ℕ → List ℕ → List Section → Option (List ℕ)
-file_of_last_key_value name key sections = file_of_last_key_value_or None name key sections
+-- the file of the last section of this name, without a subsection, that has the key;
+-- none where no section has it, or that one stands in no file
+abbrev pub file_of_last_section_with_key : List ℕ → List ℕ → List Section → Option (List ℕ)
+file_of_last_section_with_key name key sections = file_of_last_key_value_or None name key sections
 
 -- ---- the version
 
@@ -33,21 +35,23 @@ parse_format_version path (Some text) =
     else if bytes_eq text (codes "1") then Ok (Some versions.One)
     else Err (errors.Version path text)
 
+-- the version that the last `core.repositoryFormatVersion` says: none where there is none, refused unless 0 or 1
 abbrev pub parse_format_version_if_configured : List Section → Result (Option Version) PlacesError
 parse_format_version_if_configured sections =
-    parse_format_version (file_of_last_key_value (codes "core") (codes "repositoryformatversion") sections) (last_string_value (codes "core") None (codes "repositoryformatversion") sections)
+    parse_format_version (file_of_last_section_with_key (codes "core") (codes "repositoryformatversion") sections) (last_string_value (codes "core") None (codes "repositoryformatversion") sections)
 
 -- ---- extensions
 
 -- a key of `[extensions]` by which nothing is read otherwise here: `worktreeConfig` is asked for by itself
-abbrev pub is_ignorable_extension : List ℕ → Bool
-is_ignorable_extension key =
+abbrev pub is_extension_key_of_any_version : List ℕ → Bool
+is_extension_key_of_any_version key =
     eq_ignore_case key (codes "noop") || (eq_ignore_case key (codes "preciousobjects") || (eq_ignore_case key (codes "partialclone") || eq_ignore_case key (codes "worktreeconfig")))
 
 -- one that only version 1 may have, and that has no say here either
 abbrev pub is_ignorable_version_one_extension : List ℕ → Bool
 is_ignorable_version_one_extension key = eq_ignore_case key (codes "noop-v1") || eq_ignore_case key (codes "relativeworktrees")
 
+-- `extensions.objectFormat`, capital letters or not, by which a repository says what hash its ids are of
 abbrev pub is_object_format_key : List ℕ → Bool
 is_object_format_key key = eq_ignore_case key (codes "objectformat")
 
@@ -55,9 +59,11 @@ is_object_format_key key = eq_ignore_case key (codes "objectformat")
 abbrev pub is_version_one_only_extension : List ℕ → Bool
 is_version_one_only_extension key = eq_ignore_case key (codes "noop-v1") || is_object_format_key key
 
+-- the value is `sha1` to the letter; a key without a value has the empty one
 abbrev pub is_sha1_value : Entry → Bool
 is_sha1_value e = bytes_eq (value_or_empty_text e.value) (codes "sha1")
 
+-- the key says that the ids are of SHA-1, the one hash that is read here
 abbrev pub is_sha1_object_format : Entry → Bool
 is_sha1_object_format e = is_object_format_key e.key && is_sha1_value e
 
@@ -67,7 +73,7 @@ is_files_ref_storage e = eq_ignore_case e.key (codes "refstorage") && bytes_eq (
 
 -- whether a key is known to version 1, with the value that it has
 abbrev pub is_known_version_one_extension : Entry → Bool
-is_known_version_one_extension e = is_ignorable_extension e.key || (is_ignorable_version_one_extension e.key || (is_sha1_object_format e || is_files_ref_storage e))
+is_known_version_one_extension e = is_extension_key_of_any_version e.key || (is_ignorable_version_one_extension e.key || (is_sha1_object_format e || is_files_ref_storage e))
 
 -- whether a key of a section `extensions`, with a subsection or without one, leaves the repository readable
 abbrev pub is_allowed_extension : Version → Option (List ℕ) → Entry → Bool
@@ -88,14 +94,14 @@ is_sha256_object_format versions.One (Some subsection) e = false
 is_sha256_object_format versions.One None e = is_object_format_key e.key && bytes_eq (value_or_empty_text e.value) (codes "sha256")
 
 -- the refusal of a key of a file: that the ids of the repository are of SHA-256 has a word of its own
-abbrev pub error_of_extension : Option (List ℕ) → Version → Option (List ℕ) → Entry → PlacesError
-error_of_extension path version subsection e =
+abbrev pub disallowed_extension_error : Option (List ℕ) → Version → Option (List ℕ) → Entry → PlacesError
+disallowed_extension_error path version subsection e =
     if is_sha256_object_format version subsection e then errors.Sha256 path else errors.Extension path (key_with_subsection subsection e.key)
 
 -- the refusal of a section `extensions`: that of its first key that does not leave the repository readable
 abbrev pub error_of_extensions_section : Version → Section → Option PlacesError
 error_of_extensions_section version section =
-    option_map (error_of_extension section.meta.path version section.subsection) (find (λ e. not (is_allowed_extension version section.subsection e)) section.entries)
+    option_map (disallowed_extension_error section.meta.path version section.subsection) (find (λ e. not (is_allowed_extension version section.subsection e)) section.entries)
 
 -- what stands behind `extensions.` in the name of a section
 abbrev pub section_name_after_extensions_dot : List ℕ → Option (List ℕ)
@@ -120,6 +126,7 @@ extension_error_of_section version section =
     if eq_ignore_case section.name (codes "extensions") then error_of_extensions_section version section
     else error_of_dotted_extensions_section version section (section_name_after_extensions_dot section.name)
 
+-- the refusal of the first section, and where it has none what the sections behind it say
 abbrev pub error_or_rest : Option PlacesError → Result Bool PlacesError → Result Bool PlacesError
 error_or_rest None rest = rest
 error_or_rest (Some e) rest = Err e
@@ -141,5 +148,6 @@ boolean_result_or_false path key (Ok None) = Ok false
 boolean_result_or_false path key (Ok (Some b)) = Ok b
 boolean_result_or_false path key (Err text) = Err (errors.Value path key)
 
-abbrev pub boolean_or_false : List ℕ → List ℕ → List Section → Result Bool PlacesError
-boolean_or_false section key sections = boolean_result_or_false (file_of_last_key_value section key sections) (section_dot_key section key) (last_boolean_value section None key sections)
+-- the last value of a key as a boolean: no where there is none, refused with its file where it is no boolean
+abbrev pub config_boolean_or_false : List ℕ → List ℕ → List Section → Result Bool PlacesError
+config_boolean_or_false section key sections = boolean_result_or_false (file_of_last_section_with_key section key sections) (section_dot_key section key) (last_boolean_value section None key sections)

@@ -29,6 +29,7 @@ begins_with_refs_after_blanks (Some rest) = begins_with (codes "refs/") (without
 abbrev pub begins_with_40_hex_digits : List ℕ → Bool
 begins_with_40_hex_digits text = if nat_lt (length text) 40 then false else list_all is_ascii_hexdigit (take 40 text)
 
+-- `ref:` and a name in `refs/`, or 40 hex digits in front; what is behind them is not looked at
 abbrev pub is_valid_head_text : List ℕ → Bool
 is_valid_head_text text = begins_with_refs_after_blanks (text_after_prefix (codes "ref:") text) || begins_with_40_hex_digits text
 

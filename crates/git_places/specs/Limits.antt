@@ -17,6 +17,7 @@ pub record SearchLimits : Type 0 where
   pub ceilings : List (List ℕ)
   pub device : Option ℕ
 
+-- the limits of a search: its ceilings, and the file system that it does not leave
 abbrev pub search_limits : List (List ℕ) → Option ℕ → SearchLimits
 search_limits ceilings device = record { ceilings = ceilings; device = device }
 
@@ -39,6 +40,7 @@ abbrev pub is_same_device : ℕ → Option ℕ → Bool
 is_same_device device None = false
 is_same_device device (Some found) = found == device
 
+-- none where the search may leave any file system, or the directory lies on the one that it may not leave
 abbrev pub border_error_if_other_device : OwnershipByPath → List ℕ → Option ℕ → Option PlacesError
 border_error_if_other_device owned path None = None
 border_error_if_other_device owned path (Some device) = if is_same_device device (device_at_path owned path) then None else Some (errors.Border path)
@@ -55,6 +57,7 @@ true_unless_error (Some e) = Err e
 
 -- ---- the limits of a search
 
+-- the ceilings by the value of `GIT_CEILING_DIRECTORIES`; where it is not set there are none
 abbrev pub ceilings_of_variable : Names → Option (List ℕ) → List (List ℕ)
 ceilings_of_variable t None = []
 ceilings_of_variable t (Some text) = parse_ceiling_directories t text
@@ -64,6 +67,7 @@ abbrev pub device_or_no_directory_error : List ℕ → Option ℕ → Result (Op
 device_or_no_directory_error path None = Err (errors.NoDirectory path)
 device_or_no_directory_error path (Some device) = Ok (Some device)
 
+-- where file systems may be left there is no limit, and else that of the directory at which the search begins
 abbrev pub device_limit_of_directory : OwnershipByPath → List ℕ → Bool → Result (Option ℕ) PlacesError
 device_limit_of_directory owned path true = Ok None
 device_limit_of_directory owned path false = device_or_no_directory_error path (device_at_path owned path)
@@ -73,5 +77,7 @@ abbrev pub device_limit_of_surroundings : OwnershipByPath → Surroundings → R
 device_limit_of_surroundings owned around =
     and_then (device_limit_of_directory owned around.directory) (boolean_of_variable_or_false (codes "GIT_DISCOVERY_ACROSS_FILESYSTEM") around.across)
 
+-- the limits of the search by the environment; refused where the value of a variable is no boolean,
+-- or nothing is at the directory whose file system is not left
 abbrev pub search_limits_of_surroundings : Names → OwnershipByPath → Surroundings → Result SearchLimits PlacesError
 search_limits_of_surroundings t owned around = and_then (λ device. Ok (search_limits (ceilings_of_variable t around.ceilings) device)) (device_limit_of_surroundings owned around)

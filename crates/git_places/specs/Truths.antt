@@ -16,6 +16,7 @@ sections_with_lone_value text =
       entries = record { key = codes "k"; value = Some text } ∷ [];
     } ∷ []
 
+-- the boolean, or `Value` with the name of the variable, which stands in no file
 abbrev pub boolean_or_value_error : List ℕ → Option Bool → Result Bool PlacesError
 boolean_or_value_error name None = Err (errors.Value None name)
 boolean_or_value_error name (Some b) = Ok b

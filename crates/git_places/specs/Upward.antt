@@ -13,6 +13,7 @@ pub record WorkTreeTop : Type 0 where
   pub directory : List ℕ
   pub git : List ℕ
 
+-- a work tree that was found: the directory that has the `.git`, and the git directory
 abbrev pub top : List ℕ → List ℕ → WorkTreeTop
 top directory git = record { directory = directory; git = git }
 
@@ -43,9 +44,11 @@ nearest_top_of_components stop t (name ∷ components_last_first) =
     top_here_or_above (path_with_leading_slash (path_from_reversed_components (name ∷ components_last_first))) (result_unless_search_stops (stop (path_from_reversed_components components_last_first)) (nearest_top_of_components stop t components_last_first))
     (git_directory_of_work_tree_top t (path_with_leading_slash (path_from_reversed_components (name ∷ components_last_first))))
 
+-- the nearest work tree, from a directory upward, by its path: the directory itself comes first
 abbrev pub nearest_top_of_path : (List ℕ → Option PlacesError) → Names → List ℕ → Result WorkTreeTop PlacesError
 nearest_top_of_path stop t current = nearest_top_of_components stop t (components_last_first current)
 
+-- the nearest work tree, where the search stops at ceilings and at the border of the file system
 abbrev pub nearest_top_within_limits : SearchLimits → Names → OwnershipByPath → List ℕ → Result WorkTreeTop PlacesError
 nearest_top_within_limits limits t owned current = nearest_top_of_path (error_where_search_stops owned limits) t current
 

@@ -2,6 +2,7 @@
 use Rattle.std.specs.Prelude.{ℕ, Bool, codes, bytes_eq, not, find, ◌||◌, ◌&&◌, List, Option, option_map}
 use Rattle.git_places.specs.Surroundings.{Surroundings}
 
+-- a variable as it is set; of two with one name the first counts
 pub record EnvironmentVariable : Type 0 where
   pub name : List ℕ
   pub value : List ℕ
@@ -26,6 +27,7 @@ is_configuration_variable v =
     bytes_eq v.name (codes "GIT_CONFIG") || (bytes_eq v.name (codes "GIT_CONFIG_PARAMETERS")
     || (bytes_eq v.name (codes "GIT_CONFIG_COUNT") && not (bytes_eq v.value (codes "0"))))
 
+-- a variable that points git elsewhere; `GIT_CONFIG_COUNT` of 0 does not
 abbrev pub is_place_path_spec_or_config_variable : EnvironmentVariable → Bool
 is_place_path_spec_or_config_variable v = is_repository_place_variable v.name || (is_path_spec_variable v.name || is_configuration_variable v)
 
@@ -39,6 +41,7 @@ value_of_variable name variables = option_map (λ (v : EnvironmentVariable). v.v
 abbrev pub name_of_first_redirecting_variable : List EnvironmentVariable → Option (List ℕ)
 name_of_first_redirecting_variable variables = option_map (λ (v : EnvironmentVariable). v.name) (find is_place_path_spec_or_config_variable variables)
 
+-- what git heeds besides the files, where it is started in a directory with these variables
 abbrev pub surroundings_of_variables : List ℕ → List EnvironmentVariable → Surroundings
 surroundings_of_variables directory variables =
     record {

@@ -14,6 +14,7 @@ use Rattle.git_places.specs.declared.error.PlacesError.TheVariants as errors
 
 -- ---- the common directory
 
+-- the path of `commondir`, the file by which a git directory says that its common directory is elsewhere
 abbrev pub commondir_path : List ℕ → List ℕ
 commondir_path git = resolve_path_from_directory (codes "commondir") git
 
@@ -32,17 +33,22 @@ abbrev pub common_directory_by_commondir_kind : Names → List ℕ → Option No
 common_directory_by_commondir_kind t git None = Ok git
 common_directory_by_commondir_kind t git (Some kind) = common_directory_of_bytes t git (bytes_of_file_lookup (look t (commondir_path git) true))
 
+-- the common directory: the git directory itself without a `commondir`;
+-- one that is there, and names no directory, is refused
 abbrev pub common_directory_or_error : Names → List ℕ → Result (List ℕ) PlacesError
 common_directory_or_error t git = common_directory_by_commondir_kind t git (kind_of_lookup (look t (commondir_path git) false))
 
 -- ---- the git directory
 
+-- the path of `HEAD`, which each work tree has in its own git directory and not in the common one
 abbrev pub head_path : List ℕ → List ℕ
 head_path git = resolve_path_from_directory (codes "HEAD") git
 
+-- the refusal where git and the walk would not agree on a git directory, or that is not known
 abbrev pub odd_head_error : List ℕ → Result Bool PlacesError
 odd_head_error git = Err (errors.OddHead (head_path git))
 
+-- the common directory has `objects` and `refs`, both directories, links followed; what is in them is not asked
 abbrev pub has_objects_and_refs : Names → List ℕ → Bool
 has_objects_and_refs t common =
     is_lookup_of_directory (look t (resolve_path_from_directory (codes "objects") common) true) && is_lookup_of_directory (look t (resolve_path_from_directory (codes "refs") common) true)
@@ -52,16 +58,16 @@ abbrev pub require_walk_accepts : Names → List ℕ → List ℕ → Result Boo
 require_walk_accepts t git common = if is_git_directory t git common then Ok true else odd_head_error git
 
 -- by what git says of `HEAD`, over the common directory
-abbrev pub decide_by_head_in_common_directory : Names → List ℕ → Head → List ℕ → Result Bool PlacesError
-decide_by_head_in_common_directory t git heads.Good common = if has_objects_and_refs t common then require_walk_accepts t git common else Ok false
-decide_by_head_in_common_directory t git heads.Bad common = Ok false
-decide_by_head_in_common_directory t git heads.Unknown common = if has_objects_and_refs t common then odd_head_error git else Ok false
+abbrev pub is_git_directory_by_head_and_common : Names → List ℕ → Head → List ℕ → Result Bool PlacesError
+is_git_directory_by_head_and_common t git heads.Good common = if has_objects_and_refs t common then require_walk_accepts t git common else Ok false
+is_git_directory_by_head_and_common t git heads.Bad common = Ok false
+is_git_directory_by_head_and_common t git heads.Unknown common = if has_objects_and_refs t common then odd_head_error git else Ok false
 
 -- by what git says of `HEAD`: what git passes over the walk has to pass over too, or it is refused
 abbrev pub is_git_directory_by_head : Names → List ℕ → Head → Result Bool PlacesError
 is_git_directory_by_head t git heads.Bad = if is_git_directory_by_commondir t git then odd_head_error git else Ok false
-is_git_directory_by_head t git heads.Good = and_then (decide_by_head_in_common_directory t git heads.Good) (common_directory_or_error t git)
-is_git_directory_by_head t git heads.Unknown = and_then (decide_by_head_in_common_directory t git heads.Unknown) (common_directory_or_error t git)
+is_git_directory_by_head t git heads.Good = and_then (is_git_directory_by_head_and_common t git heads.Good) (common_directory_or_error t git)
+is_git_directory_by_head t git heads.Unknown = and_then (is_git_directory_by_head_and_common t git heads.Unknown) (common_directory_or_error t git)
 
 -- whether a directory is a git directory: where git and the walk would not agree, or where that is not known, it is refused by its `HEAD`
 abbrev pub is_agreed_git_directory : Names → List ℕ → Result Bool PlacesError

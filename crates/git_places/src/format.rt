@@ -47,8 +47,12 @@ fn file_if_section_has_key<'a>(
 
 /// The file in which the last value of a key stands, in the sections of a name that have no
 /// subsection. None where no value does, or where it stands in no file.
-pub fn file_of_last_key_value<'a>(config: &'a File, name: &[u8], key: &[u8]) -> Option<&'a PathText>
-    ensures { option_copied result ≡ words.file_of_last_key_value name.now key.now
+pub fn file_of_last_section_with_key<'a>(
+    config: &'a File,
+    name: &[u8],
+    key: &[u8],
+) -> Option<&'a PathText>
+    ensures { option_copied result ≡ words.file_of_last_section_with_key name.now key.now
         config.now.sections }
 {
     let mut found = None;
@@ -102,14 +106,14 @@ pub fn parse_format_version_if_configured(
 {
     parse_format_version(
         alloc,
-        file_of_last_key_value(config, b"core", b"repositoryformatversion"),
+        file_of_last_section_with_key(config, b"core", b"repositoryformatversion"),
         config.string(b"core", None, b"repositoryformatversion"),
     )
 }
 
 /// A key of `[extensions]` that has no say here, in either version.
-fn is_ignorable_extension(key: &[u8]) -> bool
-    ensures { result ≡ words.is_ignorable_extension key.now }
+fn is_extension_key_of_any_version(key: &[u8]) -> bool
+    ensures { result ≡ words.is_extension_key_of_any_version key.now }
 {
     eq_ignore_case(key, b"noop")
         || eq_ignore_case(key, b"preciousobjects")
@@ -170,7 +174,7 @@ fn is_files_ref_storage(entry: &Entry) -> bool
 fn is_known_version_one_extension(entry: &Entry) -> bool
     ensures { result ≡ words.is_known_version_one_extension entry.now }
 {
-    is_ignorable_extension(entry.key.as_bytes())
+    is_extension_key_of_any_version(entry.key.as_bytes())
         || is_ignorable_version_one_extension(entry.key.as_bytes())
         || is_sha1_object_format(entry)
         || is_files_ref_storage(entry)
@@ -221,7 +225,7 @@ fn key_with_subsection(
 }
 
 /// The refusal of a key of a file.
-fn error_of_extension(
+fn disallowed_extension_error(
     alloc: Global,
     file: Option<&PathText>,
     version: Version,
@@ -229,7 +233,7 @@ fn error_of_extension(
     entry: &Entry,
 ) -> Result<PlacesError, OutOfMemory>
     ensures { IfOk result
-        (λ e. e ≡ words.error_of_extension (option_copied file.entry) version
+        (λ e. e ≡ words.disallowed_extension_error (option_copied file.entry) version
         (option_copied subsection.entry) entry.now) }
 {
     if is_sha256_object_format(version, subsection, entry) {
@@ -269,7 +273,7 @@ fn error_of_extensions_section(
         Some(entry) => {
             let file = section.meta().path.as_ref();
             let subsection = section.subsection_name();
-            Ok(Some(error_of_extension(alloc, file, version, subsection, entry)?))
+            Ok(Some(disallowed_extension_error(alloc, file, version, subsection, entry)?))
         }
         None => Ok(None),
     }
@@ -385,13 +389,13 @@ fn invalid_value_error(
 }
 
 /// What a key says as a boolean, no where it does not stand there.
-pub fn boolean_or_false(
+pub fn config_boolean_or_false(
     alloc: Global,
     config: &File,
     section: &[u8],
     key: &[u8],
 ) -> Result<bool, PlacesError>
-    ensures { AnswersUnlessOutOfMemory result (words.boolean_or_false section.now key.now
+    ensures { AnswersUnlessOutOfMemory result (words.config_boolean_or_false section.now key.now
         config.now.sections) }
 {
     match config.boolean(section, None, key) {
@@ -399,7 +403,7 @@ pub fn boolean_or_false(
         Ok(Some(truth)) => Ok(truth),
         Err(_) => Err(invalid_value_error(
             alloc,
-            file_of_last_key_value(config, section, key),
+            file_of_last_section_with_key(config, section, key),
             section,
             key,
         )?),

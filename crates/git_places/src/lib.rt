@@ -17,7 +17,7 @@ mod whole;
 
 pub use ceilings::{Ceilings, parse_ceiling_directories};
 pub use error::PlacesError;
-pub use format::{Version, copy_optional_path, file_of_last_key_value};
+pub use format::{Version, copy_optional_path, file_of_last_section_with_key};
 pub use git_directory::dot_git_path;
 pub use limits::{Limits, search_limits_of_surroundings};
 pub use places::{Places, places_of_work_tree_top};

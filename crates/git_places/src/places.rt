@@ -8,7 +8,7 @@ ghost use Rattle.git_places.specs.Places as words;
 
 use crate::error::PlacesError;
 use crate::format::{
-    Version, boolean_or_false, copy_optional_path, file_of_last_key_value,
+    Version, config_boolean_or_false, copy_optional_path, file_of_last_section_with_key,
     parse_format_version_if_configured, require_allowed_extensions,
 };
 use crate::git_directory::dot_git_path;
@@ -251,16 +251,16 @@ fn core_worktree_or_top<W: Worktree>(
 }
 
 /// The work tree, by the configurations that are asked for it.
-fn configured_work_tree<W: Worktree>(
+fn work_tree_by_core_bare_and_worktree<W: Worktree>(
     alloc: Global,
     worktree: &mut W,
     top: &Top,
     asked: &File,
 ) -> Result<PathText, PlacesError>
     ensures { FindsInTree W.Worktree worktree.old worktree.new
-        (λ t. words.configured_work_tree t top.now asked.now) result }
+        (λ t. words.work_tree_by_core_bare_and_worktree t top.now asked.now) result }
 {
-    if boolean_or_false(alloc, asked, b"core", b"bare")? {
+    if config_boolean_or_false(alloc, asked, b"core", b"bare")? {
         return Err(PlacesError::Bare {
             path: PathText::from_bytes(alloc, top.git.as_bytes())?,
         });
@@ -269,7 +269,7 @@ fn configured_work_tree<W: Worktree>(
         alloc,
         worktree,
         top,
-        file_of_last_key_value(asked, b"core", b"worktree"),
+        file_of_last_section_with_key(asked, b"core", b"worktree"),
         asked.string(b"core", None, b"worktree"),
     )
 }
@@ -286,22 +286,22 @@ fn work_tree_by_deciding_config<W: Worktree>(
         (λ t. words.work_tree_by_deciding_config t top.now config own) result }
 {
     let asked = config_deciding_work_tree(alloc, worktree, top.git.as_bytes(), config, own)?;
-    configured_work_tree(alloc, worktree, top, &asked)
+    work_tree_by_core_bare_and_worktree(alloc, worktree, top, &asked)
 }
 
 /// Whether each work tree has a configuration of its own, by the version of the format.
-fn has_worktree_config(
+fn check_extensions_and_has_worktree_config(
     alloc: Global,
     config: &File,
     version: Option<Version>,
 ) -> Result<bool, PlacesError>
-    ensures { AnswersUnlessOutOfMemory result (words.has_worktree_config config.now.sections
-        version) }
+    ensures { AnswersUnlessOutOfMemory result (words.check_extensions_and_has_worktree_config
+        config.now.sections version) }
 {
     match version {
         Some(version) => {
             require_allowed_extensions(alloc, version, config)?;
-            boolean_or_false(alloc, config, b"extensions", b"worktreeconfig")
+            config_boolean_or_false(alloc, config, b"extensions", b"worktreeconfig")
         }
         None => Ok(false),
     }
@@ -390,7 +390,7 @@ fn places_by_config<W: Worktree>(
         (λ t. words.places_by_config t top common.now config) result }
 {
     let version = parse_format_version_if_configured(alloc, &config)?;
-    let own = has_worktree_config(alloc, &config, version)?;
+    let own = check_extensions_and_has_worktree_config(alloc, &config, version)?;
     let root = root_by_format_version(alloc, worktree, &top, config, version, own)?;
     places_with_real_own_git_path(alloc, worktree, top, common, own, root)
 }

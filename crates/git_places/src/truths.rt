@@ -49,7 +49,8 @@ pub fn boolean_of_variable_or_false(
     name: &[u8],
     text: &Option<Bytes>,
 ) -> Result<bool, PlacesError>
-    ensures { AnswersUnlessOutOfMemory result (words.boolean_of_variable_or_false name.now text.now) }
+    ensures { AnswersUnlessOutOfMemory result
+        (words.boolean_of_variable_or_false name.now text.now) }
 {
     let Some(text) = text else {
         return Ok(false);

@@ -161,7 +161,7 @@ fn decide_for_good_head<W: Worktree>(
     common: &[u8],
 ) -> Result<bool, PlacesError>
     ensures { FindsInTree W.Worktree worktree.old worktree.new
-        (λ t. words.decide_by_head_in_common_directory t git.now Head.Good common.now) result }
+        (λ t. words.is_git_directory_by_head_and_common t git.now Head.Good common.now) result }
 {
     if has_objects_and_refs(alloc, worktree, common)? {
         return require_walk_accepts(alloc, worktree, git, common);
@@ -177,7 +177,7 @@ fn decide_for_unknown_head<W: Worktree>(
     common: &[u8],
 ) -> Result<bool, PlacesError>
     ensures { FindsInTree W.Worktree worktree.old worktree.new
-        (λ t. words.decide_by_head_in_common_directory t git.now Head.Unknown common.now) result }
+        (λ t. words.is_git_directory_by_head_and_common t git.now Head.Unknown common.now) result }
 {
     if has_objects_and_refs(alloc, worktree, common)? {
         return Err(odd_head_error(alloc, git)?);
@@ -186,7 +186,7 @@ fn decide_for_unknown_head<W: Worktree>(
 }
 
 /// By what git says of `HEAD`, over the common directory.
-fn decide_by_head_in_common_directory<W: Worktree>(
+fn is_git_directory_by_head_and_common<W: Worktree>(
     alloc: Global,
     worktree: &mut W,
     git: &[u8],
@@ -194,7 +194,7 @@ fn decide_by_head_in_common_directory<W: Worktree>(
     common: &[u8],
 ) -> Result<bool, PlacesError>
     ensures { FindsInTree W.Worktree worktree.old worktree.new
-        (λ t. words.decide_by_head_in_common_directory t git.now head common.now) result }
+        (λ t. words.is_git_directory_by_head_and_common t git.now head common.now) result }
 {
     match head {
         Head::Good => decide_for_good_head(alloc, worktree, git, common),
@@ -211,11 +211,11 @@ fn decide_with_common_directory<W: Worktree>(
     head: Head,
 ) -> Result<bool, PlacesError>
     ensures { FindsInTree W.Worktree worktree.old worktree.new
-        (λ t. and_then (words.decide_by_head_in_common_directory t git.now head)
+        (λ t. and_then (words.is_git_directory_by_head_and_common t git.now head)
         (words.common_directory_or_error t git.now)) result }
 {
     let common = common_directory_or_error(alloc, worktree, git)?;
-    decide_by_head_in_common_directory(alloc, worktree, git, head, common.as_bytes())
+    is_git_directory_by_head_and_common(alloc, worktree, git, head, common.as_bytes())
 }
 
 /// By a `HEAD` that git passes over: whether the walk does so too.

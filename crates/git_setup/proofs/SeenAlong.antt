@@ -6,7 +6,7 @@ use Rattle.gitbase_core.specs.Steps.{and_then}
 use Rattle.gitbase_core.specs.declared.entry.IndexEntry.{IndexEntry}
 use Rattle.gitbase_core.specs.Entry.{is_sparse_directory_entry}
 use Rattle.worktree_fs.specs.Tree.{Names}
-use Rattle.git_setup.specs.Present.{exists_in_work_tree, has_skip_worktree_flag, entry_without_skip_flag, refuse_sparse_entry_if_present, file_entry_unskipped_if_present, seen, append_entries_unskipped_if_present, lies_beneath_known_absent_directory, is_known_present_directory, presence_of_directory, known_or_found_presence_of_directory, known_or_found_presence_of_parent, exists_unless_directory_absent, entry_unskipped_if_present, skipped_entry_unskipped_if_present, require_sparse_directory_absent, entry_unskipped_or_refused_if_present, entries_unskipped_with_cached_looks}
+use Rattle.git_setup.specs.Present.{exists_in_work_tree, has_skip_worktree_flag, entry_without_skip_flag, refuse_sparse_entry_if_present, file_entry_unskipped_if_present, seen, append_entries_unskipped_if_present, lies_beneath_known_absent_directory, is_last_look_at_present_directory, presence_of_directory, known_or_found_presence_of_directory, known_or_found_presence_of_parent, exists_unless_directory_absent, entry_unskipped_if_present, skipped_entry_unskipped_if_present, require_sparse_directory_absent, entry_unskipped_or_refused_if_present, entries_unskipped_with_cached_looks}
 use Rattle.git_setup.specs.declared.error.GitRefusal.{GitRefusal}
 use Rattle.git_setup.specs.declared.present.Looked.{Looked}
 use Rattle.git_setup.specs.declared.present.Seen.{Seen}
@@ -37,7 +37,7 @@ module _ (t : Names) (root : List ℕ) where
 
   is_known_of : (last : Option Looked) (above : Option (List ℕ)) → IsKnown last → IsKnown (known_or_found_presence_of_directory t root last above)
   is_known_of last None known = known
-  is_known_of last (Some directory) known = go (is_empty_or_root_path directory) refl (is_known_present_directory last directory)
+  is_known_of last (Some directory) known = go (is_empty_or_root_path directory) refl (is_last_look_at_present_directory last directory)
     where
       go : (top : Bool) → is_empty_or_root_path directory ≡ top → (there : Bool) → IsKnown (if top || there then last else Some (presence_of_directory t root directory))
       go true e there = known

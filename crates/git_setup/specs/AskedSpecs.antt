@@ -25,6 +25,7 @@ written_pathspec_of_text text = record { told = text; text = text }
 abbrev pub has_exclude_magic : List ℕ → Bool
 has_exclude_magic text = (split_pathspec_into_magic_and_path text).excludes
 
+-- the text asks for paths, not against them: it has none of `:!`, `:^` and `:(exclude)`
 abbrev pub is_positive_pathspec : List ℕ → Bool
 is_positive_pathspec text = not (has_exclude_magic text)
 
@@ -38,6 +39,7 @@ abbrev pub name_of_current_directory_spec : List ℕ → List (List ℕ) → Lis
 name_of_current_directory_spec prefix [] = prefix ++ 47 ∷ []
 name_of_current_directory_spec prefix (text ∷ texts) = codes "."
 
+-- the directory as a path spec: `:(literal).`, so that no byte of its name reads as a wildcard
 abbrev pub current_directory_pathspec : List ℕ → List (List ℕ) → Written
 current_directory_pathspec prefix texts = record { told = name_of_current_directory_spec prefix texts; text = codes ":(literal)." }
 
@@ -65,6 +67,7 @@ parse_all_pathspecs folds root prefix done [] = Ok done
 parse_all_pathspecs folds root prefix done (w ∷ written) =
     and_then (λ spec. parse_all_pathspecs folds root prefix (done ++ spec ∷ []) written) (parse_pathspec_from_prefix folds root prefix w.text)
 
+-- one path spec for a search of its own, with the text that it is told by
 abbrev pub single_spec_with_text : List ℕ → PathSpec → AskedSpec
 single_spec_with_text told spec = record { text = told; spec = spec ∷ [] }
 
@@ -72,6 +75,7 @@ single_spec_with_text told spec = record { text = told; spec = spec ∷ [] }
 abbrev pub parse_single_spec_with_text : Bool → List ℕ → List ℕ → Written → Result AskedSpec GitRefusal
 parse_single_spec_with_text folds root prefix w = and_then (λ spec. Ok (single_spec_with_text w.told spec)) (parse_pathspec_from_prefix folds root prefix w.text)
 
+-- a search of its own for each text, in order and behind those done, or the first refusal
 abbrev pub parse_each_pathspec_alone : Bool → List ℕ → List ℕ → List AskedSpec → List Written → Result (List AskedSpec) GitRefusal
 parse_each_pathspec_alone folds root prefix done [] = Ok done
 parse_each_pathspec_alone folds root prefix done (w ∷ written) =
@@ -89,6 +93,7 @@ abbrev pub needs_directory_in_work_tree : Bool → List (List ℕ) → Bool
 needs_directory_in_work_tree prefers [] = prefers
 needs_directory_in_work_tree prefers (text ∷ texts) = true
 
+-- where no path spec is asked for: all is meant
 abbrev pub empty_asked_specs : AskedSpecs
 empty_asked_specs = record { all = []; each = [] }
 

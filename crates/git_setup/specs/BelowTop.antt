@@ -30,6 +30,7 @@ abbrev pub is_rule_of_stars_only : List ℕ → Bool
 is_rule_of_stars_only [] = false
 is_rule_of_stars_only (b ∷ rest) = if b == 42 then is_line_end_or_empty (skip_repeated_byte 32 (skip_one_leading_slash (skip_repeated_byte 42 (b ∷ rest)))) else false
 
+-- `?*` for `*`, which so does not match the name without bytes; any other rule stays as it is
 abbrev pub rule_question_marked_if_stars : List ℕ → List ℕ
 rule_question_marked_if_stars rule = if is_rule_of_stars_only rule then 63 ∷ rule else rule
 

@@ -34,6 +34,7 @@ abbrev pub displayed_name_of_user_excludes_file : List ℕ → List ℕ → Opti
 displayed_name_of_user_excludes_file root path None = path
 displayed_name_of_user_excludes_file root path (Some text) = if bytes_eq (resolve_path_from_directory text root) path then text else path
 
+-- the user's rules under the name that git prints for their file; none where there is no such file
 abbrev pub named_user_rules_file : List ℕ → List Section → Option RulesFile → Option NamedFile
 named_user_rules_file root sections None = None
 named_user_rules_file root sections (Some file) = Some (named_file_with_normalized_rules (displayed_name_of_user_excludes_file root file.path (last_string_value (codes "core") None (codes "excludesfile") sections)) file)
@@ -47,10 +48,12 @@ real_path_of_common_dir t places = unwrap_or (real_path t places.common (codes "
 abbrev pub displayed_name_of_info_exclude : Names → RepositoryPlaces → List ℕ
 displayed_name_of_info_exclude t places = if bytes_eq places.common (dot_git_path places.root) then codes ".git/info/exclude" else path_of_info_exclude (real_path_of_common_dir t places)
 
+-- the rules of `info/exclude` under the name that git prints for it; none where there is no such file
 abbrev pub named_info_exclude_file : Names → RepositoryPlaces → Option RulesFile → Option NamedFile
 named_info_exclude_file t places None = None
 named_info_exclude_file t places (Some file) = Some (named_file_with_normalized_rules (displayed_name_of_info_exclude t places) file)
 
+-- the user's rules and those of `info/exclude`, each by the name that `git check-ignore -v` prints
 abbrev pub rules_files_outside_work_tree : Names → RepositoryPlaces → List Section → RulesOutsideWorkTree → OuterFiles
 rules_files_outside_work_tree t places sections rules =
     record { user = named_user_rules_file places.root sections rules.user; repository = named_info_exclude_file t places rules.repository }
@@ -68,6 +71,7 @@ read_config_with_empty_index t places around = do
 abbrev pub read_config_and_maybe_index : Names → RepositoryPlaces → Surroundings → Bool → Result Read GitRefusal
 read_config_and_maybe_index t places around leaves_index = if leaves_index then read_config_with_empty_index t places around else read_index_and_configurations t places around
 
+-- by what paths are checked: the entries, the rules outside, whether case counts, and how names are quoted
 abbrev pub check_ignore_setup_from_parts : Names → RepositoryPlaces → Surroundings → Read → RulesOutsideWorkTree → Checked
 check_ignore_setup_from_parts t places around read rules =
     record {

@@ -46,6 +46,7 @@ comparison_settings_by_config_and_files t places around sections entries = do
     ignores_submodules = may_ignore_submodules t places.root sections entries;
   })
 
+-- the settings by all configurations that count for the work tree; one that cannot be read is refused
 unfoldable pub read_comparison_settings : Names → RepositoryPlaces → Surroundings → List IndexEntry → Result Settings GitRefusal
 read_comparison_settings t places around entries = do
   stack ← files_result_as_git_result (read_stack_of_work_tree t places around)

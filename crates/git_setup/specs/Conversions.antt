@@ -40,12 +40,14 @@ has_attributes_above_entry t root e = has_gitattributes_along_path t root (compo
 abbrev pub has_attributes_above_unless_same_parent : Names → List ℕ → IndexEntry → IndexEntry → Bool
 has_attributes_above_unless_same_parent t root before e = not (bytes_eq (parent_directory_of_entry before) (parent_directory_of_entry e)) && has_attributes_above_entry t root e
 
+-- the same of some entries behind one to which none leads: one look for each run of entries in one directory
 abbrev pub has_attributes_above_following_entries : Names → List ℕ → IndexEntry → List IndexEntry → Bool
 has_attributes_above_following_entries t root before [] = false
 has_attributes_above_following_entries t root before (e ∷ entries) = has_attributes_above_unless_same_parent t root before e || has_attributes_above_following_entries t root e entries
 
 -- ---- elsewhere
 
+-- something is at the path from a directory; where the directory is not known, nothing is
 abbrev pub exists_below_optional_directory : Names → Option (List ℕ) → List ℕ → Bool
 exists_below_optional_directory t None path = false
 exists_below_optional_directory t (Some directory) path = exists_in_work_tree t directory path
@@ -54,6 +56,7 @@ exists_below_optional_directory t (Some directory) path = exists_in_work_tree t 
 unfoldable pub has_attributes_in_config_home : Names → Option (List ℕ) → Bool
 has_attributes_in_config_home t directory = exists_below_optional_directory t directory (codes "git/attributes")
 
+-- `~/.config/git/attributes` is there, whether or not git would read it
 unfoldable pub has_attributes_in_home : Names → Option (List ℕ) → Bool
 has_attributes_in_home t directory = exists_below_optional_directory t directory (codes ".config/git/attributes")
 
@@ -67,6 +70,7 @@ has_user_attributes_file t around =
 unfoldable pub has_info_attributes : Names → List ℕ → Bool
 has_info_attributes t common = exists_in_work_tree t common (codes "info/attributes")
 
+-- `/etc/gitattributes`, which counts for all users, is there
 unfoldable pub has_system_attributes : Names → Bool
 has_system_attributes t = exists_in_work_tree t (codes "/etc") (codes "gitattributes")
 
@@ -75,6 +79,7 @@ abbrev pub has_attributes_outside_work_tree : Names → RepositoryPlaces → Sur
 has_attributes_outside_work_tree t places around =
     has_info_attributes t places.common || (has_system_attributes t || has_user_attributes_file t around)
 
+-- attributes may apply to some entry: a file of them is in the index, outside the work tree, or above an entry in it
 abbrev pub has_attributes_anywhere : Names → RepositoryPlaces → Surroundings → List IndexEntry → Bool
 has_attributes_anywhere t places around entries =
     list_any is_gitattributes_entry entries || (has_attributes_outside_work_tree t places around || list_any (has_attributes_above_entry t places.root) entries)

@@ -45,22 +45,26 @@ find_trusted_top_within_limits t owned around limits = do
   top ← places_result_as_git_result (nearest_top_within_limits limits t owned around.directory)
   files_result_as_git_result (require_trusted_top t owned around top)
 
--- that of the current directory; a variable that points git elsewhere is refused, before anything is asked
+-- that of the current directory, within the limits that the environment sets
 abbrev pub find_trusted_top : Names → OwnershipByPath → Surroundings → Result WorkTreeTop GitRefusal
 find_trusted_top t owned around = and_then (find_trusted_top_within_limits t owned around) (places_result_as_git_result (search_limits_of_surroundings t owned around))
 
+-- a variable that points git elsewhere, as `GIT_DIR` does, is refused by its name, whatever the search gives
 abbrev pub result_unless_variable_redirects_git : Option (List ℕ) → Result WorkTreeTop GitRefusal → Result WorkTreeTop GitRefusal
 result_unless_variable_redirects_git None given = given
 result_unless_variable_redirects_git (Some name) given = Err (errors.Elsewhere name)
 
+-- the nearest work tree that is the user's or safe; where `GIT_DIR`, `GIT_WORK_TREE` or such is set, a refusal
 abbrev pub find_top_unless_variable_redirects_git : Names → OwnershipByPath → Surroundings → Result WorkTreeTop GitRefusal
 find_top_unless_variable_redirects_git t owned around = result_unless_variable_redirects_git around.elsewhere (find_trusted_top t owned around)
 
 -- ---- what is asked
 
+-- the walk is to find what may be deleted, as for `git clean`
 abbrev pub is_for_deletion : SetupOptions → Bool
 is_for_deletion options = is_some options.for_deletion
 
+-- whether case counts in names is what `core.ignoreCase` says, whatever the caller has set
 abbrev pub options_with_ignore_case : SetupOptions → Bool → SetupOptions
 options_with_ignore_case options ignore_case = record options { ignore_case = ignore_case }
 
@@ -70,6 +74,7 @@ current_dir_if_deleting options directory = if is_for_deletion options then Some
 
 -- ---- the configurations that are read for submodules
 
+-- a configuration by its path without links; by the path as given where that leads nowhere
 abbrev pub config_by_real_path : Names → ConfiguredFile → ConfigFile
 config_by_real_path t file = (file.source, unwrap_or (real_path t file.path (codes "/")) file.path)
 
@@ -88,6 +93,7 @@ read_index_and_configurations t places around = do
   index ← index_with_present_entries_unskipped t places.root (path_of_index_file places.git) switches.looks_for_skipped entries
   Ok (record { stack = stack; switches = switches; index = index })
 
+-- what a setup has besides the index: rules behind all others, path specs, what a deletion spares, configurations
 abbrev pub pieces_from_rules_and_configs : Names → SetupOptions → List ConfiguredFile → RulesOutsideWorkTree → AskedSpecs → List (List ℕ) → Pieces
 pieces_from_rules_and_configs t options files rules specs worktrees =
     record { globals = combined_global_rules rules; specs = specs; worktrees = worktrees; configs = configs_if_submodules_requested t options files }
@@ -119,6 +125,7 @@ setup_parts_of_read_and_pieces read pieces =
       configs = pieces.configs;
     }
 
+-- all parts of a setup, once index and configurations are read; the first of the others that is refused ends it
 unfoldable pub read_remaining_setup_parts : Names → RepositoryPlaces → Surroundings → Asked → Read → Result Parts GitRefusal
 read_remaining_setup_parts t places around asked read = do
   pieces ← read_rules_specs_and_protected_paths t places around asked read
@@ -148,6 +155,7 @@ setup_of_request_and_parts git directory asked parts =
 abbrev pub current_prefix_in_work_tree : List ℕ → List ℕ → List ℕ
 current_prefix_in_work_tree root directory = unwrap_or (path_below_root root directory) []
 
+-- the setup, and what a command needs to print: the directory it runs in, each path spec alone, `core.quotePath`
 abbrev pub found_setup_from_places_and_parts : RepositoryPlaces → Surroundings → Asked → Parts → Found
 found_setup_from_places_and_parts places around asked parts =
     record {

@@ -22,12 +22,13 @@ use Rattle.git_setup.specs.declared.settings.Settings.{Settings}
 abbrev pub index_with_actual_skip_flags : Names → RepositoryPlaces → Bool → List IndexEntry → Result (List IndexEntry) GitRefusal
 index_with_actual_skip_flags t places looks entries = index_with_present_entries_unskipped t places.root (path_of_index_file places.git) looks entries
 
+-- the comparison at the top of these places: which entries, by which details, path specs and settings
 abbrev pub compared_of_fields : RepositoryPlaces → List IndexEntry → List Detail → List PathSpec → Settings → Compared
 compared_of_fields places index details specs settings = record { root = places.root; index = index; details = details; specs = specs; settings = settings }
 
 -- with the path specs that are asked for, and the directory from the top
-unfoldable pub comparison_setup_with_parsed_pathspecs : RepositoryPlaces → Surroundings → Bool → List (List ℕ) → List IndexEntry → List Detail → Settings → Result ComparedFrom GitRefusal
-comparison_setup_with_parsed_pathspecs places around prefers paths index details settings = do
+unfoldable pub parse_pathspecs_into_comparison_setup : RepositoryPlaces → Surroundings → Bool → List (List ℕ) → List IndexEntry → List Detail → Settings → Result ComparedFrom GitRefusal
+parse_pathspecs_into_comparison_setup places around prefers paths index details settings = do
   specs ← parse_pathspec_arguments prefers false places.root around.directory paths
   Ok (record {
     compared = compared_of_fields places index details specs.all settings;
@@ -41,4 +42,4 @@ read_comparison_setup_from_directory t places around prefers paths = do
   indexed ← read_index_and_details_of_git_dir t places.git
   settings ← read_comparison_settings t places around indexed.entries
   index ← index_with_actual_skip_flags t places settings.looks_for_skipped indexed.entries
-  comparison_setup_with_parsed_pathspecs places around prefers paths index indexed.details settings
+  parse_pathspecs_into_comparison_setup places around prefers paths index indexed.details settings

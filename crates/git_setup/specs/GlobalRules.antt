@@ -9,6 +9,7 @@ abbrev pub lines_with_final_newline : List ℕ → List ℕ
 lines_with_final_newline [] = []
 lines_with_final_newline (b ∷ bytes) = if slice_index (b ∷ bytes) (length (b ∷ bytes) - 1) == 10 then b ∷ bytes else (b ∷ bytes) ++ 10 ∷ []
 
+-- the rules of a file, to which others may be appended; no bytes where there is no file
 abbrev pub text_of_optional_rules_file : Option RulesFile → List ℕ
 text_of_optional_rules_file None = []
 text_of_optional_rules_file (Some file) = lines_with_final_newline file.bytes

@@ -15,6 +15,7 @@ use Rattle.worktree_fs.specs.Tree.{Names, LookupResult, found, absent, too_many_
 abbrev pub ignore_value_may_skip_submodule : List ℕ → Bool
 ignore_value_may_skip_submodule value = not (bytes_eq value (codes "none") || (bytes_eq value (codes "untracked") || bytes_eq value (codes "dirty")))
 
+-- where `ignore` is not set, no submodule is left out
 abbrev pub optional_ignore_value_may_skip : Option (List ℕ) → Bool
 optional_ignore_value_may_skip None = false
 optional_ignore_value_may_skip (Some value) = ignore_value_may_skip_submodule value
@@ -23,9 +24,11 @@ optional_ignore_value_may_skip (Some value) = ignore_value_may_skip_submodule va
 abbrev pub section_may_skip_submodule : Section → Bool
 section_may_skip_submodule section = optional_ignore_value_may_skip (last_value_in_section (codes "ignore") section)
 
+-- where values of a `.gitmodules` come from; its path is not kept
 abbrev pub metadata_of_gitmodules : Metadata
 metadata_of_gitmodules = record { source = Modules; path = None }
 
+-- a section may leave its submodule out; where the text has a fault of syntax, that cannot be told, and any may be
 abbrev parsed_gitmodules_may_skip : Result (List Section) ℕ → Bool
 parsed_gitmodules_may_skip (Ok sections) = list_any section_may_skip_submodule sections
 parsed_gitmodules_may_skip (Err line) = true
@@ -43,6 +46,7 @@ gitmodules_file_may_skip (found other) = true
 gitmodules_file_may_skip absent = true
 gitmodules_file_may_skip too_many_links = true
 
+-- `.gitmodules` is in conflict: the entry has a stage above 0
 abbrev pub is_unmerged_gitmodules_entry : IndexEntry → Bool
 is_unmerged_gitmodules_entry e = not (e.stage == 0) && bytes_eq e.path (codes ".gitmodules")
 

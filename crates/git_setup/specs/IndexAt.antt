@@ -1,7 +1,7 @@
 -- The index file of a work tree.
 use Rattle.std.specs.Prelude.{ℕ, List, [], true, codes, Result, Ok, Err}
 use Rattle.gitbase_core.specs.declared.entry.IndexEntry.{IndexEntry}
-use Rattle.git_index.specs.IndexFile.{IndexFileContents, index_of_file_bytes}
+use Rattle.git_index.specs.IndexFile.{IndexFileContents, parse_index_file_bytes}
 use Rattle.worktree_fs.specs.Changes.{resolve_path_from_directory}
 use Rattle.worktree_fs.specs.Tree.{Names, LookupResult, found, absent, too_many_links, file, link, directory, other, look}
 use Rattle.git_setup.specs.Refusals.{index_result_as_git_result}
@@ -13,12 +13,13 @@ use Rattle.git_setup.specs.declared.error.GitRefusal.TheVariants as errors
 abbrev pub path_of_index_file : List ℕ → List ℕ
 path_of_index_file git = resolve_path_from_directory (codes "index") git
 
+-- the entries alone, without the details that the file has beside them
 abbrev pub entries_of_index_file : IndexFileContents → Result (List IndexEntry) GitRefusal
 entries_of_index_file index = Ok index.entries
 
 -- the entries in the bytes of a file
 abbrev pub parse_index_entries : List ℕ → List ℕ → Result (List IndexEntry) GitRefusal
-parse_index_entries path bytes = and_then entries_of_index_file (index_result_as_git_result path (index_of_file_bytes bytes))
+parse_index_entries path bytes = and_then entries_of_index_file (index_result_as_git_result path (parse_index_file_bytes bytes))
 
 -- the entries of the file that a path leads to; where nothing is there, there are none. What is there and is no file is refused, and an
 -- endless link

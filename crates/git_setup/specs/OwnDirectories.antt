@@ -12,6 +12,7 @@ use Rattle.git_setup.specs.declared.own_directories.OwnDirectories.{OwnDirectori
 abbrev pub is_below_top_not_dot_git : List ℕ → Bool
 is_below_top_not_dot_git path = not (is_empty path) && not (is_dot_git_ignoring_case (basename path))
 
+-- the path, if a deletion could take it: none for the top, and for the name `.git` in any letters
 abbrev pub relative_path_below_top_unless_dot_git : Option (List ℕ) → Option (List ℕ)
 relative_path_below_top_unless_dot_git None = None
 relative_path_below_top_unless_dot_git (Some path) = if is_below_top_not_dot_git path then Some path else None
@@ -25,6 +26,7 @@ abbrev pub git_dirs_needing_protection : Names → RepositoryPlaces → OwnDirec
 git_dirs_needing_protection t places =
     record { git = relative_path_below_top_unless_dot_git (real_path_below_top t places.root places.git); common = relative_path_below_top_unless_dot_git (real_path_below_top t places.root places.common) }
 
+-- nothing to spare: no git directory lies where a deletion could take it
 abbrev pub no_own_directories : OwnDirectories
 no_own_directories = record { git = None; common = None }
 

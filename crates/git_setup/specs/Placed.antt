@@ -12,6 +12,7 @@ use Rattle.git_setup.specs.declared.error.GitRefusal.{GitRefusal}
 use Rattle.git_setup.specs.declared.error.GitRefusal.TheVariants as errors
 use Rattle.git_setup.specs.declared.placed.SpecText.{SpecText}
 
+-- a magic word is one of these, byte for byte: `Top` is not `top`
 abbrev pub has_word : List ℕ → List (List ℕ) → Bool
 has_word word words = list_any (λ said. bytes_eq said word) words
 
@@ -23,6 +24,7 @@ parse_pathspec_without_magic path = record { front = codes "::"; path = path; is
 abbrev pub pathspec_text_left_unchanged : List ℕ → SpecText
 pathspec_text_left_unchanged text = record { front = []; path = text; is_top = true; is_literal = false; folds = false; excludes = false }
 
+-- a spec as `:(top,icase)a*`: the words stay in front of it, and tell how its path is placed
 abbrev pub spec_text_by_magic_words : List ℕ → List ℕ → SpecText
 spec_text_by_magic_words inside path =
     record {
@@ -38,6 +40,7 @@ spec_text_by_magic_words inside path =
 abbrev pub parse_long_magic_pathspec : List ℕ → SpecText
 parse_long_magic_pathspec rest = if list_any is_closing_parenthesis rest then spec_text_by_magic_words (before_first is_closing_parenthesis rest) (after_first is_closing_parenthesis rest) else pathspec_text_left_unchanged (codes ":(" ++ rest)
 
+-- a spec as `:/!a*`: `/` means `top`, `!` and `^` mean `exclude`; a colon ends the marks, written or not
 abbrev pub spec_text_by_magic_marks : List ℕ → List ℕ → SpecText
 spec_text_by_magic_marks marks path =
     record {
@@ -53,6 +56,7 @@ spec_text_by_magic_marks marks path =
 abbrev pub parse_short_magic_pathspec : List ℕ → SpecText
 parse_short_magic_pathspec rest = spec_text_by_magic_marks (take_while is_short_magic_mark rest) (strip_leading_byte colon (drop (prefix_len is_short_magic_mark rest) rest)).1
 
+-- by what stands behind the first colon: `(` begins the long form, anything else is of the short one
 abbrev pub parse_magic_pathspec : List ℕ → SpecText
 parse_magic_pathspec [] = parse_short_magic_pathspec []
 parse_magic_pathspec (b ∷ rest) = if b == open_parenthesis then parse_long_magic_pathspec rest else parse_short_magic_pathspec (b ∷ rest)
@@ -73,6 +77,7 @@ abbrev pub normalized_or_same_keeping_slash : List ℕ → Option (List ℕ) →
 normalized_or_same_keeping_slash path None = path
 normalized_or_same_keeping_slash path (Some normal) = if ends_in_slash path then path_with_trailing_slash normal else normal
 
+-- for example `/a/./b/../c/` is `/a/c/`
 abbrev pub normalized_path_keeping_slash : List ℕ → List ℕ
 normalized_path_keeping_slash path = normalized_or_same_keeping_slash path (normalized path)
 
@@ -94,6 +99,7 @@ spec_path_from_top root text prefix p =
     else if is_absolute p.path then ok_or (path_below_root root (normalized_path_keeping_slash p.path)) (errors.OutsidePath text)
     else relative_spec_path_from_top text prefix p
 
+-- the magic, and behind it the path from the top; a spec that cannot be placed is refused by its text
 abbrev pub spec_text_from_top : List ℕ → List ℕ → List ℕ → SpecText → Result (List ℕ) GitRefusal
 spec_text_from_top root text prefix p = and_then (λ path. Ok (p.front ++ path)) (spec_path_from_top root text prefix p)
 

@@ -10,9 +10,11 @@ use Rattle.git_setup.specs.declared.own_directories.OwnDirectories.{OwnDirectori
 use Rattle.git_setup.specs.declared.error.GitRefusal.{GitRefusal}
 use Rattle.git_setup.specs.declared.error.GitRefusal.TheVariants as errors
 
+-- the paths, and those of the submodules among the entries, which a deletion spares too
 abbrev pub paths_with_submodules : List (List ℕ) → List IndexEntry → List (List ℕ)
 paths_with_submodules paths entries = insert_paths_in_order paths (map (λ (e : IndexEntry). e.path) (filter is_submodule_entry entries))
 
+-- the paths with one more in its place by bytes; the same where there is none
 abbrev pub paths_with_optional_path : List (List ℕ) → Option (List ℕ) → List (List ℕ)
 paths_with_optional_path paths None = paths
 paths_with_optional_path paths (Some path) = insert_key (slice_cmp nat_cmp) paths path
@@ -21,6 +23,7 @@ paths_with_optional_path paths (Some path) = insert_key (slice_cmp nat_cmp) path
 abbrev pub paths_of_git_dirs_and_submodules : OwnDirectories → List IndexEntry → List (List ℕ)
 paths_of_git_dirs_and_submodules own entries = paths_with_submodules (paths_with_optional_path (paths_with_optional_path [] own.git) own.common) entries
 
+-- the paths stand, unless case does not count and there is a submodule: then its path is refused
 abbrev pub refuse_submodule_if_ignoring_case : Bool → Option IndexEntry → List (List ℕ) → Result (List (List ℕ)) GitRefusal
 refuse_submodule_if_ignoring_case folds None paths = Ok paths
 refuse_submodule_if_ignoring_case folds (Some e) paths = if folds then Err (errors.SubmoduleCase e.path) else Ok paths

@@ -39,6 +39,7 @@ git_refusal_of_places_error (places.NoWorkTree path) = errors.Places (places.NoW
 git_refusal_of_places_error places.Fault = errors.Fault
 git_refusal_of_places_error places.OutOfMemory = errors.OutOfMemory
 
+-- what was found, or the refusal of the search with its cause kept
 abbrev pub places_result_as_git_result : {A : Type 0} → Result A PlacesError → Result A GitRefusal
 places_result_as_git_result answer = map_error git_refusal_of_places_error answer
 
@@ -57,6 +58,7 @@ git_refusal_of_files_error (files.Elsewhere name) = errors.Elsewhere name
 git_refusal_of_files_error files.Fault = errors.Fault
 git_refusal_of_files_error files.OutOfMemory = errors.OutOfMemory
 
+-- what was read, or the refusal: `Foreign` for a work tree of another user, `Elsewhere` for a variable, else the cause
 abbrev pub files_result_as_git_result : {A : Type 0} → Result A FilesError → Result A GitRefusal
 files_result_as_git_result answer = map_error git_refusal_of_files_error answer
 
@@ -73,6 +75,7 @@ git_refusal_of_index_file_error path (index.Unknown name) = errors.IndexFile pat
 git_refusal_of_index_file_error path (index.Directory at) = errors.IndexFile path (index.Directory at)
 git_refusal_of_index_file_error path index.OutOfMemory = errors.OutOfMemory
 
+-- what the index file says, or its refusal with the path of the file; want of memory goes without
 abbrev pub index_result_as_git_result : List ℕ → Result IndexFileContents IndexFileError → Result IndexFileContents GitRefusal
 index_result_as_git_result path (Ok read) = Ok read
 index_result_as_git_result path (Err e) = Err (git_refusal_of_index_file_error path e)

@@ -4,7 +4,7 @@ use Rattle.gitbase_core.specs.Steps.{and_then}
 use Rattle.gitbase_core.specs.Text.{eq_ignore_case}
 use Rattle.git_config_lite.specs.Lookups.{last_boolean_value, last_string_value}
 use Rattle.git_config_lite.specs.Sections.{Section}
-use Rattle.git_places.specs.Format.{file_of_last_key_value}
+use Rattle.git_places.specs.Format.{file_of_last_section_with_key}
 use Rattle.git_setup.specs.Steps.{◌>>=◌}
 use Rattle.git_setup.specs.Switches.{read_boolean_or_default}
 use Rattle.git_setup.specs.declared.error.GitRefusal.{GitRefusal}
@@ -18,16 +18,19 @@ parse_check_stat value =
     else if eq_ignore_case value (codes "minimal") then Some false
     else None
 
+-- a value that is neither of the two is refused by the file that sets it
 abbrev parsed_check_stat_or_refusal : Option (List ℕ) → Option Bool → Result Bool GitRefusal
 parsed_check_stat_or_refusal file (Some checks) = Ok checks
 parsed_check_stat_or_refusal file None = Err (errors.Boolean file (codes "core.checkStat"))
 
+-- `default`, which is true, where the key is not set
 abbrev check_stat_of_optional_value : Option (List ℕ) → Option (List ℕ) → Result Bool GitRefusal
 check_stat_of_optional_value file None = Ok true
 check_stat_of_optional_value file (Some value) = parsed_check_stat_or_refusal file (parse_check_stat value)
 
+-- whether all of a file's stat counts, and not only what `minimal` names; the last value wins
 abbrev pub read_check_stat : List Section → Result Bool GitRefusal
-read_check_stat sections = check_stat_of_optional_value (file_of_last_key_value (codes "core") (codes "checkstat") sections) (last_string_value (codes "core") None (codes "checkstat") sections)
+read_check_stat sections = check_stat_of_optional_value (file_of_last_section_with_key (codes "core") (codes "checkstat") sections) (last_string_value (codes "core") None (codes "checkstat") sections)
 
 -- each of `core.fileMode`, `core.symlinks` and `core.trustctime` is usually true
 unfoldable pub read_stat_and_mode_settings : List Section → Result NodeSettings GitRefusal
@@ -40,6 +43,7 @@ read_stat_and_mode_settings sections = do
 
 -- ---- a program that tells what changed
 
+-- true, or a text that is no boolean and so names a hook; not where the key is not set
 abbrev is_fsmonitor_value_not_false : Result (Option Bool) (List ℕ) → Bool
 is_fsmonitor_value_not_false (Ok None) = false
 is_fsmonitor_value_not_false (Ok (Some watched)) = watched
@@ -56,9 +60,11 @@ stat_and_mode_settings_unless_fsmonitor sections = if has_fsmonitor sections the
 
 -- ---- conversions
 
+-- a `[core]` section without a subsection has the key, whatever its value, and also where it has none
 abbrev pub has_core_key : List ℕ → List Section → Bool
 has_core_key key sections = is_some (last_string_value (codes "core") None key sections)
 
+-- the value is `input`, in any letters: line ends change on the way into the index alone
 abbrev pub is_autocrlf_input : Option (List ℕ) → Bool
 is_autocrlf_input None = false
 is_autocrlf_input (Some value) = eq_ignore_case value (codes "input")

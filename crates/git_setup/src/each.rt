@@ -11,7 +11,7 @@ use std::marker::Model;
 pub struct AskedSpec {
     /// What tells of it: the text that was asked for; for the current directory where it stands for
     /// none, its path from the top and a slash; and for the current directory behind specs that
-    /// exclude, no bytes.
+    /// exclude, a dot.
     pub text: Bytes,
     /// The path spec alone, from the top of the work tree.
     pub spec: Search,

@@ -47,8 +47,8 @@ fn index_with_actual_skip_flags<W: Worktree>(
 }
 
 /// What is compared, with the path specs and the directory.
-#[tactic(auto, unfolding(crate::specs::FromDirectory::comparison_setup_with_parsed_pathspecs))]
-fn comparison_setup_with_parsed_pathspecs(
+#[tactic(auto, unfolding(crate::specs::FromDirectory::parse_pathspecs_into_comparison_setup))]
+fn parse_pathspecs_into_comparison_setup(
     alloc: Global,
     places: &Places,
     around: &Surroundings,
@@ -58,7 +58,7 @@ fn comparison_setup_with_parsed_pathspecs(
     details: Details,
     settings: Settings,
 ) -> Result<ComparedFrom, GitRefusal>
-    ensures { IsFoundOrRefusesMemory result (words.comparison_setup_with_parsed_pathspecs places.now
+    ensures { IsFoundOrRefusesMemory result (words.parse_pathspecs_into_comparison_setup places.now
         around.now prefers paths.now index details settings) }
 {
     let top = places.root.as_bytes();
@@ -128,7 +128,7 @@ pub fn read_comparison_setup_from_directory<W: Worktree>(
     let Indexed { entries, details } = indexed;
     let looks = settings.looks_for_skipped;
     let index = index_with_actual_skip_flags(alloc, worktree, places, looks, entries)?;
-    comparison_setup_with_parsed_pathspecs(
+    parse_pathspecs_into_comparison_setup(
         alloc, places, around, prefers, paths, index, details, settings,
     )
 }

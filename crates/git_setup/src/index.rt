@@ -1,6 +1,6 @@
 //! The index file of a work tree.
 ghost use Rattle.std.specs.Prelude.{◌≡◌, true, IfOk};
-ghost use Rattle.git_index.specs.IndexFile.{index_of_file_bytes};
+ghost use Rattle.git_index.specs.IndexFile.{parse_index_file_bytes};
 ghost use Rattle.worktree_fs.specs.Tree.{look};
 ghost use Rattle.git_setup.specs.Finds.{IsFoundOrRefusesMemory, FindsOverToldTree};
 ghost use Rattle.git_setup.specs.IndexAt as words;
@@ -40,7 +40,7 @@ fn refusal_of_index_file_error(
 /// What the bytes of an index file say.
 pub fn parse_index_file(alloc: Global, path: &[u8], bytes: &[u8]) -> Result<IndexFile, GitRefusal>
     ensures { IsFoundOrRefusesMemory result (index_result_as_git_result path.now
-        (index_of_file_bytes bytes.now)) }
+        (parse_index_file_bytes bytes.now)) }
 {
     match read_index(alloc, bytes) {
         Ok(file) => Ok(file),

@@ -112,8 +112,8 @@ fn lies_beneath_known_absent_directory(last: &Option<Looked>, path: &[u8]) -> bo
 }
 
 /// Whether a directory is known to be there.
-fn is_known_present_directory(last: &Option<Looked>, directory: &[u8]) -> bool
-    ensures { result ≡ words.is_known_present_directory last.now directory.now }
+fn is_last_look_at_present_directory(last: &Option<Looked>, directory: &[u8]) -> bool
+    ensures { result ≡ words.is_last_look_at_present_directory last.now directory.now }
 {
     match last {
         None => false,
@@ -155,7 +155,7 @@ fn known_or_found_presence_of_parent<W: Worktree>(
     let Some(directory) = path.parent() else {
         return Ok(last);
     };
-    if is_empty_or_root_path(directory) || is_known_present_directory(&last, directory) {
+    if is_empty_or_root_path(directory) || is_last_look_at_present_directory(&last, directory) {
         return Ok(last);
     }
     let looked = presence_of_directory(alloc, worktree, root, directory)?;

@@ -6,7 +6,7 @@ ghost use Rattle.git_setup.specs.Settings as words;
 use crate::error::GitRefusal;
 use crate::switches::{read_boolean_or_default, refusal_of_invalid_config_value};
 use git_config_lite::File;
-use git_places::file_of_last_key_value;
+use git_places::file_of_last_section_with_key;
 use gitbase_core::{Bytes, OutOfMemory, eq_ignore_case};
 use std::alloc::Global;
 
@@ -61,7 +61,7 @@ fn read_check_stat(alloc: Global, config: &File) -> Result<bool, GitRefusal>
     match parse_check_stat(value) {
         Some(checks) => Ok(checks),
         None => {
-            let file = file_of_last_key_value(config, b"core", b"checkstat");
+            let file = file_of_last_section_with_key(config, b"core", b"checkstat");
             Err(refusal_of_invalid_config_value(alloc, file, b"core.checkStat")?)
         }
     }

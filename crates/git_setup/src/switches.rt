@@ -6,7 +6,7 @@ ghost use Rattle.git_setup.specs.Switches as words;
 
 use crate::error::GitRefusal;
 use git_config_lite::File;
-use git_places::{copy_optional_path, file_of_last_key_value};
+use git_places::{copy_optional_path, file_of_last_section_with_key};
 use gitbase_core::{Bytes, OutOfMemory, PathText};
 use std::alloc::Global;
 
@@ -54,7 +54,7 @@ pub fn read_boolean_or_default(
         Ok(None) => Ok(usual),
         Err(_) => Err(refusal_of_invalid_config_value(
             alloc,
-            file_of_last_key_value(config, section, key),
+            file_of_last_section_with_key(config, section, key),
             name,
         )?),
     }

@@ -47,7 +47,7 @@ fn append_entry_record(text: &mut Vec<u8>, alloc: Global, entry: &IndexEntry) ->
 }
 
 /// Adds what the file says of an entry besides.
-fn append_stat_record(
+fn append_stat_and_flags(
     text: &mut Vec<u8>,
     alloc: Global,
     detail: &Detail,
@@ -74,7 +74,7 @@ fn records_of_all_entries(alloc: Global, state: &State, details: &[Detail]) -> i
     let mut text = Vec::new(alloc);
     for (entry, detail) in state.entries().iter().zip(details) {
         append_entry_record(&mut text, alloc, entry)?;
-        append_stat_record(&mut text, alloc, detail, has_skip_worktree_flag(entry))?;
+        append_stat_and_flags(&mut text, alloc, detail, has_skip_worktree_flag(entry))?;
     }
     Ok(text)
 }

@@ -8,7 +8,7 @@ use Rattle.worktree_fs.specs.Kept.{KeepsTreeAndListCounts}
 use Rattle.diff_files.specs.declared.comparison.Comparison.{Comparison}
 use Rattle.diff_files.specs.declared.stats.Stats.{Ghosts as StatsOf}
 use Rattle.diff_files.specs.KeptStats.{KeepsToldStats, KeepsFaultCounts, TreeAndStats, Tells}
-use Rattle.ls_files.specs.declared.standings.Standings.{Standings}
+use Rattle.ls_files.specs.declared.standings.DeletedModifiedChoice.{DeletedModifiedChoice}
 use Rattle.ls_files.specs.declared.options.Listing.{Listing}
 use Rattle.ls_files.specs.declared.options.NamedSpec.{NamedSpec}
 use Rattle.ls_files.specs.Changed.{shown_entries_after_path_or_unsupported}
@@ -16,7 +16,7 @@ use Rattle.ls_files.specs.Places.{EntryAsKeptGoneOrModified}
 
 -- what was shown, with what is shown of the entries that are left, is what is shown of all
 pub record IsAlong {W S : Type 0} (w : WorktreeOf W) (s : StatsOf S) (w0 w1 : W) (s0 s1 : S) (root : List ℕ) (entries : List IndexEntry)
-    (details : List Detail) (o : Comparison) (asked : Standings) (l : Listing) (named : List NamedSpec) (specs : List PathSpec) (shown : List EntryAsKeptGoneOrModified)
+    (details : List Detail) (o : Comparison) (asked : DeletedModifiedChoice) (l : Listing) (named : List NamedSpec) (specs : List PathSpec) (shown : List EntryAsKeptGoneOrModified)
     (last : Option (List ℕ)) (entries_left : List IndexEntry) (details_left : List Detail) : Type 0 where
   pub worktree : KeepsTreeAndListCounts w w0 w1
   pub stats : KeepsToldStats s s0 s1

@@ -17,6 +17,7 @@ do_specs_match_path specs path is_dir = is_including_match (match_of_path_by_spe
 abbrev pub is_submodule_or_sparse_directory : IndexEntry → Bool
 is_submodule_or_sparse_directory e = mode_bits e.mode == gitlink_mode || mode_bits e.mode == sparse_directory_mode
 
+-- the path specs match an entry by what the index has there, not by what stands in the work tree
 abbrev pub do_specs_match_index_entry : List PathSpec → IndexEntry → Bool
 do_specs_match_index_entry specs e = do_specs_match_path specs e.path (is_submodule_or_sparse_directory e)
 
@@ -24,6 +25,7 @@ do_specs_match_index_entry specs e = do_specs_match_path specs e.path (is_submod
 abbrev pub index_line_if_specs_match : Listing → List ℕ → List PathSpec → IndexEntry → List ℕ
 index_line_if_specs_match l prefix specs e = if do_specs_match_index_entry specs e then line_of_index_entry l prefix e else []
 
+-- the lines of those entries that the path specs match, in their order
 abbrev pub lines_of_matched_entries : Listing → List ℕ → List PathSpec → List IndexEntry → List ℕ
 lines_of_matched_entries l prefix specs entries = flat_map (index_line_if_specs_match l prefix specs) entries
 

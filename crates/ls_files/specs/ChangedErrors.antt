@@ -6,6 +6,7 @@ use Rattle.worktree_fs.specs.declared.answers.ReadError.TheVariants as reads
 use Rattle.ls_files.specs.declared.changed_error.ChangedError.{ChangedError}
 use Rattle.ls_files.specs.declared.changed_error.ChangedError.TheVariants as errors
 
+-- the refusal that a refused look at the worktree is
 abbrev pub changed_error_of_read_error : ReadError → ChangedError
 changed_error_of_read_error reads.Fault = errors.Fault
 changed_error_of_read_error reads.OutOfMemory = errors.OutOfMemory

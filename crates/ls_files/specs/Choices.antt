@@ -22,6 +22,7 @@ uses_per_directory_ignore_rules l = l.excludes_standard || l.excludes_directorie
 abbrev pub has_no_listing_option : Listing → Bool
 has_no_listing_option l = not (lists_stages l || needs_worktree_walk l)
 
+-- entries of an index are shown: by `-c`, `-s` or `-u`, or since no option chooses anything else
 abbrev pub lists_index_entries : Listing → Bool
 lists_index_entries l = l.cached || (lists_stages l || has_no_listing_option l)
 
@@ -29,6 +30,7 @@ lists_index_entries l = l.cached || (lists_stages l || has_no_listing_option l)
 abbrev pub passes_unmerged_option : Listing → IndexEntry → Bool
 passes_unmerged_option l e = not l.unmerged || is_unmerged_entry e
 
+-- the options choose an entry, whatever its path is
 abbrev pub is_index_entry_listed : Listing → IndexEntry → Bool
 is_index_entry_listed l e = lists_index_entries l && passes_unmerged_option l e
 
@@ -51,5 +53,6 @@ listed_entries_after_path l last [] = []
 listed_entries_after_path l last (e ∷ entries) =
     if is_entry_listed_after_path l last e then e ∷ listed_entries_after_path l (Some e.path) entries else listed_entries_after_path l last entries
 
+-- the entries of a whole index that the options choose; path specs are not asked yet
 abbrev pub listed_index_entries : Listing → List IndexEntry → List IndexEntry
 listed_index_entries l entries = listed_entries_after_path l None entries

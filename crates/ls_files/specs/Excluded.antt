@@ -33,7 +33,7 @@ use Rattle.ls_files.specs.declared.options.Listing.{Listing}
 use Rattle.ls_files.specs.declared.options.NamedSpec.{NamedSpec}
 use Rattle.ls_files.specs.declared.wrong.WrongListing.{WrongListing}
 use Rattle.ls_files.specs.declared.wrong.WrongListing.TheVariants as wrong
-use Rattle.ls_files.specs.Alone.{has_only_given_patterns, is_excluded, rules_from_setup_patterns}
+use Rattle.ls_files.specs.Alone.{has_patterns_without_standard_or_directory_rules, is_excluded, rules_from_setup_patterns}
 use Rattle.ls_files.specs.Choices.{needs_worktree_walk}
 use Rattle.ls_files.specs.Listed.{output_and_errors_of_all_listed}
 use Rattle.ls_files.specs.Wrong.{has_any_exclude_rules}
@@ -61,6 +61,7 @@ is_directory_node_kind (Some kinds.Symlink) = false
 is_directory_node_kind (Some kinds.Directory) = true
 is_directory_node_kind (Some kinds.Untrackable) = false
 
+-- a directory stands at a path from the top; links on the way to it are followed
 abbrev pub is_worktree_path_directory : Names → List ℕ → List ℕ → Bool
 is_worktree_path_directory t root path = is_directory_node_kind (kind_of_lookup (look t (path_joined_with_slash root path) false))
 
@@ -70,6 +71,7 @@ is_worktree_path_directory t root path = is_directory_node_kind (kind_of_lookup 
 abbrev pub are_rules_above_read : StackSetup → TreeAndObjects → List (List ℕ) → Bool
 are_rules_above_read made s names = list_all (λ directory. is_read_without_refusal (rules_texts_of_directory made s (slash_joined_components directory))) (all_prefixes_shortest_first (all_but_last names))
 
+-- a path can be looked up: it is relative without `.` and `..`, and every rules file above it is read
 abbrev pub is_path_normal_and_rules_read : StackSetup → TreeAndObjects → List ℕ → Bool
 is_path_normal_and_rules_read made s path = is_relative_without_dots path && are_rules_above_read made s (components path)
 
@@ -101,6 +103,7 @@ excluded_entries_appended t root setup made done (e ∷ entries) =
 abbrev pub do_patterns_exclude_entry : Names → List ℕ → List RulesList → Case → IndexEntry → Bool
 do_patterns_exclude_entry t root patterns case e = is_excluded patterns case (record { path = e.path; holds_names = is_worktree_path_directory t root e.path })
 
+-- those of some entries that patterns exclude, in their order
 abbrev pub entries_excluded_by_patterns : Names → List ℕ → List RulesList → Case → List IndexEntry → List IndexEntry
 entries_excluded_by_patterns t root patterns case entries = filter (do_patterns_exclude_entry t root patterns case) entries
 
@@ -110,7 +113,7 @@ entries_excluded_by_patterns t root patterns case entries = filter (do_patterns_
 -- whether it is that of a directory.
 abbrev pub excluded_entries_of_setup : Names → List ℕ → Setup → Listing → Result (List IndexEntry) ExcludedError
 excluded_entries_of_setup t root setup l =
-    if has_only_given_patterns l then Ok (entries_excluded_by_patterns t root (rules_from_setup_patterns setup) (case_by_ignore_case setup.options.ignore_case) setup.index)
+    if has_patterns_without_standard_or_directory_rules l then Ok (entries_excluded_by_patterns t root (rules_from_setup_patterns setup) (case_by_ignore_case setup.options.ignore_case) setup.index)
     else excluded_entries_appended t root setup (stack_setup_of_setup root setup) [] setup.index
 
 -- they are listed as an index that has these alone is
@@ -124,12 +127,14 @@ output_of_ignored_index_or_error t root setup l prefix named =
 
 -- ---- refused lookups
 
+-- a rules file that is a link, or no file, is not read; a fault stays one
 abbrev pub excluded_error_of_rules_file : RulesWhy → ExcludedError
 excluded_error_of_rules_file rules.Link = errors.Unread
 excluded_error_of_rules_file rules.LinkLimit = errors.Unread
 excluded_error_of_rules_file rules.Special = errors.Unread
 excluded_error_of_rules_file rules.Fault = errors.Fault
 
+-- the same of rules that the index has: an object that is missing or no blob is not read
 abbrev pub excluded_error_of_blob : BlobWhy → ExcludedError
 excluded_error_of_blob blobs.Missing = errors.Unread
 excluded_error_of_blob blobs.NotABlob = errors.Unread

@@ -16,7 +16,7 @@ use Rattle.worktree_report.specs.declared.report.ReportEntry.{ReportEntry}
 use Rattle.worktree_report.specs.declared.setup.Setup.{Setup}
 use Rattle.worktree_stack.specs.Mappings.{case_by_ignore_case}
 use Rattle.ls_files.specs.declared.options.Listing.{Listing}
-use Rattle.ls_files.specs.Alone.{has_only_given_patterns, is_excluded, rules_from_setup_patterns}
+use Rattle.ls_files.specs.Alone.{has_patterns_without_standard_or_directory_rules, is_excluded, rules_from_setup_patterns}
 use Rattle.ls_files.specs.Others.{directories_above_path, directory_place_of_path, has_index_entry_beneath, is_kind_listed, is_untracked_status, name, name_of_place_unless_indexed, place_of_report_entry, lists_empty_directories, prepend_name_if_some}
 use Rattle.ls_files.specs.Places.{PlaceWithIgnoredFlag, PathWithDirectoryFlag}
 
@@ -27,9 +27,10 @@ has_ignored_and_directories_options l = l.ignored && l.directories
 -- ---- what is ignored
 
 -- the patterns of the command line where the walk asks no rules, else none
-abbrev pub given_patterns_if_only_rules : Listing → Setup → List RulesList
-given_patterns_if_only_rules l setup = if has_only_given_patterns l then rules_from_setup_patterns setup else []
+abbrev pub given_patterns_if_no_other_rules : Listing → Setup → List RulesList
+given_patterns_if_no_other_rules l setup = if has_patterns_without_standard_or_directory_rules l then rules_from_setup_patterns setup else []
 
+-- an ignore rule excludes it, of either kind
 abbrev pub is_ignored_status : Status → Bool
 is_ignored_status (Ignored kind) = true
 is_ignored_status Untracked = false
@@ -54,14 +55,17 @@ highest_excluded_unindexed_directory patterns case entries path = find (is_direc
 
 -- where directories without files are not shown, it matters what lies in it
 abbrev pub stops_at_excluded_directories : Listing → Bool
-stops_at_excluded_directories l = lists_empty_directories l && has_only_given_patterns l
+stops_at_excluded_directories l = lists_empty_directories l && has_patterns_without_standard_or_directory_rules l
 
+-- the directory above a path that git shows without a look into it; none with `--no-empty-directory` or rules of directories
 abbrev pub excluded_directory_standing_for : Listing → List RulesList → Case → List IndexEntry → List ℕ → Option (List ℕ)
 excluded_directory_standing_for l patterns case entries path = if stops_at_excluded_directories l then highest_excluded_unindexed_directory patterns case entries path else None
 
+-- an entry is ignored where the walk found it so, and where patterns exclude it
 abbrev pub entry_place_with_ignored_flag : List RulesList → Case → Entry → PlaceWithIgnoredFlag
 entry_place_with_ignored_flag patterns case e = record { place = place_of_report_entry e; ignored = is_ignored_status e.status || is_excluded patterns case (place_of_report_entry e) }
 
+-- the same of an entry that may be shown, and none of any other
 abbrev pub flagged_entry_place_if_listable : Listing → List RulesList → Case → Entry → Option PlaceWithIgnoredFlag
 flagged_entry_place_if_listable l patterns case e = if is_listable_untracked_or_ignored l e then Some (entry_place_with_ignored_flag patterns case e) else None
 
@@ -74,6 +78,7 @@ given_directory_or_flagged_entry l patterns case e (Some d) = Some (record { pla
 abbrev pub excluded_directory_or_flagged_entry : Listing → List RulesList → Case → List IndexEntry → Entry → Option PlaceWithIgnoredFlag
 excluded_directory_or_flagged_entry l patterns case entries e = given_directory_or_flagged_entry l patterns case e (excluded_directory_standing_for l patterns case entries e.rela_path)
 
+-- what an entry comes to, in front of the others; one that comes to nothing adds none
 abbrev pub prepend_flagged_place_if_some : Option PlaceWithIgnoredFlag → List PlaceWithIgnoredFlag → List PlaceWithIgnoredFlag
 prepend_flagged_place_if_some None more = more
 prepend_flagged_place_if_some (Some j) more = j ∷ more
@@ -89,6 +94,7 @@ places_with_ignored_flag l patterns case entries (e ∷ found) = prepend_flagged
 abbrev pub insert_directories_above_unless_ignored : List (List ℕ) → PlaceWithIgnoredFlag → List (List ℕ)
 insert_directories_above_unless_ignored mixed j = if j.ignored then mixed else insert_paths_in_order mixed (directories_above_path j.place.path)
 
+-- the same of some places, one by one
 abbrev pub insert_directories_of_all_unignored : List (List ℕ) → List PlaceWithIgnoredFlag → List (List ℕ)
 insert_directories_of_all_unignored mixed [] = mixed
 insert_directories_of_all_unignored mixed (j ∷ all) = insert_directories_of_all_unignored (insert_directories_above_unless_ignored mixed j) all
@@ -107,6 +113,7 @@ is_wholly_ignored entries mixed d = not (has_index_entry_beneath entries (name (
 abbrev pub insert_name_unless_indexed : List IndexEntry → List (List ℕ) → PathWithDirectoryFlag → List (List ℕ)
 insert_name_unless_indexed entries names place = insert_paths_in_order names (prepend_name_if_some (name_of_place_unless_indexed entries place) [])
 
+-- the same with the name of a directory, if all that it holds is ignored
 abbrev pub insert_if_wholly_ignored : List IndexEntry → List (List ℕ) → List (List ℕ) → List ℕ → List (List ℕ)
 insert_if_wholly_ignored entries mixed names d = if is_wholly_ignored entries mixed d then insert_name_unless_indexed entries names (directory_place_of_path d) else names
 
@@ -123,6 +130,7 @@ insert_place_and_wholly_ignored entries mixed names place = insert_wholly_ignore
 abbrev pub is_directory_unindexed : List IndexEntry → List ℕ → Bool
 is_directory_unindexed entries d = not (has_index_entry_beneath entries (name (directory_place_of_path d)))
 
+-- the directory that ends before a byte of a path is such a one
 abbrev pub is_unindexed_directory_ending_at : List IndexEntry → List ℕ → ℕ → Bool
 is_unindexed_directory_ending_at entries path at = is_slash (slice_index path at) && is_directory_unindexed entries (take at path)
 
@@ -135,22 +143,26 @@ abbrev pub insert_unindexed_directory_or_place : List IndexEntry → List (List 
 insert_unindexed_directory_or_place entries mixed names place None = insert_name_unless_indexed entries names place
 insert_unindexed_directory_or_place entries mixed names place (Some d) = insert_if_wholly_ignored entries mixed names d
 
+-- what one ignored place adds; with `--no-empty-directory` that is one name at most
 abbrev pub insert_ignored_place_or_directories : Listing → List IndexEntry → List (List ℕ) → List (List ℕ) → PathWithDirectoryFlag → List (List ℕ)
 insert_ignored_place_or_directories l entries mixed names place =
     if lists_empty_directories l then insert_place_and_wholly_ignored entries mixed names place
     else insert_unindexed_directory_or_place entries mixed names place (highest_unindexed_directory_above entries place.path)
 
+-- the same of any place: what is not ignored adds none
 abbrev pub insert_names_if_ignored : Listing → List IndexEntry → List (List ℕ) → List (List ℕ) → PlaceWithIgnoredFlag → List (List ℕ)
 insert_names_if_ignored l entries mixed names j = if j.ignored then insert_ignored_place_or_directories l entries mixed names j.place else names
 
+-- the same of all places, one by one
 abbrev pub insert_names_for_all_ignored : Listing → List IndexEntry → List (List ℕ) → List (List ℕ) → List PlaceWithIgnoredFlag → List (List ℕ)
 insert_names_for_all_ignored l entries mixed names [] = names
 insert_names_for_all_ignored l entries mixed names (j ∷ all) = insert_names_for_all_ignored l entries mixed (insert_names_if_ignored l entries mixed names j) all
 
+-- what is shown of all places, once it is known which directories hold something that is not ignored
 abbrev pub names_of_ignored_places : Listing → List IndexEntry → List PlaceWithIgnoredFlag → List (List ℕ)
 names_of_ignored_places l entries all = insert_names_for_all_ignored l entries (directories_with_unignored all) [] all
 
 -- what is shown of the entries of a report, in the order of their bytes, each once
 unfoldable pub names_of_ignored_with_directories : Listing → Setup → List ReportEntry → List (List ℕ)
 names_of_ignored_with_directories l setup found =
-    names_of_ignored_places l setup.index (places_with_ignored_flag l (given_patterns_if_only_rules l setup) (case_by_ignore_case setup.options.ignore_case) setup.index found)
+    names_of_ignored_places l setup.index (places_with_ignored_flag l (given_patterns_if_no_other_rules l setup) (case_by_ignore_case setup.options.ignore_case) setup.index found)

@@ -18,6 +18,7 @@ use Rattle.ls_files.specs.Places.{PathWithDirectoryFlag}
 
 -- ---- a directory in the place of a file
 
+-- there is an entry, and its path is not in conflict
 abbrev pub is_some_merged_entry : Option IndexEntry → Bool
 is_some_merged_entry None = false
 is_some_merged_entry (Some e) = not (is_unmerged_entry e)
@@ -41,6 +42,7 @@ abbrev pub entries_in_range : List IndexEntry → Option (ℕ × ℕ) → List I
 entries_in_range entries None = []
 entries_in_range entries (Some range) = take (range.1 - range.0) (drop range.0 entries)
 
+-- the same of a name: they stand side by side in an index
 abbrev pub entries_with_prefix : List IndexEntry → List ℕ → List IndexEntry
 entries_with_prefix entries name = entries_in_range entries (entry_range_with_path_prefix name entries)
 
@@ -62,6 +64,7 @@ continues_with_slash name (Some e) = is_slash (slice_index e.path (length name))
 abbrev pub is_next_merged_entry_beneath_name : List IndexEntry → List ℕ → Bool
 is_next_merged_entry_beneath_name entries name = continues_with_slash name (find_merged_entry_with_proper_prefix entries name)
 
+-- the same of a file: a name with a slash at its end is that of a directory already
 abbrev pub is_file_name_directory_in_index : List IndexEntry → List ℕ → Bool
 is_file_name_directory_in_index entries name = not (ends_in_slash name) && is_next_merged_entry_beneath_name entries name
 
@@ -88,9 +91,11 @@ index_has_every_directory_above entries name = list_all (index_has_path_or_benea
 abbrev pub lists_others_or_index_has_parents : Listing → List IndexEntry → List ℕ → Bool
 lists_others_or_index_has_parents l entries name = l.others || index_has_every_directory_above entries name
 
+-- git comes to what has a name, and it lies in the way
 abbrev pub is_name_reached_and_killed : Listing → List IndexEntry → List ℕ → Bool
 is_name_reached_and_killed l entries name = lists_others_or_index_has_parents l entries name && has_file_directory_conflict_in_index entries name
 
+-- the name of a place, if git comes to it and it lies in the way
 abbrev pub name_of_place_if_killed : Listing → List IndexEntry → PathWithDirectoryFlag → Option (List ℕ)
 name_of_place_if_killed l entries place = if is_name_reached_and_killed l entries (name place) then Some (name place) else None
 
@@ -98,13 +103,16 @@ name_of_place_if_killed l entries place = if is_name_reached_and_killed l entrie
 abbrev pub is_entry_examined_for_killed : Listing → List IndexEntry → Entry → Bool
 is_entry_examined_for_killed l entries e = lists_empty_directories l || lists_others_or_index_has_parents l entries (name (place_of_report_entry e))
 
+-- the name of what is shown for an entry, if that lies in the way; it may be a directory above the entry
 abbrev pub killed_name_of_shown_place : Listing → List IndexEntry → List PathSpec → List NamedSpec → Entry → Option (List ℕ)
 killed_name_of_shown_place l entries specs all e = option_and_then (name_of_place_if_killed l entries) (place_listed_for_entry l entries specs all e)
 
+-- the same of an entry, unless it shows nothing of the directories above it
 abbrev pub killed_name_of_entry : Listing → List IndexEntry → List PathSpec → List NamedSpec → Entry → Option (List ℕ)
 killed_name_of_entry l entries specs all e =
     if is_entry_examined_for_killed l entries e then killed_name_of_shown_place l entries specs all e else None
 
+-- those of all entries of a report, in its order; a name may come more than once
 abbrev pub killed_names_of_report : Listing → List IndexEntry → List PathSpec → List NamedSpec → List ReportEntry → List (List ℕ)
 killed_names_of_report l entries specs all [] = []
 killed_names_of_report l entries specs all (e ∷ found) = prepend_name_if_some (killed_name_of_entry l entries specs all e.entry) (killed_names_of_report l entries specs all found)
@@ -113,5 +121,6 @@ killed_names_of_report l entries specs all (e ∷ found) = prepend_name_if_some 
 abbrev pub sorted_killed_names : Listing → List IndexEntry → List PathSpec → List NamedSpec → List ReportEntry → List (List ℕ)
 sorted_killed_names l entries specs all found = insert_paths_in_order [] (killed_names_of_report l entries specs all found)
 
+-- the lines of what lies in the way, in the order of the names
 abbrev pub lines_of_killed_names : Listing → List ℕ → List (List ℕ) → List ℕ
 lines_of_killed_names l prefix names = flat_map (line_of_killed_path l prefix) names

@@ -43,6 +43,7 @@ tag_letter_of_entry e = if is_unmerged_entry e then 77 else if entry_has_flag sk
 abbrev pub is_tag_lowercase : Listing → IndexEntry → Bool
 is_tag_lowercase l e = l.valid && entry_has_flag assume_valid_flag e
 
+-- that letter, as `-v` has it
 abbrev pub tag_letter_with_case : Listing → IndexEntry → ℕ
 tag_letter_with_case l e = if is_tag_lowercase l e then tag_letter_of_entry e + 32 else tag_letter_of_entry e
 
@@ -52,6 +53,7 @@ tag_if_shown l c = if lists_tags l then c ∷ 32 ∷ [] else []
 
 -- ---- stages
 
+-- the digit, in ASCII, of the last three bits of a number
 abbrev pub last_octal_digit : ℕ → ℕ
 last_octal_digit n = 48 + n % 8
 
@@ -63,6 +65,7 @@ mode_octal_digits n = last_octal_digit (n / 32768) ∷ last_octal_digit (n / 409
 abbrev pub mode_id_and_stage : IndexEntry → List ℕ
 mode_id_and_stage e = mode_octal_digits (mode_bits e.mode) ++ 32 ∷ encode_lower e.id ++ 32 ∷ decimal e.stage ++ 9 ∷ []
 
+-- the same with `-s` or `-u`, and no bytes without
 abbrev pub mode_id_stage_if_listed : Listing → IndexEntry → List ℕ
 mode_id_stage_if_listed l e = if lists_stages l then mode_id_and_stage e else []
 
@@ -86,6 +89,7 @@ tag_letter_of_kept_gone_modified signs.Kept e = tag_letter_of_entry e
 tag_letter_of_kept_gone_modified signs.Gone e = 82
 tag_letter_of_kept_gone_modified signs.Modified e = 67
 
+-- the letter of what is shown, with `-v` in lower case where it is assumed to be unchanged
 abbrev pub tag_letter_of_shown : Listing → EntryAsKeptGoneOrModified → ℕ
 tag_letter_of_shown l shown = if is_tag_lowercase l shown.entry then tag_letter_of_kept_gone_modified shown.sign shown.entry + 32 else tag_letter_of_kept_gone_modified shown.sign shown.entry
 

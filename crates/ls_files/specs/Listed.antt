@@ -49,14 +49,17 @@ abbrev pub lines_of_others_killed_and_index : Listing → List ℕ → List Path
 lines_of_others_killed_and_index l prefix specs entries names ways =
     lines_of_untracked_names l prefix names ++ lines_of_killed_names l prefix ways ++ text_of_listed_index l prefix specs entries
 
+-- with `--error-unmatch` what is told of path specs that are about nothing listed; else no bytes
 abbrev pub unmatched_specs_text_for_listed : Listing → List NamedSpec → List IndexEntry → List (List ℕ) → List (List ℕ) → List ℕ
 unmatched_specs_text_for_listed l named entries names ways =
     if l.error_unmatch then unmatched_specs_message named (places_of_names_and_entries (listed_index_entries l entries) (names ++ ways)) else []
 
+-- the output, and what is told of path specs: `names` are what the index does not have, `ways` what lies in its way
 abbrev pub output_and_errors_of_all_listed : Listing → List ℕ → List NamedSpec → List PathSpec → List IndexEntry → List (List ℕ) → List (List ℕ) → Listed
 output_and_errors_of_all_listed l prefix named specs entries names ways =
     record { out = lines_of_others_killed_and_index l prefix specs entries names ways; err = unmatched_specs_text_for_listed l named entries names ways }
 
+-- the same by the entries of a report and the index of the setup
 unfoldable pub output_and_errors_of_report_entries : Listing → List ℕ → List NamedSpec → Setup → List ReportEntry → Listed
 output_and_errors_of_report_entries l prefix named setup found =
     output_and_errors_of_all_listed l prefix named setup.specs setup.index (untracked_or_ignored_names_if_others l setup named found)
@@ -68,6 +71,7 @@ status made = if is_empty made.err then 0 else 1
 
 -- ---- over a tree
 
+-- the same by a whole report, of which the entries alone matter
 abbrev pub output_and_errors_of_report : Listing → List ℕ → List NamedSpec → Setup → Report → Listed
 output_and_errors_of_report l prefix named setup report = output_and_errors_of_report_entries l prefix named setup report.entries
 

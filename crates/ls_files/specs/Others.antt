@@ -31,6 +31,7 @@ name place = if place.holds_names then place.path ++ 47 ∷ [] else place.path
 
 -- ---- directories
 
+-- a path as that of a directory, whatever stands there
 abbrev pub directory_place_of_path : List ℕ → PathWithDirectoryFlag
 directory_place_of_path path = record { path = path; holds_names = true }
 
@@ -40,6 +41,7 @@ directories_above_behind_prefix passed [] = []
 directories_above_behind_prefix passed (b ∷ rest) =
     if is_slash b then passed ∷ directories_above_behind_prefix (passed ++ b ∷ []) rest else directories_above_behind_prefix (passed ++ b ∷ []) rest
 
+-- all that lead to a path, for `a/b/c` both `a` and `a/b`; a slash at its end makes it one of them
 abbrev pub directories_above_path : List ℕ → List (List ℕ)
 directories_above_path path = directories_above_behind_prefix [] path
 
@@ -49,13 +51,16 @@ has_index_entry_beneath entries name = is_some (entry_range_with_path_prefix nam
 
 -- ---- directories that path specs take out
 
+-- a path spec matches, and takes out what it matches
 abbrev pub is_excluded_match : Option Match → Bool
 is_excluded_match None = false
 is_excluded_match (Some m) = m.excluded
 
+-- a name means the directory itself, or the one above
 abbrev pub is_dot_or_dot_dot : List ℕ → Bool
 is_dot_or_dot_dot name = bytes_eq name (46 ∷ []) || bytes_eq name (46 ∷ 46 ∷ [])
 
+-- a spec was written with `.` or `..` at its end, where git reads a slash
 abbrev pub ends_in_dot_component : NamedSpec → Bool
 ends_in_dot_component named = is_dot_or_dot_dot (basename named.text)
 
@@ -91,6 +96,7 @@ lies_in_spec_skipped_directory entries all name = list_any (do_specs_skip_uninde
 
 -- ---- an entry by itself
 
+-- where the walk found an entry; a repository counts as a directory there
 abbrev pub place_of_report_entry : Entry → PathWithDirectoryFlag
 place_of_report_entry e = record { path = e.rela_path; holds_names = is_some_directory_kind e.disk_kind }
 
@@ -114,6 +120,7 @@ is_kind_listed l (Some Symlink) = true
 is_kind_listed l (Some Repository) = true
 is_kind_listed l (Some Directory) = lists_empty_directories l
 
+-- the options ask for what has such a status and is of such a kind; path specs are not asked yet
 abbrev pub is_entry_listable : Listing → Entry → Bool
 is_entry_listable l e = is_status_listed l e.status && is_kind_listed l e.disk_kind
 
@@ -125,14 +132,17 @@ do_specs_match_report_entry specs e = do_specs_match_path specs (name (place_of_
 abbrev pub is_matched_outside_skipped_directory : List IndexEntry → List PathSpec → List NamedSpec → Entry → Bool
 is_matched_outside_skipped_directory entries specs all e = do_specs_match_report_entry specs e && not (lies_in_spec_skipped_directory entries all (name (place_of_report_entry e)))
 
+-- an entry is shown by itself: the options ask for it, the path specs match it, and git comes to it
 abbrev pub is_report_entry_listed : Listing → List IndexEntry → List PathSpec → List NamedSpec → Entry → Bool
 is_report_entry_listed l entries specs all e = is_entry_listable l e && is_matched_outside_skipped_directory entries specs all e
 
+-- where it is, if it is shown by itself
 abbrev pub place_of_entry_if_listed : Listing → List IndexEntry → List PathSpec → List NamedSpec → Entry → Option PathWithDirectoryFlag
 place_of_entry_if_listed l entries specs all e = if is_report_entry_listed l entries specs all e then Some (place_of_report_entry e) else None
 
 -- ---- a directory in the place of what it holds
 
+-- a match of any path: the spec has the empty path, or no spec is positive and none excludes
 abbrev pub is_always_match : MatchKind → Bool
 is_always_match Always = true
 is_always_match Prefix = false
@@ -158,6 +168,7 @@ may_directory_stand_for_contents entries specs ignored directory = may_name_stan
 abbrev pub may_path_prefix_stand_for_contents : List IndexEntry → List PathSpec → Bool → List ℕ → ℕ → Bool
 may_path_prefix_stand_for_contents entries specs ignored path at = is_slash (slice_index path at) && may_directory_stand_for_contents entries specs ignored (take at path)
 
+-- the index does not have it, no rule excludes it, and the walk does not leave it out
 abbrev pub is_untracked_status : Status → Bool
 is_untracked_status Untracked = true
 is_untracked_status (Ignored kind) = false
@@ -180,6 +191,7 @@ highest_directory_standing_for_contents entries specs ignored path = find (may_d
 abbrev pub directory_place_unless_skipped : List IndexEntry → List NamedSpec → List ℕ → Option PathWithDirectoryFlag
 directory_place_unless_skipped entries all d = if lies_in_spec_skipped_directory entries all (name (directory_place_of_path d)) then None else Some (directory_place_of_path d)
 
+-- the directory that is shown for an entry; none without `--directory`, or where git does not come to it
 abbrev pub directory_standing_for_entry : Listing → List IndexEntry → List PathSpec → List NamedSpec → Entry → Option PathWithDirectoryFlag
 directory_standing_for_entry l entries specs all e =
     if fills_directories_above l entries specs all e then option_and_then (directory_place_unless_skipped entries all) (highest_directory_standing_for_contents entries specs (may_parent_be_ignored l e.status) e.rela_path) else None
@@ -194,16 +206,20 @@ has_index_entry_at entries path = is_some (first_entry_at_path path entries)
 abbrev pub name_of_place_unless_indexed : List IndexEntry → PathWithDirectoryFlag → Option (List ℕ)
 name_of_place_unless_indexed entries place = if has_index_entry_at entries place.path then None else Some (name place)
 
+-- what is shown for an entry: a directory above it, else the entry by itself, if it is shown
 abbrev pub place_listed_for_entry : Listing → List IndexEntry → List PathSpec → List NamedSpec → Entry → Option PathWithDirectoryFlag
 place_listed_for_entry l entries specs all e = option_or (directory_standing_for_entry l entries specs all e) (place_of_entry_if_listed l entries specs all e)
 
+-- the name of what is shown for an entry, unless the index has its path
 abbrev pub untracked_name_for_entry : Listing → List IndexEntry → List PathSpec → List NamedSpec → Entry → Option (List ℕ)
 untracked_name_for_entry l entries specs all e = option_and_then (name_of_place_unless_indexed entries) (place_listed_for_entry l entries specs all e)
 
+-- some names, with one in front if it is given
 abbrev pub prepend_name_if_some : Option (List ℕ) → List (List ℕ) → List (List ℕ)
 prepend_name_if_some None names = names
 prepend_name_if_some (Some name) names = name ∷ names
 
+-- those of all entries of a report, in its order; a directory comes once for each entry that it stands for
 abbrev pub untracked_names_of_report : Listing → List IndexEntry → List PathSpec → List NamedSpec → List ReportEntry → List (List ℕ)
 untracked_names_of_report l entries specs all [] = []
 untracked_names_of_report l entries specs all (e ∷ found) = prepend_name_if_some (untracked_name_for_entry l entries specs all e.entry) (untracked_names_of_report l entries specs all found)
@@ -212,5 +228,6 @@ untracked_names_of_report l entries specs all (e ∷ found) = prepend_name_if_so
 abbrev pub sorted_untracked_names : Listing → List IndexEntry → List PathSpec → List NamedSpec → List ReportEntry → List (List ℕ)
 sorted_untracked_names l entries specs all found = insert_paths_in_order [] (untracked_names_of_report l entries specs all found)
 
+-- the lines of what the index does not have, in the order of the names
 abbrev pub lines_of_untracked_names : Listing → List ℕ → List (List ℕ) → List ℕ
 lines_of_untracked_names l prefix names = flat_map (line_of_untracked_path l prefix) names

@@ -3,6 +3,7 @@ use Rattle.std.specs.Prelude.{ℕ, List, Bool}
 use Rattle.gitbase_core.specs.declared.entry.IndexEntry.{IndexEntry}
 use Rattle.ls_files.specs.declared.shown.Sign.{Sign}
 
+-- a path without a slash at its end, and whether it is taken as that of a directory
 pub record PathWithDirectoryFlag : Type 0 where
   pub path : List ℕ
   pub holds_names : Bool

@@ -10,12 +10,13 @@ use Rattle.ls_files.specs.declared.options.Listing.{Listing}
 use Rattle.ls_files.specs.declared.wrong.WrongListing.{WrongListing}
 use Rattle.ls_files.specs.declared.wrong.WrongListing.TheVariants as wrong
 use Rattle.ls_files.specs.Choices.{uses_per_directory_ignore_rules, lists_index_entries, needs_worktree_walk}
-use Rattle.ls_files.specs.Alone.{has_only_given_patterns}
+use Rattle.ls_files.specs.Alone.{has_patterns_without_standard_or_directory_rules}
 
 -- "-i: Show only ignored files in the output. Must be used with either an explicit -c or -o."
 abbrev pub lacks_others_and_cached : Listing → Bool
 lacks_others_and_cached l = not (l.others || l.cached)
 
+-- there are rules to exclude paths by: those of directories, or patterns of the command line
 abbrev pub has_any_exclude_rules : Listing → Bool
 has_any_exclude_rules l = uses_per_directory_ignore_rules l || l.patterns
 
@@ -28,6 +29,7 @@ refusal_of_ignored_option_combination l =
     else if l.directories && l.killed then Some wrong.IgnoredDirectories
     else None
 
+-- the same of any listing: without `-i` none of it is refused
 abbrev pub refusal_if_ignored_option_given : Listing → Option WrongListing
 refusal_if_ignored_option_given l = if l.ignored then refusal_of_ignored_option_combination l else None
 
@@ -37,7 +39,7 @@ lists_unignored_directories l = l.others && (l.directories && not l.ignored)
 
 -- patterns alone are asked here about what the index does not have, each path by itself
 abbrev pub refusal_if_patterns_stand_alone : Listing → Option WrongListing
-refusal_if_patterns_stand_alone l = if has_only_given_patterns l && (l.killed || lists_unignored_directories l) then Some wrong.PatternsAlone else None
+refusal_if_patterns_stand_alone l = if has_patterns_without_standard_or_directory_rules l && (l.killed || lists_unignored_directories l) then Some wrong.PatternsAlone else None
 
 -- git reads what it stands for from objects
 abbrev pub refusal_if_index_is_sparse : Listing → List IndexEntry → Option WrongListing

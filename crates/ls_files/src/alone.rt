@@ -14,8 +14,8 @@ use std::alloc::Global;
 use worktree_report::Setup;
 
 /// Whether there are patterns, and the walk asks no rules.
-pub fn has_only_given_patterns(listing: &Listing) -> bool
-    ensures { result ≡ words.has_only_given_patterns listing.now }
+pub fn has_patterns_without_standard_or_directory_rules(listing: &Listing) -> bool
+    ensures { result ≡ words.has_patterns_without_standard_or_directory_rules listing.now }
 {
     listing.patterns && !uses_per_directory_ignore_rules(listing)
 }
@@ -25,7 +25,7 @@ pub fn options_without_ignored_if_only_patterns(listing: &Listing) -> Listing
     ensures { result ≡ words.options_without_ignored_if_only_patterns listing.now }
 {
     let mut listing = *listing;
-    if has_only_given_patterns(&listing) {
+    if has_patterns_without_standard_or_directory_rules(&listing) {
         listing.ignored = false;
     }
     listing
@@ -165,7 +165,7 @@ pub fn filter_names_if_only_patterns(
     ensures { IfOk result (λ left. left.items ≡ words.filter_names_if_only_patterns listing.now
         setup.now names.items) }
 {
-    if !has_only_given_patterns(listing) {
+    if !has_patterns_without_standard_or_directory_rules(listing) {
         return Ok(names);
     }
     let rules = ignore_search_from_two_texts(

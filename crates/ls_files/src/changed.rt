@@ -19,8 +19,8 @@ use crate::options::{Listing, NamedSpec};
 use crate::place::Place;
 use crate::shown::{ShownEntry, Sign};
 use crate::standings::{
-    ChangeQuery, Standings, change_of_entry, is_listed_as_deleted, is_listed_as_indexed,
-    is_listed_as_modified,
+    ChangeQuery, DeletedModifiedChoice, change_of_entry, is_listed_as_deleted,
+    is_listed_as_indexed, is_listed_as_modified,
 };
 use crate::unmatched::unmatched_specs_message;
 use diff_files::{Comparison, PathChange, Stats, Unsupported};
@@ -49,7 +49,7 @@ fn push_shown_entry_if<'a>(
 /// Adds an entry as often as it is shown.
 fn push_kept_gone_and_modified<'a>(
     list: &mut Vec<ShownEntry<'a>>,
-    asked: Standings,
+    asked: DeletedModifiedChoice,
     listing: &Listing,
     entry: &'a IndexEntry,
     change: PathChange,
@@ -75,7 +75,7 @@ fn push_kept_gone_and_modified<'a>(
 /// Adds an entry as it is shown first.
 fn push_first_of_kept_gone_modified<'a>(
     list: &mut Vec<ShownEntry<'a>>,
-    asked: Standings,
+    asked: DeletedModifiedChoice,
     listing: &Listing,
     entry: &'a IndexEntry,
     change: PathChange,
@@ -101,7 +101,7 @@ fn push_first_of_kept_gone_modified<'a>(
 #[tactic(auto, unfolding(crate::specs::Changed::entry_signs_by_deduplication))]
 fn push_entry_signs_by_deduplication<'a>(
     list: &mut Vec<ShownEntry<'a>>,
-    asked: Standings,
+    asked: DeletedModifiedChoice,
     listing: &Listing,
     entry: &'a IndexEntry,
     change: PathChange,
@@ -118,7 +118,7 @@ fn push_entry_signs_by_deduplication<'a>(
 /// Adds what is shown of an entry, unless a form is not answered.
 fn push_signs_unless_unsupported<'a>(
     list: &mut Vec<ShownEntry<'a>>,
-    asked: Standings,
+    asked: DeletedModifiedChoice,
     listing: &Listing,
     entry: &'a IndexEntry,
     change: Result<PathChange, Unsupported>,
@@ -137,7 +137,7 @@ fn push_signs_unless_unsupported<'a>(
 
 /// Whether anything is shown of an entry.
 fn is_listed_kept_gone_or_modified(
-    asked: Standings,
+    asked: DeletedModifiedChoice,
     listing: &Listing,
     entry: &IndexEntry,
     change: PathChange,
@@ -154,7 +154,7 @@ fn is_listed_kept_gone_or_modified(
 #[tactic(auto, unfolding(crate::specs::Changed::last_listed_path_after_entry))]
 fn last_listed_path_after_entry<'a>(
     last: Option<&'a [u8]>,
-    asked: Standings,
+    asked: DeletedModifiedChoice,
     listing: &Listing,
     entry: &'a IndexEntry,
     change: PathChange,
@@ -177,8 +177,8 @@ fn read_entries_as_kept_gone_or_modified<'a, W: Worktree, S: Stats>(
     entries: &'a [IndexEntry],
     details: &[Detail],
 ) -> Result<Vec<ShownEntry<'a>>, ChangedError>
-    ensures gives { (o : TreeAndStats) → Tells (W.told worktree.old) (S.told stats.old) o
-        → IfOk result (λ shown. words.entries_as_kept_gone_or_modified o query.now entries.now details.now
+    ensures gives { (o : TreeAndStats) → Tells (W.told worktree.old) (S.told stats.old) o → IfOk
+        result (λ shown. words.entries_as_kept_gone_or_modified o query.now entries.now details.now
         ≡ Ok shown.items) }
     ensures refused { (o : TreeAndStats) → Tells (W.told worktree.old) (S.told stats.old) o
         → IfErr result (refusals.RefusesUnsupportedAsDefined
@@ -283,7 +283,8 @@ fn places_of_shown_entries<'a>(
     alloc: Global,
     shown: &[ShownEntry<'a>],
 ) -> Result<Vec<Place<'a>>, OutOfMemory>
-    ensures { IfOk result (λ places. places.items ≡ map words.path_with_directory_flag_of_shown_entry shown.now) }
+    ensures { IfOk result (λ places. places.items ≡ map
+        words.path_with_directory_flag_of_shown_entry shown.now) }
 {
     let mut places = Vec::new(alloc);
     for one in shown {

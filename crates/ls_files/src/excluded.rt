@@ -6,8 +6,8 @@ ghost use Rattle.ls_files.specs.Excluded as words;
 ghost use Rattle.ls_files.specs.Finds.{FindsInWorktree};
 
 use crate::alone::{
-    case_from_ignore_case, has_only_given_patterns, ignore_search_from_two_texts,
-    is_path_or_parent_excluded,
+    case_from_ignore_case, has_patterns_without_standard_or_directory_rules,
+    ignore_search_from_two_texts, is_path_or_parent_excluded,
 };
 use crate::cached::needs_worktree_walk;
 use crate::entries::Entries;
@@ -117,7 +117,7 @@ fn excluded_entries_of_setup<W: Worktree>(
     ensures { FindsInWorktree W.Worktree worktree.old worktree.new
         (λ t. words.excluded_entries_of_setup t root.now setup.now listing.now) result }
 {
-    if has_only_given_patterns(listing) {
+    if has_patterns_without_standard_or_directory_rules(listing) {
         return entries_excluded_by_setup_patterns(alloc, worktree, root, setup);
     }
     entries_excluded_by_setup_rules(alloc, worktree, root, setup)

@@ -6,7 +6,7 @@ ghost use Rattle.ls_files.specs.IgnoredDirectories as words;
 ghost use Rattle.ls_files.specs.Others.{directories_above_path, directory_place_of_path, has_index_entry_beneath, name};
 
 use crate::alone::case_from_ignore_case;
-use crate::judged::{Judged, given_patterns_if_only_rules, places_with_ignored_flag};
+use crate::judged::{Judged, given_patterns_if_no_other_rules, places_with_ignored_flag};
 use crate::options::Listing;
 use crate::others::{
     has_index_entry_beneath, name, name_of_place_unless_indexed, sorted_names_of_set,
@@ -290,7 +290,7 @@ pub fn names_of_ignored_with_directories(
     ensures { IfOk result (λ names. names.items ≡ words.names_of_ignored_with_directories
         listing.now setup.now found.now) }
 {
-    let patterns = given_patterns_if_only_rules(alloc, listing, setup)?;
+    let patterns = given_patterns_if_no_other_rules(alloc, listing, setup)?;
     let case = case_from_ignore_case(setup.options.ignore_case);
     let all = places_with_ignored_flag(alloc, listing, &patterns, case, &setup.index, found)?;
     let names = names_of_ignored_places(alloc, listing, &setup.index, &all)?;

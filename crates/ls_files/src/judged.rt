@@ -5,7 +5,8 @@ ghost use Rattle.worktree_stack.specs.Mappings.{case_by_ignore_case};
 ghost use Rattle.ls_files.specs.IgnoredDirectories as words;
 
 use crate::alone::{
-    has_only_given_patterns, ignore_search_from_two_texts, is_path_or_parent_excluded,
+    has_patterns_without_standard_or_directory_rules, ignore_search_from_two_texts,
+    is_path_or_parent_excluded,
 };
 use crate::options::Listing;
 use crate::others::{
@@ -56,15 +57,15 @@ impl<'a> Judged<'a> {
 }
 
 /// The patterns of the command line where the walk asks no rules, else none.
-pub fn given_patterns_if_only_rules(
+pub fn given_patterns_if_no_other_rules(
     alloc: Global,
     listing: &Listing,
     setup: &Setup,
 ) -> Result<Search, OutOfMemory>
-    ensures { IfOk result (λ rules. rules ≡ words.given_patterns_if_only_rules listing.now
+    ensures { IfOk result (λ rules. rules ≡ words.given_patterns_if_no_other_rules listing.now
         setup.now) }
 {
-    if has_only_given_patterns(listing) {
+    if has_patterns_without_standard_or_directory_rules(listing) {
         return ignore_search_from_two_texts(
             alloc,
             setup.globals.as_bytes(),
@@ -135,7 +136,7 @@ fn highest_excluded_unindexed_directory<'a>(
 fn stops_at_excluded_directories(listing: &Listing) -> bool
     ensures { result ≡ words.stops_at_excluded_directories listing.now }
 {
-    lists_empty_directories(listing) && has_only_given_patterns(listing)
+    lists_empty_directories(listing) && has_patterns_without_standard_or_directory_rules(listing)
 }
 
 /// The highest such directory above a path, where they are left.

@@ -39,7 +39,7 @@ pub use excluded_error::ExcludedError;
 pub use listed::{Listed, output_and_errors_of_report_entries};
 pub use options::{Listing, NamedSpec};
 pub use place::Place;
-pub use standings::{ChangeQuery, Standings};
+pub use standings::{ChangeQuery, DeletedModifiedChoice};
 pub use unseen::lies_in_spec_skipped_directory;
 pub use walk_request::walk_options_for_listing;
 pub use wrong::{

@@ -256,8 +256,8 @@ fn highest_directory_standing_for_contents<'a>(
     ignored: bool,
     path: &'a [u8],
 ) -> Result<Option<&'a [u8]>, OutOfMemory>
-    ensures { IfOk result
-        (λ found. option_copied found ≡ words.highest_directory_standing_for_contents index.now specs.now ignored path.now) }
+    ensures { IfOk result (λ found. option_copied found ≡
+        words.highest_directory_standing_for_contents index.now specs.now ignored path.now) }
 {
     let mut at = 0;
     while at < path.len() {

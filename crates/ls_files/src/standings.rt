@@ -24,7 +24,7 @@ use worktree_fs::{ReadError, Worktree};
 
 /// Which paths of an index are shown by what stands in the work tree.
 #[derive(Clone, Copy, Debug, PartialEq, Eq)]
-pub enum Standings {
+pub enum DeletedModifiedChoice {
     /// `-d`: those of which nothing is there.
     Deleted,
     /// `-m`: those of which nothing is there, or something else.
@@ -41,7 +41,7 @@ pub struct ChangeQuery<'a> {
     /// What its files are compared by.
     pub comparison: &'a Comparison,
     /// Which of the two options is given.
-    pub standings: Standings,
+    pub standings: DeletedModifiedChoice,
     /// What is listed, and how.
     pub listing: &'a Listing,
     /// Each of the path specs alone, as it was written.
@@ -50,23 +50,23 @@ pub struct ChangeQuery<'a> {
     pub specs: &'a Search,
 }
 
-fn lists_deleted(asked: Standings) -> bool
+fn lists_deleted(asked: DeletedModifiedChoice) -> bool
     ensures { result ≡ words.lists_deleted asked }
 {
     match asked {
-        Standings::Deleted => true,
-        Standings::Modified => false,
-        Standings::Both => true,
+        DeletedModifiedChoice::Deleted => true,
+        DeletedModifiedChoice::Modified => false,
+        DeletedModifiedChoice::Both => true,
     }
 }
 
-fn lists_modified(asked: Standings) -> bool
+fn lists_modified(asked: DeletedModifiedChoice) -> bool
     ensures { result ≡ words.lists_modified asked }
 {
     match asked {
-        Standings::Deleted => false,
-        Standings::Modified => true,
-        Standings::Both => true,
+        DeletedModifiedChoice::Deleted => false,
+        DeletedModifiedChoice::Modified => true,
+        DeletedModifiedChoice::Both => true,
     }
 }
 
@@ -156,11 +156,13 @@ fn change_of_examined_entry<W: Worktree, S: Stats>(
     let root = query.root;
     let comparison = query.comparison;
     match query.standings {
-        Standings::Deleted => Ok(Ok(change_for_ls_files_deleted(alloc, stats, root, entry)?)),
-        Standings::Modified => change_for_ls_files_modified(
+        DeletedModifiedChoice::Deleted => Ok(Ok(change_for_ls_files_deleted(
+            alloc, stats, root, entry,
+        )?)),
+        DeletedModifiedChoice::Modified => change_for_ls_files_modified(
             alloc, worktree, stats, root, comparison, entry, detail,
         ),
-        Standings::Both => change_for_ls_files_modified(
+        DeletedModifiedChoice::Both => change_for_ls_files_modified(
             alloc, worktree, stats, root, comparison, entry, detail,
         ),
     }
@@ -221,14 +223,14 @@ fn is_unchanged(change: PathChange) -> bool
 }
 
 /// Whether a path is shown as gone.
-pub fn is_listed_as_deleted(asked: Standings, change: PathChange) -> bool
+pub fn is_listed_as_deleted(asked: DeletedModifiedChoice, change: PathChange) -> bool
     ensures { result ≡ words.is_listed_as_deleted asked change }
 {
     lists_deleted(asked) && is_deletion(change)
 }
 
 /// Whether a path is shown as modified.
-pub fn is_listed_as_modified(asked: Standings, change: PathChange) -> bool
+pub fn is_listed_as_modified(asked: DeletedModifiedChoice, change: PathChange) -> bool
     ensures { result ≡ words.is_listed_as_modified asked change }
 {
     lists_modified(asked) && !is_unchanged(change)

@@ -4,7 +4,7 @@ ghost use Rattle.std.specs.List.{list_any};
 ghost use Rattle.gitbase_core.specs.Entry.{is_sparse_directory_entry};
 ghost use Rattle.ls_files.specs.Wrong as words;
 
-use crate::alone::has_only_given_patterns;
+use crate::alone::has_patterns_without_standard_or_directory_rules;
 use crate::cached::{lists_index_entries, needs_worktree_walk, uses_per_directory_ignore_rules};
 use crate::options::Listing;
 use diff_files::Unsupported;
@@ -124,7 +124,7 @@ fn lists_unignored_directories(listing: &Listing) -> bool
 fn refusal_if_patterns_stand_alone(listing: &Listing) -> Option<WrongListing>
     ensures { result ≡ words.refusal_if_patterns_stand_alone listing.now }
 {
-    if !has_only_given_patterns(listing) {
+    if !has_patterns_without_standard_or_directory_rules(listing) {
         return None;
     }
     if listing.killed | lists_unignored_directories(listing) {

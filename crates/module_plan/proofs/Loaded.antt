@@ -16,7 +16,7 @@ use Rattle.worktree_report.specs.declared.error.ReportError.{ReportError}
 use Rattle.worktree_report.specs.declared.error.ReportError.TheVariants as reports
 use Rattle.worktree_report.specs.declared.refusal.Refusal.TheVariants as refusals
 use Rattle.worktree_report.specs.Converted.{refusal_of_report_error}
-use Rattle.worktree_report.specs.Loading.{continue_unless_misread, count_files_for_submodules, known_of_active_specs, known_submodules_in_tree, modules_of_setup_in_tree, known_with_active_platform, IsKnownWithoutMisread}
+use Rattle.worktree_report.specs.Loading.{continue_unless_misread, count_files_for_submodules, known_of_active_specs, known_submodules_in_tree, modules_of_setup_in_tree, known_submodules_with_active_specs, IsKnownWithoutMisread}
 use Rattle.worktree_report.specs.Loads.{IsErrorOfReadingModules}
 use Rattle.worktree_report.specs.Outside.{count_files_read_to_misread, IsMisreadOfSetup, StopsReadingAtError, StopsAtUnreadFile}
 use Rattle.module_plan.specs.declared.step.ModulePlan.{ModulePlan}
@@ -40,19 +40,19 @@ which is = cc
 -- where the files are outside their grammar it is not known what they tell
 pub known-misread : (t : Names) (root : List ℕ) (setup : Setup) (which : Misread) → modules_of_setup_in_tree t root setup ≡ Err which → known_submodules_in_tree t root (setup_with_submodules_option setup) ≡ Err which
 unfolding known_submodules_in_tree modules_of_setup_in_tree
-known-misread t root setup which e = ap (continue_unless_misread (known_with_active_platform setup.options.ignore_case)) e
+known-misread t root setup which e = ap (continue_unless_misread (known_submodules_with_active_specs setup.options.ignore_case)) e
 
 -- nor where a value of `submodule.active` is refused
 pub known-refused : (t : Names) (root : List ℕ) (setup : Setup) (modules : Modules) (which : Misread) → modules_of_setup_in_tree t root setup ≡ Ok modules
-    → known_with_active_platform setup.options.ignore_case modules ≡ Err which → known_submodules_in_tree t root (setup_with_submodules_option setup) ≡ Err which
+    → known_submodules_with_active_specs setup.options.ignore_case modules ≡ Err which → known_submodules_in_tree t root (setup_with_submodules_option setup) ≡ Err which
 unfolding known_submodules_in_tree modules_of_setup_in_tree
-known-refused t root setup modules which read e = ap (continue_unless_misread (known_with_active_platform setup.options.ignore_case)) read ∙ e
+known-refused t root setup modules which read e = ap (continue_unless_misread (known_submodules_with_active_specs setup.options.ignore_case)) read ∙ e
 
 -- where no value is refused, it is known what they tell
 pub known-loaded : (t : Names) (root : List ℕ) (setup : Setup) (modules : Modules) → modules_of_setup_in_tree t root setup ≡ Ok modules
-    → IsKnownWithoutMisread (known_with_active_platform setup.options.ignore_case modules) → IsKnownWithoutMisread (known_submodules_in_tree t root (setup_with_submodules_option setup))
+    → IsKnownWithoutMisread (known_submodules_with_active_specs setup.options.ignore_case modules) → IsKnownWithoutMisread (known_submodules_in_tree t root (setup_with_submodules_option setup))
 unfolding known_submodules_in_tree modules_of_setup_in_tree
-known-loaded t root setup modules read known = (known.0, ap (continue_unless_misread (known_with_active_platform setup.options.ignore_case)) read ∙ known.1)
+known-loaded t root setup modules read known = (known.0, ap (continue_unless_misread (known_submodules_with_active_specs setup.options.ignore_case)) read ∙ known.1)
 
 known-by : (modules : Modules) (found : Result (Option (List PathSpec)) ActiveError) → index_of_refused_active_value found ≡ None → IsKnownWithoutMisread (known_of_active_specs modules found)
 known-by modules (Ok specs) none = (Some (record { modules = modules; platform = specs }), refl)
@@ -62,7 +62,7 @@ known-by modules (Err active_errors.OutOfMemory) none = (None, refl)
 
 -- a fault that ends a plan comes where no value is refused
 pub known-late : (told : Option Names) (root : List ℕ) (asked : PlanInput) (Failed : Type 0) (fold : Bool) (modules : Modules) (e : ModuleError)
-    → RefusesPlanWithCause told root asked (index_of_refused_active_value (active_specs_or_error_of_config fold modules.config.sections)) Failed e → refusal_of_module_error e ≡ refusals.Fault → IsKnownWithoutMisread (known_with_active_platform fold modules)
+    → RefusesPlanWithCause told root asked (index_of_refused_active_value (active_specs_or_error_of_config fold modules.config.sections)) Failed e → refusal_of_module_error e ≡ refusals.Fault → IsKnownWithoutMisread (known_submodules_with_active_specs fold modules)
 known-late told root asked Failed fold modules (errors.ActiveSpec value) refused is = absurd cc
 known-late told root asked Failed fold modules (errors.Fault path) refused is = known-by modules (active_specs_or_error_of_config fold modules.config.sections) refused.0
 known-late told root asked Failed fold modules errors.OutOfMemory refused is = absurd cc
@@ -115,13 +115,13 @@ refused-spec modules (Err (active_errors.NormalizePattern value)) m is = (value,
 refused-spec modules (Err active_errors.OutOfMemory) m is = absurd cc
 
 -- a value of `submodule.active` that is refused is
-pub outside-specs : (root : List ℕ) (setup : Setup) (modules : Modules) (m : Misread) → known_with_active_platform setup.options.ignore_case modules ≡ Err m → IsMisreadOfSetup root (setup_with_submodules_option setup) m
+pub outside-specs : (root : List ℕ) (setup : Setup) (modules : Modules) (m : Misread) → known_submodules_with_active_specs setup.options.ignore_case modules ≡ Err m → IsMisreadOfSetup root (setup_with_submodules_option setup) m
 outside-specs root setup modules m is =
     let spec = refused-spec modules (active_specs_or_error_of_config setup.options.ignore_case modules.config.sections) m is in
     subst (λ (x : Misread). IsMisreadOfSetup root (setup_with_submodules_option setup) x) (sym spec.1) (record { modules = modules; outside = is ∙ ap (λ (x : Misread). Err x) spec.1 })
 
 -- it is told by all files
-pub reads-specs : (setup : Setup) (modules : Modules) (m : Misread) (reads0 reads1 : ℕ) → known_with_active_platform setup.options.ignore_case modules ≡ Err m
+pub reads-specs : (setup : Setup) (modules : Modules) (m : Misread) (reads0 reads1 : ℕ) → known_submodules_with_active_specs setup.options.ignore_case modules ≡ Err m
     → reads1 ≤ reads0 + count_files_for_submodules setup → reads1 ≤ reads0 + count_files_read_to_misread setup m
 reads-specs setup modules m reads0 reads1 is fits =
     let spec = refused-spec modules (active_specs_or_error_of_config setup.options.ignore_case modules.config.sections) m is in

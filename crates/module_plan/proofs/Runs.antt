@@ -12,7 +12,7 @@ use Rattle.worktree_report.specs.declared.refusal.Refusal.{Refusal}
 use Rattle.worktree_report.specs.declared.refusal.Refusal.TheVariants as refusals
 use Rattle.worktree_report.specs.declared.setup.Setup.{Setup}
 use Rattle.worktree_report.specs.Converted.{MayComeFromReadingSetup}
-use Rattle.worktree_report.specs.Loading.{count_files_for_submodules, known_submodules_in_tree, modules_of_setup_in_tree, known_with_active_platform, AreModulesOfSomeText, IsKnownWithoutMisread}
+use Rattle.worktree_report.specs.Loading.{count_files_for_submodules, known_submodules_in_tree, modules_of_setup_in_tree, known_submodules_with_active_specs, AreModulesOfSomeText, IsKnownWithoutMisread}
 use Rattle.worktree_report.specs.Loads.{ReadsFilesAtMost}
 use Rattle.worktree_report.specs.Outside.{count_files_read_to_misread, IsMisreadOfSetup, StopsAtUnreadFile}
 use Rattle.worktree_report.specs.Run.{RefusesSetupAtLine}
@@ -93,9 +93,9 @@ module _ {W : Type 0} {w : WorktreeOf W} {w0 w1 w2 : W} {root : List ℕ} {setup
       → ((t : Names) → w.told w1 ≡ Some t → IfOk answer (λ text. top.plan_text_of_modules t root setup.options.ignore_case modules ≡ Some text))
       → ((t : Names) → w.told w1 ≡ Some t → OnOk answer (top.HasSafeUnobstructedPlan t root setup.options.ignore_case modules))
       → AreModulesOfSomeText root modules → IfOk answer (λ text. AreModulesOfSomeText root modules → top.IsTextOfSafePlan (w.told w1) root setup.options.ignore_case text)
-      → ((m : Misread) → IsErrOf answer (refusals.Misread m) → known_with_active_platform setup.options.ignore_case modules ≡ Err m)
+      → ((m : Misread) → IsErrOf answer (refusals.Misread m) → known_submodules_with_active_specs setup.options.ignore_case modules ≡ Err m)
       → IfErr answer (top.MayComeFromPlanning (CountIncreasedOrSaturated (w.faults w1) (w.faults w2)))
-      → (IsErrOf answer refusals.Fault → IsKnownWithoutMisread (known_with_active_platform setup.options.ignore_case modules)) → KeepsTreeAndListCounts w w1 w2 → w.reads w2 ≡ w.reads w1
+      → (IsErrOf answer refusals.Fault → IsKnownWithoutMisread (known_submodules_with_active_specs setup.options.ignore_case modules)) → KeepsTreeAndListCounts w w1 w2 → w.reads w2 ≡ w.reads w1
       → w.faults w1 ≡ w.faults w0 → OnOk answer (w.faults w2 ≡ w.faults w1) → top.MakesPlanText w w0 w2 root setup answer
   PlansText-loaded modules answer read loads gives safe tells orderly outside of late asks unread unfaulted later =
       record {

@@ -5,7 +5,7 @@ ghost use Rattle.worktree_fs.specs.Kept.{KeepsTreeAndListCounts};
 ghost use Rattle.worktree_fs.specs.Tree.{Names};
 ghost use Rattle.module_plan.specs.Run as top;
 ghost use Rattle.worktree_report.specs.Ends.{TopCallAnswersAndEnds};
-ghost use Rattle.worktree_report.specs.Loading.{count_files_for_submodules, modules_of_setup_in_tree, known_with_active_platform, AreModulesOfSomeText, IsKnownWithoutMisread};
+ghost use Rattle.worktree_report.specs.Loading.{count_files_for_submodules, modules_of_setup_in_tree, known_submodules_with_active_specs, AreModulesOfSomeText, IsKnownWithoutMisread};
 ghost use Rattle.worktree_report.specs.Loads.{ReadsFilesAtMost};
 ghost use Rattle.worktree_report.specs.Named.{places_of_borrowed};
 ghost use Rattle.worktree_report.specs.Outside.{count_files_read_to_misread, IsMisreadOfSetup, StopsAtUnreadFile};
@@ -91,11 +91,11 @@ fn plan_text_of_modules<W: Worktree>(
     ensures orderly { IfOk result (λ text. AreModulesOfSomeText root.now modules.now
         → top.IsTextOfSafePlan (W.told worktree.old) root.now ignore_case text) }
     ensures misread { (which : Place) → IsErrOf result (Refusal.Misread which)
-        → known_with_active_platform ignore_case modules.now ≡ Err which }
+        → known_submodules_with_active_specs ignore_case modules.now ≡ Err which }
     ensures refused { IfErr result (top.MayComeFromPlanning (CountIncreasedOrSaturated
         (W.faults worktree.old) (W.faults worktree.new))) }
-    ensures late { IsErrOf result Refusal.Fault → IsKnownWithoutMisread (known_with_active_platform
-        ignore_case modules.now) }
+    ensures late { IsErrOf result Refusal.Fault → IsKnownWithoutMisread
+        (known_submodules_with_active_specs ignore_case modules.now) }
     ensures keeps { KeepsTreeAndListCounts W.Worktree worktree.old worktree.new }
     ensures reads { W.reads worktree.new ≡ W.reads worktree.old }
     ensures unfaulted { OnOk result (W.faults worktree.new ≡ W.faults worktree.old) }

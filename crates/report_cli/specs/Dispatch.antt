@@ -33,6 +33,7 @@ call_of_command_word word =
     else if bytes_eq word (codes "status") then calls.Status
     else calls.Report
 
+-- the call that the first word names; no words at all ask for the report
 abbrev pub call_of_first_word : List (List ℕ) → Call
 call_of_first_word [] = calls.Report
 call_of_first_word (word ∷ words) = call_of_command_word word

@@ -25,6 +25,7 @@ error_of_numbered_spec number (spec_errors.Parse at) = errors.ParsePattern numbe
 error_of_numbered_spec number spec_errors.Normalize = errors.NormalizePattern number
 error_of_numbered_spec number spec_errors.OutOfMemory = errors.OutOfMemory
 
+-- reading goes on behind a spec that was read; the first one refused ends it, under the number of its value
 abbrev pub continue_with_spec_or_error : ℕ → (PathSpec → Result (List PathSpec) Error) → Result PathSpec SpecError → Result (List PathSpec) Error
 continue_with_spec_or_error number behind (Ok spec) = behind spec
 continue_with_spec_or_error number behind (Err e) = Err (error_of_numbered_spec number e)
@@ -43,6 +44,7 @@ abbrev pub specs_unless_empty : List PathSpec → Option (List PathSpec)
 specs_unless_empty [] = None
 specs_unless_empty (spec ∷ specs) = Some (spec ∷ specs)
 
+-- no value of `submodule.active` counts as no specs, so that the url decides; a refusal stays
 abbrev pub specs_result_unless_empty : Result (List PathSpec) Error → Result (Option (List PathSpec)) Error
 specs_result_unless_empty (Ok specs) = Ok (specs_unless_empty specs)
 specs_result_unless_empty (Err e) = Err e
@@ -53,6 +55,7 @@ active_specs_or_error_of_config fold sections = specs_result_unless_empty (parse
 
 -- ---- activity
 
+-- a match makes a submodule active, unless an excluding spec gives it; no match does not
 abbrev pub is_matched_and_not_excluded : Option Match → Bool
 is_matched_and_not_excluded None = false
 is_matched_and_not_excluded (Some found) = not found.excluded
@@ -77,6 +80,7 @@ is_active specs sections name =
 abbrev pub NameAndActive : Type 0
 NameAndActive = List ℕ × Result Bool (List ℕ)
 
+-- a name, and whether it is active, or the text of its `active` where that is no boolean
 abbrev pub name_with_activity : Option (List PathSpec) → List Section → List ℕ → NameAndActive
 name_with_activity specs sections name = (name, is_active specs sections name)
 
@@ -84,6 +88,7 @@ name_with_activity specs sections name = (name, is_active specs sections name)
 abbrev pub names_with_activity : Option (List PathSpec) → List Section → List (List ℕ) → List NameAndActive
 names_with_activity specs sections names = map (name_with_activity specs sections) names
 
+-- each name with whether it is active; where a value of `submodule.active` is refused, no names but that refusal
 abbrev pub names_with_activity_or_error : List Section → List (List ℕ) → Result (Option (List PathSpec)) Error → Result (List NameAndActive) Error
 names_with_activity_or_error sections names (Ok specs) = Ok (names_with_activity specs sections names)
 names_with_activity_or_error sections names (Err e) = Err e

@@ -22,6 +22,7 @@ ErrorAgreesUnlessOutOfMemory (errors.ParsePattern value at) given = given ≡ Er
 ErrorAgreesUnlessOutOfMemory (errors.NormalizePattern value) given = given ≡ Err (errors.NormalizePattern value)
 ErrorAgreesUnlessOutOfMemory errors.OutOfMemory given = Unit {0}
 
+-- an answer is the one that is given, and so is the refusal of a value
 abbrev pub ActiveResultAgrees : {T : Type 0} → Result T Error → Result T Error → Type 0
 ActiveResultAgrees (Ok answer) given = given ≡ Ok answer
 ActiveResultAgrees (Err e) given = ErrorAgreesUnlessOutOfMemory e given
@@ -31,5 +32,6 @@ abbrev pub active_result_with_error_text : Result Bool ValueError → Result Boo
 active_result_with_error_text (Ok answer) = Ok answer
 active_result_with_error_text (Err e) = Err e.input.now
 
+-- an item of `NamesAndActive`, with the bytes it borrows: those of the name, and of a text that is refused
 abbrev pub name_and_active_of_references : Bor (List ℕ) × Result Bool ValueError → NameAndActive
 name_and_active_of_references state = (state.0.now, active_result_with_error_text state.1)

@@ -31,16 +31,20 @@ has_forbidden_ref_name_end name = ends_with nat_eq name (codes "/") || (ends_wit
 abbrev pub has_several_stars : List ℕ → Bool
 has_several_stars name = nat_le 2 (count_by (λ b. b == 42) name)
 
+-- one of the rules above forbids the name; a single star is let through, as in a refspec
 abbrev pub is_invalid_ref_name : List ℕ → Bool
 is_invalid_ref_name name = list_any is_forbidden_ref_name_byte name || (has_forbidden_ref_name_part name || (has_forbidden_ref_name_start name || (has_forbidden_ref_name_end name || has_several_stars name)))
 
+-- a refspec without the `+` that asks for a forced update; a second `+` stays
 abbrev pub without_leading_plus : List ℕ → List ℕ
 without_leading_plus [] = []
 without_leading_plus (b ∷ text) = if b == 43 then text else b ∷ text
 
+-- the side of a refspec that is fetched: what stands before the first `:`, or all of it where there is none
 abbrev pub refspec_source : List ℕ → List ℕ
 refspec_source text = text_before_first_occurrence 58 (without_leading_plus text)
 
+-- the branch that the source of a refspec names: `HEAD` where it is empty, none where git's rules forbid the name
 abbrev pub branch_of_refspec_source : List ℕ → Option Branch
 branch_of_refspec_source name =
     if is_empty name then Some (Name (codes "HEAD"))

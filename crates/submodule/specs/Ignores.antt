@@ -3,6 +3,7 @@ use Rattle.std.specs.Prelude.{ℕ, List, codes, bytes_eq, Option, Some, None, if
 use Rattle.submodule.specs.declared.ignore.Ignore.{Ignore}
 use Rattle.submodule.specs.declared.ignore.Ignore.TheVariants as ignore
 
+-- `all`, `dirty`, `untracked` or `none`, byte for byte; none for any other text, the empty one too
 abbrev pub parse_ignore_word : List ℕ → Option Ignore
 parse_ignore_word text =
     if bytes_eq text (codes "all") then Some ignore.All

@@ -7,6 +7,7 @@ use Rattle.git_config_lite.specs.Sections.{Section}
 use Rattle.submodule.specs.declared.named_path.NamedPath.{NamedPath}
 use Rattle.submodule.specs.Overrides.{value}
 
+-- a row of the table: the path comes first, then the name; a path that is looked for stands in a row with an empty name
 abbrev pub named_path : List ℕ → List ℕ → NamedPath
 named_path path name = record { path = path; name = name }
 

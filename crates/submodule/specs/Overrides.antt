@@ -15,7 +15,7 @@ use Rattle.git_config_lite.specs.declared.entry.Entry.{Entry}
 use Rattle.git_config_lite.specs.Sections.{Section, Configuration}
 use Rattle.git_config_lite.specs.Lookups.{last_string_value}
 use Rattle.git_config_lite.specs.Grammar.{parse_text_sections}
-use Rattle.git_config_lite.specs.Writers.{entry_of_key_and_value, configuration_with_sections}
+use Rattle.git_config_lite.specs.Writers.{entry_of_key_and_value, configuration_with_replaced_sections}
 use Rattle.submodule.specs.Names.{submodule_sections}
 
 -- names in the order of their bytes, with one more in its place, unless it is there
@@ -52,6 +52,7 @@ override_entries sections name = flat_map (λ key. override name key sections) o
 abbrev pub has_overriding_key : List Section → List ℕ → Bool
 has_overriding_key sections name = list_any (λ key. is_some (value name key sections)) overriding_keys
 
+-- the section of a submodule with each of these keys that it has, and without keys where it has none
 abbrev pub override_section_of_submodule : Metadata → List Section → List ℕ → Section
 override_section_of_submodule meta sections name =
     record { name = codes "submodule"; subsection = Some name; meta = meta; entries = override_entries sections name }
@@ -76,6 +77,7 @@ source_with_modules_as_api Local = Local
 source_with_modules_as_api Env = Env
 source_with_modules_as_api Api = Api
 
+-- the path and source of the configuration; `Modules` turns into `Api`, so that no override counts as `.gitmodules`
 abbrev pub metadata_of_overrides : Metadata → Metadata
 metadata_of_overrides meta = record { source = source_with_modules_as_api meta.source; path = meta.path }
 
@@ -85,15 +87,17 @@ overrides config = override_sections_of_names (metadata_of_overrides config.meta
 
 -- Submodules with the overrides of a configuration behind them.
 abbrev pub modules_with_overrides_appended : Configuration → Configuration → Configuration
-modules_with_overrides_appended modules config = configuration_with_sections modules (modules.sections ++ overrides config)
+modules_with_overrides_appended modules config = configuration_with_replaced_sections modules (modules.sections ++ overrides config)
 
 -- where the sections of `.gitmodules` are read
 abbrev pub gitmodules_metadata : Option (List ℕ) → Metadata
 gitmodules_metadata path = record { source = Modules; path = path }
 
+-- a configuration of these sections, itself read where `meta` says
 abbrev pub configuration_of_sections : Metadata → List Section → Configuration
 configuration_of_sections meta sections = record { meta = meta; sections = sections }
 
+-- sections of `.gitmodules` that were read, the overrides behind them; else the line that is refused
 abbrev pub modules_with_overrides_or_error : Metadata → Configuration → Result (List Section) ℕ → Result Configuration ℕ
 modules_with_overrides_or_error meta config (Err line) = Err line
 modules_with_overrides_or_error meta config (Ok sections) = Ok (modules_with_overrides_appended (configuration_of_sections meta sections) config)

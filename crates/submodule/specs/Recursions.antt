@@ -4,6 +4,7 @@ use Rattle.std.specs.Borrow.{Bor}
 use Rattle.submodule.specs.declared.fetch_recurse.FetchRecurse.{FetchRecurse}
 use Rattle.submodule.specs.declared.fetch_recurse.FetchRecurse.TheVariants.{OnDemand, Always, Never}
 
+-- true is `Always` and false `Never`; no boolean is `OnDemand`
 abbrev pub fetch_recurse_of_boolean : Bool → FetchRecurse
 fetch_recurse_of_boolean true = Always
 fetch_recurse_of_boolean false = Never

@@ -4,6 +4,7 @@ use Rattle.std.specs.List.{list_any, position_or_len, before_first, before_last,
 use Rattle.bstr.specs.Find.{is_byte, occurs_at}
 use Rattle.glob_rules.specs.Glob.{any_number_below_passes}
 
+-- some byte of the text is this one, which is the first argument
 abbrev pub contains_byte : ℕ → List ℕ → Bool
 contains_byte byte text = list_any (is_byte byte) text
 

@@ -8,6 +8,7 @@ abbrev pub parse_update_command : List ℕ → Option Update
 parse_update_command [] = None
 parse_update_command (b ∷ text) = if b == 33 then Some (update.Command text) else None
 
+-- `checkout`, `rebase`, `merge` or `none`, byte for byte, or a command behind a `!`; none for any other text
 abbrev pub parse_update : List ℕ → Option Update
 parse_update text =
     if bytes_eq text (codes "checkout") then Some update.Checkout

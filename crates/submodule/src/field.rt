@@ -60,7 +60,7 @@ impl From<OutOfMemory> for FieldError {
     }
 }
 
-fn invalid(
+fn invalid_field_error(
     alloc: Global,
     field: FieldName,
     name: &[u8],
@@ -89,7 +89,7 @@ pub(crate) fn ignore_of_optional_value(
     };
     match Ignore::try_from(value) {
         Ok(ignore) => Ok(Some(ignore)),
-        Err(()) => Err(invalid(alloc, FieldName::Ignore, name, value)?),
+        Err(()) => Err(invalid_field_error(alloc, FieldName::Ignore, name, value)?),
     }
 }
 
@@ -104,6 +104,11 @@ pub(crate) fn fetch_recurse_or_field_error(
 {
     match said {
         Ok(answer) => Ok(answer),
-        Err(value) => Err(invalid(alloc, FieldName::FetchRecurseSubmodules, name, value)?),
+        Err(value) => Err(invalid_field_error(
+            alloc,
+            FieldName::FetchRecurseSubmodules,
+            name,
+            value,
+        )?),
     }
 }

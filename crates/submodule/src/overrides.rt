@@ -92,7 +92,7 @@ fn has_overriding_key(config: &config::File, name: &[u8]) -> bool
 }
 
 /// Adds a key of a submodule with its last value, if it has one, to the one section that is there.
-fn add(
+fn add_override_of_key(
     alloc: Global,
     made: &mut config::File,
     config: &config::File,
@@ -127,11 +127,11 @@ fn override_config_of_submodule(
         return Ok(made);
     }
     made.push_section(alloc, b"submodule", name)?;
-    add(alloc, &mut made, config, name, b"branch")?;
-    add(alloc, &mut made, config, name, b"fetchRecurseSubmodules")?;
-    add(alloc, &mut made, config, name, b"ignore")?;
-    add(alloc, &mut made, config, name, b"update")?;
-    add(alloc, &mut made, config, name, b"url")?;
+    add_override_of_key(alloc, &mut made, config, name, b"branch")?;
+    add_override_of_key(alloc, &mut made, config, name, b"fetchRecurseSubmodules")?;
+    add_override_of_key(alloc, &mut made, config, name, b"ignore")?;
+    add_override_of_key(alloc, &mut made, config, name, b"update")?;
+    add_override_of_key(alloc, &mut made, config, name, b"url")?;
     Ok(made)
 }
 

@@ -50,7 +50,7 @@ impl From<OutOfMemory> for Error {
     }
 }
 
-fn missing(alloc: Global, name: &[u8]) -> Result<Error, OutOfMemory>
+fn missing_path_error(alloc: Global, name: &[u8]) -> Result<Error, OutOfMemory>
     ensures { IfOk result (λ e. e ≡ errors.Missing name.now) }
 {
     Ok(Error::Missing {
@@ -67,7 +67,7 @@ fn absolute_path_error(alloc: Global, name: &[u8], path: &[u8]) -> Result<Error,
     })
 }
 
-fn outside(alloc: Global, name: &[u8], path: &[u8]) -> Result<Error, OutOfMemory>
+fn outside_of_worktree_error(alloc: Global, name: &[u8], path: &[u8]) -> Result<Error, OutOfMemory>
     ensures { IfOk result (λ e. e ≡ errors.OutsideOfWorktree name.now path.now) }
 {
     Ok(Error::OutsideOfWorktree {
@@ -122,7 +122,7 @@ fn validate_path_value<'a>(alloc: Global, name: &[u8], value: &'a [u8]) -> Resul
         (Some value.now)) }
 {
     if value.is_empty() {
-        return Err(missing(alloc, name)?);
+        return Err(missing_path_error(alloc, name)?);
     }
     if is_absolute(value) {
         return Err(absolute_path_error(alloc, name, value)?);
@@ -130,7 +130,7 @@ fn validate_path_value<'a>(alloc: Global, name: &[u8], value: &'a [u8]) -> Resul
     if is_inside_worktree(alloc, value)? {
         Ok(value)
     } else {
-        Err(outside(alloc, name, value)?)
+        Err(outside_of_worktree_error(alloc, name, value)?)
     }
 }
 
@@ -145,6 +145,6 @@ pub(crate) fn path_of_optional_value<'a>(
 {
     match value {
         Some(value) => validate_path_value(alloc, name, value),
-        None => Err(missing(alloc, name)?),
+        None => Err(missing_path_error(alloc, name)?),
     }
 }

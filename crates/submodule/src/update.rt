@@ -107,13 +107,13 @@ impl Update {
         } else if value == b"none".as_slice() {
             Ok(Update::None)
         } else {
-            command(alloc, value)
+            parse_update_command(alloc, value)
         }
     }
 }
 
 /// A command behind a `!`.
-fn command(alloc: Global, value: &[u8]) -> Result<Update, UpdateParseError>
+fn parse_update_command(alloc: Global, value: &[u8]) -> Result<Update, UpdateParseError>
     ensures { UpdateParseAgrees result (updates.parse_update_command value.now) }
 {
     match value {
@@ -122,7 +122,7 @@ fn command(alloc: Global, value: &[u8]) -> Result<Update, UpdateParseError>
     }
 }
 
-fn invalid(alloc: Global, name: &[u8], value: &[u8]) -> Result<Error, OutOfMemory>
+fn invalid_update_error(alloc: Global, name: &[u8], value: &[u8]) -> Result<Error, OutOfMemory>
     ensures { IfOk result (λ e. e ≡ refusals.Invalid name.now value.now) }
 {
     Ok(Error::Invalid {
@@ -131,7 +131,7 @@ fn invalid(alloc: Global, name: &[u8], value: &[u8]) -> Result<Error, OutOfMemor
     })
 }
 
-fn forbidden(alloc: Global, name: &[u8], command: Bytes) -> Result<Error, OutOfMemory>
+fn forbidden_command_error(alloc: Global, name: &[u8], command: Bytes) -> Result<Error, OutOfMemory>
     ensures { IfOk result
         (λ e. e ≡ refusals.CommandForbiddenInModulesConfiguration name.now command) }
 {
@@ -163,7 +163,7 @@ fn update_unless_gitmodules_command(
     match update {
         Update::Command(command) => {
             if is_gitmodules_source(source) {
-                Err(forbidden(alloc, name, command)?)
+                Err(forbidden_command_error(alloc, name, command)?)
             } else {
                 Ok(Update::Command(command))
             }
@@ -185,7 +185,7 @@ fn parse_update_value(
 {
     match Update::try_from(alloc, value) {
         Ok(update) => update_unless_gitmodules_command(alloc, name, source, update),
-        Err(UpdateParseError::Invalid) => Err(invalid(alloc, name, value)?),
+        Err(UpdateParseError::Invalid) => Err(invalid_update_error(alloc, name, value)?),
         Err(UpdateParseError::OutOfMemory) => Err(Error::OutOfMemory),
     }
 }

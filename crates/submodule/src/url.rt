@@ -134,7 +134,7 @@ fn copy_url_parts(alloc: Global, parts: UrlParts<'_>) -> Result<Url, OutOfMemory
     })
 }
 
-fn missing(alloc: Global, name: &[u8]) -> Result<Error, OutOfMemory>
+fn missing_url_error(alloc: Global, name: &[u8]) -> Result<Error, OutOfMemory>
     ensures { IfOk result (λ e. e ≡ refusals.Missing name.now) }
 {
     Ok(Error::Missing {
@@ -161,7 +161,7 @@ fn parse_url_value(alloc: Global, name: &[u8], value: &[u8]) -> Result<Url, Erro
         (Some value.now)) }
 {
     if let [] = value {
-        return Err(missing(alloc, name)?);
+        return Err(missing_url_error(alloc, name)?);
     }
     match Url::parse(alloc, value) {
         Ok(url) => Ok(url),
@@ -186,6 +186,6 @@ pub(crate) fn url_of_optional_value(
 {
     match value {
         Some(value) => parse_url_value(alloc, name, value),
-        None => Err(missing(alloc, name)?),
+        None => Err(missing_url_error(alloc, name)?),
     }
 }

@@ -20,7 +20,7 @@ use Rattle.worktree_fs.specs.Causes.{CountIncreasedOrSaturated}
 use Rattle.worktree_fs.specs.Kept.{KeepsTreeAndListCounts}
 use Rattle.worktree_fs.specs.Owners.{OwnershipByPath}
 use Rattle.worktree_fs.specs.Tree.{Names}
-use Rattle.tizhagor.specs.declared.refusal.HereRefusal.{HereRefusal}
+use Rattle.tizhagor.specs.declared.refusal.CommandRefusal.{CommandRefusal}
 use Rattle.tizhagor.specs.declared.reply.Reply.{Reply}
 use Rattle.tizhagor.specs.declared.written.Writing.{Writing}
 use Rattle.tizhagor.specs.Compares.{FindsOverTreeAndStats, FindsOverTreeOwnersAndStats}
@@ -31,20 +31,20 @@ use Rattle.tizhagor.specs.StateLines.{MakesStateLinesByStat, state_lines_over_tr
 
 -- ---- answers
 
-err_is : {A : Type 0} (a b : HereRefusal) → ◌≡◌ {A = Result A HereRefusal} (Err a) (Err b) → a ≡ b
+err_is : {A : Type 0} (a b : CommandRefusal) → ◌≡◌ {A = Result A CommandRefusal} (Err a) (Err b) → a ≡ b
 err_is a b e = cc
 
-no_err : {A : Type 0} (a : A) (e : HereRefusal) → ◌≡◌ {A = Result A HereRefusal} (Ok a) (Err e) → ⊥
+no_err : {A : Type 0} (a : A) (e : CommandRefusal) → ◌≡◌ {A = Result A CommandRefusal} (Ok a) (Err e) → ⊥
 no_err a e is = absurd cc
 
-same_err : {A B : Type 0} (a b : HereRefusal) → ◌≡◌ {A = Result A HereRefusal} (Err a) (Err b) → ◌≡◌ {A = Result B HereRefusal} (Err a) (Err b)
+same_err : {A B : Type 0} (a b : CommandRefusal) → ◌≡◌ {A = Result A CommandRefusal} (Err a) (Err b) → ◌≡◌ {A = Result B CommandRefusal} (Err a) (Err b)
 same_err a b e = ap Err (err_is a b e)
 
-unless_any : {A P : Type 0} (answer : Result A HereRefusal) → P → HoldsUnlessFault fault answer P
+unless_any : {A P : Type 0} (answer : Result A CommandRefusal) → P → HoldsUnlessFault fault answer P
 unless_any (Ok given) holds = holds
 unless_any (Err e) holds = inr holds
 
-unless_weaker : {A P Q : Type 0} (answer : Result A HereRefusal) → (P → Q) → HoldsUnlessFault fault answer P → HoldsUnlessFault fault answer Q
+unless_weaker : {A P Q : Type 0} (answer : Result A CommandRefusal) → (P → Q) → HoldsUnlessFault fault answer P → HoldsUnlessFault fault answer Q
 unless_weaker (Ok given) to holds = to holds
 unless_weaker (Err e) to holds = elim holds [ inl is ↦ inl is | inr known ↦ inr (to known) ]
 
@@ -75,13 +75,13 @@ stats_then d d0 d1 d2 first next =
 
 module _ {W D : Type 0} (w : WorktreeOf W) (d : StatsOf D) where
   -- where the first gives something, the whole is what the next finds
-  pub goes_on : {A B : Type 0} (w0 w1 w2 : W) (d0 d1 d2 : D) (given : A) (found : Names → StatsByPath → Result A HereRefusal) (next whole : Names → StatsByPath → Result B HereRefusal) (answer : Result B HereRefusal)
+  pub goes_on : {A B : Type 0} (w0 w1 w2 : W) (d0 d1 d2 : D) (given : A) (found : Names → StatsByPath → Result A CommandRefusal) (next whole : Names → StatsByPath → Result B CommandRefusal) (answer : Result B CommandRefusal)
       → ((t : Names) (told : StatsByPath) → found t told ≡ Ok given → whole t told ≡ next t told)
       → FindsOverTreeAndStats {A = A} w d w0 w1 d0 d1 found (Ok given) → FindsOverTreeAndStats {A = B} w d w1 w2 d1 d2 next answer → FindsOverTreeAndStats {A = B} w d w0 w2 d0 d2 whole answer
   goes_on {B = B} w0 w1 w2 d0 d1 d2 given found next whole answer same first then =
       record {
         gives = λ t told tree tells.
-            subst (λ (r : Result B HereRefusal). IsFoundOrFailed fault memory answer r) (sym (same t told (first.gives t told tree tells)))
+            subst (λ (r : Result B CommandRefusal). IsFoundOrFailed fault memory answer r) (sym (same t told (first.gives t told tree tells)))
             (then.gives t told (first.keeps.tree ∙ tree) (first.stats.told ∙ tells));
         cause = λ is. elim (then.cause is) [
           | inl rose ↦ inl (subst (λ (n : ℕ). CountIncreasedOrSaturated n (w.faults w2)) first.unfaulted rose)
@@ -94,7 +94,7 @@ module _ {W D : Type 0} (w : WorktreeOf W) (d : StatsOf D) where
       }
 
   -- a refusal of the first is one of the whole
-  pub stops : {A B : Type 0} (w0 w1 : W) (d0 d1 : D) (e : HereRefusal) (found : Names → StatsByPath → Result A HereRefusal) (whole : Names → StatsByPath → Result B HereRefusal)
+  pub stops : {A B : Type 0} (w0 w1 : W) (d0 d1 : D) (e : CommandRefusal) (found : Names → StatsByPath → Result A CommandRefusal) (whole : Names → StatsByPath → Result B CommandRefusal)
       → ((t : Names) (told : StatsByPath) → found t told ≡ Err e → whole t told ≡ Err e)
       → FindsOverTreeAndStats {A = A} w d w0 w1 d0 d1 found (Err e) → FindsOverTreeAndStats {A = B} w d w0 w1 d0 d1 whole (Err e)
   stops w0 w1 d0 d1 e found whole to h =
@@ -204,15 +204,15 @@ of_states-is (Err differences.OutOfMemory) = tt
 -- ---- behind owners
 
 module _ {W O D : Type 0} (w : WorktreeOf W) (o : OwnersOf O) (d : StatsOf D) where
-  pub behind_owners : {A B : Type 0} (w0 w1 w2 : W) (o0 o1 : O) (d0 d1 : D) (given : A) (found : Names → OwnershipByPath → Result A HereRefusal) (next : Names → StatsByPath → Result B HereRefusal)
-      (whole : Names → OwnershipByPath → StatsByPath → Result B HereRefusal) (answer : Result B HereRefusal)
+  pub behind_owners : {A B : Type 0} (w0 w1 w2 : W) (o0 o1 : O) (d0 d1 : D) (given : A) (found : Names → OwnershipByPath → Result A CommandRefusal) (next : Names → StatsByPath → Result B CommandRefusal)
+      (whole : Names → OwnershipByPath → StatsByPath → Result B CommandRefusal) (answer : Result B CommandRefusal)
       → ((t : Names) (owned : OwnershipByPath) (told : StatsByPath) → found t owned ≡ Ok given → whole t owned told ≡ next t told)
       → FindsHereResultOverTreeAndOwners {A = A} w o w0 w1 o0 o1 found (Ok given) → FindsOverTreeAndStats {A = B} w d w1 w2 d0 d1 next answer → IfErr answer MayComeBeforeSetupIsFound
       → FindsOverTreeOwnersAndStats {A = B} w o d w0 w2 o0 o1 d0 d1 whole answer
   behind_owners {B = B} w0 w1 w2 o0 o1 d0 d1 given found next whole answer same first then of =
       record {
         gives = λ t owned told tree owns tells.
-            subst (λ (r : Result B HereRefusal). IsFoundOrFailed fault memory answer r) (sym (same t owned told (first.gives t owned tree owns)))
+            subst (λ (r : Result B CommandRefusal). IsFoundOrFailed fault memory answer r) (sym (same t owned told (first.gives t owned tree owns)))
             (then.gives t told (first.keeps.tree ∙ tree) tells);
         of = of;
         cause = λ is. elim (then.cause is) [
@@ -227,7 +227,7 @@ module _ {W O D : Type 0} (w : WorktreeOf W) (o : OwnersOf O) (d : StatsOf D) wh
         stats = then.stats;
       }
 
-  pub stops_before : {A B : Type 0} (w0 w1 : W) (o0 o1 : O) (d0 : D) (e : HereRefusal) (found : Names → OwnershipByPath → Result A HereRefusal) (whole : Names → OwnershipByPath → StatsByPath → Result B HereRefusal)
+  pub stops_before : {A B : Type 0} (w0 w1 : W) (o0 o1 : O) (d0 : D) (e : CommandRefusal) (found : Names → OwnershipByPath → Result A CommandRefusal) (whole : Names → OwnershipByPath → StatsByPath → Result B CommandRefusal)
       → ((t : Names) (owned : OwnershipByPath) (told : StatsByPath) → found t owned ≡ Err e → whole t owned told ≡ Err e)
       → FindsHereResultOverTreeAndOwners {A = A} w o w0 w1 o0 o1 found (Err e) → MayComeBeforeSetupIsFound e → FindsOverTreeOwnersAndStats {A = B} w o d w0 w1 o0 o1 d0 d0 whole (Err e)
   stops_before w0 w1 o0 o1 d0 e found whole to h of =

@@ -12,20 +12,20 @@ use Rattle.ls_files.specs.Changed.{ListsDeletedAndModified, output_of_changes_or
 use Rattle.ls_files.specs.declared.listed.Listed.{Listed}
 use Rattle.ls_files.specs.declared.options.Listing.{Listing}
 use Rattle.ls_files.specs.declared.options.NamedSpec.{NamedSpec}
-use Rattle.ls_files.specs.declared.standings.Standings.{Standings}
+use Rattle.ls_files.specs.declared.standings.DeletedModifiedChoice.{DeletedModifiedChoice}
 use Rattle.worktree_fs.specs.declared.worktree.Worktree.{Ghosts as WorktreeOf}
 use Rattle.worktree_fs.specs.Tree.{Names}
-use Rattle.tizhagor.specs.declared.refusal.HereRefusal.{HereRefusal}
+use Rattle.tizhagor.specs.declared.refusal.CommandRefusal.{CommandRefusal}
 use Rattle.tizhagor.specs.declared.reply.Reply.{Reply}
 use Rattle.tizhagor.specs.Changing.{reply_of_deleted_and_modified, reply_of_listed_changes_or_unsupported}
 use Rattle.tizhagor.specs.Compares.{FindsOverTreeAndStats}
 use Rattle.tizhagor.specs.Refusals.{MayComeBeforeSetupIsFound}
 
-no_err : {A : Type 0} (a : A) (e : HereRefusal) → ◌≡◌ {A = Result A HereRefusal} (Ok a) (Err e) → ⊥
+no_err : {A : Type 0} (a : A) (e : CommandRefusal) → ◌≡◌ {A = Result A CommandRefusal} (Ok a) (Err e) → ⊥
 no_err a e is = absurd cc
 
 module _ {W D : Type 0} (w : WorktreeOf W) (d : StatsOf D) where
-  pub of_listing : (w0 w1 : W) (d0 d1 : D) (root : List ℕ) (entries : List IndexEntry) (details : List Detail) (o : Comparison) (asked : Standings) (l : Listing) (prefix : List ℕ) (named : List NamedSpec) (specs : List PathSpec)
+  pub of_listing : (w0 w1 : W) (d0 d1 : D) (root : List ℕ) (entries : List IndexEntry) (details : List Detail) (o : Comparison) (asked : DeletedModifiedChoice) (l : Listing) (prefix : List ℕ) (named : List NamedSpec) (specs : List PathSpec)
       (answer : Result Listed ChangedError) → ListsDeletedAndModified w d w0 w1 d0 d1 root entries details o asked l prefix named specs answer
       → FindsOverTreeAndStats {A = Reply} w d w0 w1 d0 d1 (λ t told. reply_of_listed_changes_or_unsupported (output_of_changes_or_unsupported (record { tree = t; stats = told }) root entries details o asked l prefix named specs)) (reply_of_deleted_and_modified answer)
   of_listing w0 w1 d0 d1 root entries details o asked l prefix named specs (Ok made) h =

@@ -12,7 +12,7 @@ use Rattle.worktree_fs.specs.Causes.{CountIncreasedOrSaturated}
 use Rattle.worktree_fs.specs.Kept.{KeepsTreeAndListCounts}
 use Rattle.worktree_fs.specs.Owners.{OwnershipByPath}
 use Rattle.worktree_fs.specs.Tree.{Names}
-use Rattle.tizhagor.specs.declared.refusal.HereRefusal.{HereRefusal}
+use Rattle.tizhagor.specs.declared.refusal.CommandRefusal.{CommandRefusal}
 use Rattle.tizhagor.specs.declared.reply.Reply.{Reply}
 use Rattle.tizhagor.specs.Checking.{reply_of_check_ignore_answer}
 use Rattle.tizhagor.specs.Checks.{FindsReplyOverTreeAndOwners, FindsReplyOverTree}
@@ -21,20 +21,20 @@ use Rattle.tizhagor.specs.Refusals.{fault, memory, here_refusal_of_check_ignore_
 
 -- ---- answers
 
-err_is : {A : Type 0} (a b : HereRefusal) → ◌≡◌ {A = Result A HereRefusal} (Err a) (Err b) → a ≡ b
+err_is : {A : Type 0} (a b : CommandRefusal) → ◌≡◌ {A = Result A CommandRefusal} (Err a) (Err b) → a ≡ b
 err_is a b e = cc
 
-no_err : {A : Type 0} (a : A) (e : HereRefusal) → ◌≡◌ {A = Result A HereRefusal} (Ok a) (Err e) → ⊥
+no_err : {A : Type 0} (a : A) (e : CommandRefusal) → ◌≡◌ {A = Result A CommandRefusal} (Ok a) (Err e) → ⊥
 no_err a e is = absurd cc
 
-same_err : {A B : Type 0} (a b : HereRefusal) → ◌≡◌ {A = Result A HereRefusal} (Err a) (Err b) → ◌≡◌ {A = Result B HereRefusal} (Err a) (Err b)
+same_err : {A B : Type 0} (a b : CommandRefusal) → ◌≡◌ {A = Result A CommandRefusal} (Err a) (Err b) → ◌≡◌ {A = Result B CommandRefusal} (Err a) (Err b)
 same_err a b e = ap Err (err_is a b e)
 
-unless_any : {A P : Type 0} (answer : Result A HereRefusal) → P → HoldsUnlessFault fault answer P
+unless_any : {A P : Type 0} (answer : Result A CommandRefusal) → P → HoldsUnlessFault fault answer P
 unless_any (Ok given) holds = holds
 unless_any (Err e) holds = inr holds
 
-on_ok : {A P Q : Type 0} (answer : Result A HereRefusal) → (P → Q) → OnOk answer P → OnOk answer Q
+on_ok : {A P Q : Type 0} (answer : Result A CommandRefusal) → (P → Q) → OnOk answer P → OnOk answer Q
 on_ok (Ok given) to holds = to holds
 on_ok (Err e) to holds = tt
 
@@ -113,20 +113,20 @@ module _ {W : Type 0} (w : WorktreeOf W) where
       }
 
   -- where the first gives something, the whole is what the next finds
-  pub goes_on : {A : Type 0} (w0 w1 w2 : W) (given : A) (found : Names → Result A HereRefusal) (next whole : Names → Result Reply HereRefusal) (answer : Result Reply HereRefusal)
+  pub goes_on : {A : Type 0} (w0 w1 w2 : W) (given : A) (found : Names → Result A CommandRefusal) (next whole : Names → Result Reply CommandRefusal) (answer : Result Reply CommandRefusal)
       → ((t : Names) → found t ≡ Ok given → whole t ≡ next t)
       → FindsHereResultOverToldTree {A = A} w w0 w1 found (Ok given) → FindsReplyOverTree w w1 w2 next answer → FindsReplyOverTree w w0 w2 whole answer
   goes_on w0 w1 w2 given found next whole answer same first then =
       record {
         gives = λ t told.
-            subst (λ (r : Result Reply HereRefusal). IsFoundOrFailed fault memory answer r) (sym (same t (first.gives t told))) (then.gives t (first.keeps.tree ∙ told));
+            subst (λ (r : Result Reply CommandRefusal). IsFoundOrFailed fault memory answer r) (sym (same t (first.gives t told))) (then.gives t (first.keeps.tree ∙ told));
         cause = λ is. subst (λ (n : ℕ). CountIncreasedOrSaturated n (w.faults w2)) first.unfaulted (then.cause is);
         unfaulted = on_ok answer (λ is. is ∙ first.unfaulted) then.unfaulted;
         keeps = asks_then w w0 w1 w2 first.keeps then.keeps;
       }
 
   -- a refusal of the first is one of the whole
-  pub refused_first : {A : Type 0} (w0 w1 : W) (e : HereRefusal) (found : Names → Result A HereRefusal) (whole : Names → Result Reply HereRefusal)
+  pub refused_first : {A : Type 0} (w0 w1 : W) (e : CommandRefusal) (found : Names → Result A CommandRefusal) (whole : Names → Result Reply CommandRefusal)
       → ((t : Names) → found t ≡ Err e → whole t ≡ Err e)
       → FindsHereResultOverToldTree {A = A} w w0 w1 found (Err e) → FindsReplyOverTree w w0 w1 whole (Err e)
   refused_first w0 w1 e found whole to h =
@@ -140,15 +140,15 @@ module _ {W : Type 0} (w : WorktreeOf W) where
 -- ---- behind owners
 
 module _ {W O : Type 0} (w : WorktreeOf W) (o : OwnersOf O) where
-  pub behind_owners : {A : Type 0} (w0 w1 w2 : W) (o0 o1 : O) (given : A) (found : Names → OwnershipByPath → Result A HereRefusal) (next : Names → Result Reply HereRefusal)
-      (whole : Names → OwnershipByPath → Result Reply HereRefusal) (answer : Result Reply HereRefusal)
+  pub behind_owners : {A : Type 0} (w0 w1 w2 : W) (o0 o1 : O) (given : A) (found : Names → OwnershipByPath → Result A CommandRefusal) (next : Names → Result Reply CommandRefusal)
+      (whole : Names → OwnershipByPath → Result Reply CommandRefusal) (answer : Result Reply CommandRefusal)
       → ((t : Names) (owned : OwnershipByPath) → found t owned ≡ Ok given → whole t owned ≡ next t)
       → FindsHereResultOverTreeAndOwners {A = A} w o w0 w1 o0 o1 found (Ok given) → FindsReplyOverTree w w1 w2 next answer → IfErr answer MayComeBeforeSetupIsFound
       → FindsReplyOverTreeAndOwners w o w0 w2 o0 o1 whole answer
   behind_owners w0 w1 w2 o0 o1 given found next whole answer same first then of =
       record {
         gives = λ t owned told owns.
-            subst (λ (r : Result Reply HereRefusal). IsFoundOrFailed fault memory answer r) (sym (same t owned (first.gives t owned told owns)))
+            subst (λ (r : Result Reply CommandRefusal). IsFoundOrFailed fault memory answer r) (sym (same t owned (first.gives t owned told owns)))
             (then.gives t (first.keeps.tree ∙ told));
         of = of;
         cause = λ is. inl (subst (λ (n : ℕ). CountIncreasedOrSaturated n (w.faults w2)) first.unfaulted (then.cause is));
@@ -158,7 +158,7 @@ module _ {W O : Type 0} (w : WorktreeOf W) (o : OwnersOf O) where
         owners = first.owners;
       }
 
-  pub stops_before : {A : Type 0} (w0 w1 : W) (o0 o1 : O) (e : HereRefusal) (found : Names → OwnershipByPath → Result A HereRefusal) (whole : Names → OwnershipByPath → Result Reply HereRefusal)
+  pub stops_before : {A : Type 0} (w0 w1 : W) (o0 o1 : O) (e : CommandRefusal) (found : Names → OwnershipByPath → Result A CommandRefusal) (whole : Names → OwnershipByPath → Result Reply CommandRefusal)
       → ((t : Names) (owned : OwnershipByPath) → found t owned ≡ Err e → whole t owned ≡ Err e)
       → FindsHereResultOverTreeAndOwners {A = A} w o w0 w1 o0 o1 found (Err e) → MayComeBeforeSetupIsFound e → FindsReplyOverTreeAndOwners w o w0 w1 o0 o1 whole (Err e)
   stops_before w0 w1 o0 o1 e found whole to h of =

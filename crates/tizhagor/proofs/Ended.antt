@@ -7,7 +7,7 @@ use Rattle.worktree_fs.specs.declared.worktree.Worktree.{Ghosts as WorktreeOf}
 use Rattle.worktree_fs.specs.Causes.{CountIncreasedOrSaturated, CountNotIncreased}
 use Rattle.worktree_fs.specs.Owners.{OwnershipByPath}
 use Rattle.worktree_fs.specs.Tree.{Names}
-use Rattle.tizhagor.specs.declared.refusal.HereRefusal.{HereRefusal}
+use Rattle.tizhagor.specs.declared.refusal.CommandRefusal.{CommandRefusal}
 use Rattle.tizhagor.specs.declared.reply.Reply.{Reply}
 use Rattle.tizhagor.specs.Answers.{AnswersWordsWithoutStats, WordsAreMisuse, CallEnvironment, task_of_command}
 use Rattle.tizhagor.specs.Ends.{EndsWithStatusAndStreams, SaysRefusalWithProperty, WritesReplyWhole, SaysRefusalOrMemoryLine, SaysLineWithStatus}
@@ -45,26 +45,26 @@ module _ {W I O S E : Type 0} (w : WorktreeOf W) (i : InterruptOf I) (o : Owners
         | inr (inr unread) ↦ absurd (no_reply unread.answer_is)
       ]
 
-  pub unfaulted : (answer : Result Reply HereRefusal) → AnswersWordsWithoutStats w i o w0 w1 i0 i1 o0 o1 place words answer → EndsWithStatusAndStreams s e s0 s1 e0 e1 first answer status
+  pub unfaulted : (answer : Result Reply CommandRefusal) → AnswersWordsWithoutStats w i o w0 w1 i0 i1 o0 o1 place words answer → EndsWithStatusAndStreams s e s0 s1 e0 e1 first answer status
       → status ≤ 1 → output.CountsNoFaultForWords place words (w.faults w0) (w.faults w1)
   unfaulted answer a ends few =
       let wrote = ends_low s e s0 s1 e0 e1 first status answer ends few in
-      reply_unfaulted wrote.0 (subst (λ (x : Result Reply HereRefusal). AnswersWordsWithoutStats w i o w0 w1 i0 i1 o0 o1 place words x) wrote.1 a)
+      reply_unfaulted wrote.0 (subst (λ (x : Result Reply CommandRefusal). AnswersWordsWithoutStats w i o w0 w1 i0 i1 o0 o1 place words x) wrote.1 a)
 
-  pub owners_unfaulted : (answer : Result Reply HereRefusal) → AnswersWordsWithoutStats w i o w0 w1 i0 i1 o0 o1 place words answer → EndsWithStatusAndStreams s e s0 s1 e0 e1 first answer status
+  pub owners_unfaulted : (answer : Result Reply CommandRefusal) → AnswersWordsWithoutStats w i o w0 w1 i0 i1 o0 o1 place words answer → EndsWithStatusAndStreams s e s0 s1 e0 e1 first answer status
       → status ≤ 1 → o.faults o1 ≡ o.faults o0
   owners_unfaulted answer a ends few =
       let wrote = ends_low s e s0 s1 e0 e1 first status answer ends few in
-      reply_owners wrote.0 (subst (λ (x : Result Reply HereRefusal). AnswersWordsWithoutStats w i o w0 w1 i0 i1 o0 o1 place words x) wrote.1 a)
+      reply_owners wrote.0 (subst (λ (x : Result Reply CommandRefusal). AnswersWordsWithoutStats w i o w0 w1 i0 i1 o0 o1 place words x) wrote.1 a)
 
-  pub gives : (answer : Result Reply HereRefusal) → AnswersWordsWithoutStats w i o w0 w1 i0 i1 o0 o1 place words answer → EndsWithStatusAndStreams s e s0 s1 e0 e1 first answer status
+  pub gives : (answer : Result Reply CommandRefusal) → AnswersWordsWithoutStats w i o w0 w1 i0 i1 o0 o1 place words answer → EndsWithStatusAndStreams s e s0 s1 e0 e1 first answer status
       → (t : Names) (owned : OwnershipByPath) → w.told w0 ≡ Some t → o.told o0 ≡ Some owned → status ≤ 1
       → (reply : Reply) × output.IsReplyOfWords (w.precomposes w0) t owned place words (w.faults w0) (w.faults w1) reply × WritesReplyWhole s e s0 s1 e0 e1 reply status
   gives answer a ends t owned told tells few =
       let wrote = ends_low s e s0 s1 e0 e1 first status answer ends few in
-      (wrote.0, reply_output wrote.0 (subst (λ (x : Result Reply HereRefusal). AnswersWordsWithoutStats w i o w0 w1 i0 i1 o0 o1 place words x) wrote.1 a) t owned told tells, wrote.2)
+      (wrote.0, reply_output wrote.0 (subst (λ (x : Result Reply CommandRefusal). AnswersWordsWithoutStats w i o w0 w1 i0 i1 o0 o1 place words x) wrote.1 a) t owned told tells, wrote.2)
 
-  error_misuse : (refusal : HereRefusal) → AnswersWordsWithoutStats w i o w0 w1 i0 i1 o0 o1 place words (Err refusal) → status_of refusal ≡ 129 → WordsAreMisuse words
+  error_misuse : (refusal : CommandRefusal) → AnswersWordsWithoutStats w i o w0 w1 i0 i1 o0 o1 place words (Err refusal) → status_of refusal ≡ 129 → WordsAreMisuse words
   error_misuse refusal a is =
       elim a [
         | inl of ↦ absurd (task_not_misuse w i o w0 w1 i0 i1 o0 o1 place of.request.directory (task_of_command place.takes_colors of.request.command) refusal of.answers is)
@@ -72,21 +72,21 @@ module _ {W I O S E : Type 0} (w : WorktreeOf W) (i : InterruptOf I) (o : Owners
         | inr (inr unread) ↦ absurd (let same = memory_not refusal 129 (same_error unread.answer_is) is in omega (arith, same))
       ]
 
-  pub misuse : (answer : Result Reply HereRefusal) → AnswersWordsWithoutStats w i o w0 w1 i0 i1 o0 o1 place words answer → EndsWithStatusAndStreams s e s0 s1 e0 e1 first answer status → status ≡ 129 → WordsAreMisuse words
+  pub misuse : (answer : Result Reply CommandRefusal) → AnswersWordsWithoutStats w i o w0 w1 i0 i1 o0 o1 place words answer → EndsWithStatusAndStreams s e s0 s1 e0 e1 first answer status → status ≡ 129 → WordsAreMisuse words
   misuse answer a ends is =
       let refused = ends_above s e s0 s1 e0 e1 first status answer ends 129 is (omega arith) in
-      error_misuse refused.0 (subst (λ (x : Result Reply HereRefusal). AnswersWordsWithoutStats w i o w0 w1 i0 i1 o0 o1 place words x) refused.1 a) refused.2
+      error_misuse refused.0 (subst (λ (x : Result Reply CommandRefusal). AnswersWordsWithoutStats w i o w0 w1 i0 i1 o0 o1 place words x) refused.1 a) refused.2
 
-  pub usage : (answer : Result Reply HereRefusal) → AnswersWordsWithoutStats w i o w0 w1 i0 i1 o0 o1 place words answer → EndsWithStatusAndStreams s e s0 s1 e0 e1 first answer status → WordsAreMisuse words
+  pub usage : (answer : Result Reply CommandRefusal) → AnswersWordsWithoutStats w i o w0 w1 i0 i1 o0 o1 place words answer → EndsWithStatusAndStreams s e s0 s1 e0 e1 first answer status → WordsAreMisuse words
       → (status ≡ 129) ⊎ SaysLineWithStatus e e0 e1 out_of_memory_line 128 status
   usage answer a ends known =
       elim a [
         | inl of ↦ absurd (no_asking (sym of.asked ∙ known.is))
-        | inr (inl wrong) ↦ elim (subst (λ (x : Result Reply HereRefusal). EndsWithStatusAndStreams s e s0 s1 e0 e1 first x status) wrong.answer_is ends).by.1 [ inl told ↦ inl told.status_is | inr untold ↦ inr untold ]
-        | inr (inr unread) ↦ inr (wants_memory s e s0 s1 e0 e1 first status memory refl (subst (λ (x : Result Reply HereRefusal). EndsWithStatusAndStreams s e s0 s1 e0 e1 first x status) unread.answer_is ends).by.1)
+        | inr (inl wrong) ↦ elim (subst (λ (x : Result Reply CommandRefusal). EndsWithStatusAndStreams s e s0 s1 e0 e1 first x status) wrong.answer_is ends).by.1 [ inl told ↦ inl told.status_is | inr untold ↦ inr untold ]
+        | inr (inr unread) ↦ inr (wants_memory s e s0 s1 e0 e1 first status memory refl (subst (λ (x : Result Reply CommandRefusal). EndsWithStatusAndStreams s e s0 s1 e0 e1 first x status) unread.answer_is ends).by.1)
       ]
 
-  error_refused : (refusal : HereRefusal) → AnswersWordsWithoutStats w i o w0 w1 i0 i1 o0 o1 place words (Err refusal) → (t : Names) (owned : OwnershipByPath) → w.told w0 ≡ Some t → o.told o0 ≡ Some owned → CountNotIncreased (w.faults w0) (w.faults w1) → CountNotIncreased (o.faults o0) (o.faults o1)
+  error_refused : (refusal : CommandRefusal) → AnswersWordsWithoutStats w i o w0 w1 i0 i1 o0 o1 place words (Err refusal) → (t : Names) (owned : OwnershipByPath) → w.told w0 ≡ Some t → o.told o0 ≡ Some owned → CountNotIncreased (w.faults w0) (w.faults w1) → CountNotIncreased (o.faults o0) (o.faults o1)
       → status_of refusal ≡ 128 → (refusal ≡ memory) ⊎ output.RefusesWordsOverTree (w.precomposes w0) t owned place words refusal
   error_refused refusal a t owned told tells quiet owners_quiet is =
       elim a [
@@ -98,7 +98,7 @@ module _ {W I O S E : Type 0} (w : WorktreeOf W) (i : InterruptOf I) (o : Owners
         | inr (inr unread) ↦ inl (same_error unread.answer_is)
       ]
 
-  pub fatal : (answer : Result Reply HereRefusal) → AnswersWordsWithoutStats w i o w0 w1 i0 i1 o0 o1 place words answer → EndsWithStatusAndStreams s e s0 s1 e0 e1 first answer status
+  pub fatal : (answer : Result Reply CommandRefusal) → AnswersWordsWithoutStats w i o w0 w1 i0 i1 o0 o1 place words answer → EndsWithStatusAndStreams s e s0 s1 e0 e1 first answer status
       → (t : Names) (owned : OwnershipByPath) → w.told w0 ≡ Some t → o.told o0 ≡ Some owned → status ≡ 128 → CountNotIncreased (w.faults w0) (w.faults w1) → CountNotIncreased (o.faults o0) (o.faults o1) → CountNotIncreased (s.refusals s0) (s.refusals s1)
       → SaysLineWithStatus e e0 e1 out_of_memory_line 128 status ⊎ SaysRefusalWithProperty e e0 e1 first (output.RefusesWordsOverTree (w.precomposes w0) t owned place words)
   fatal (Ok reply) a ends t owned told tells is quiet owners_quiet taken =
@@ -115,31 +115,31 @@ module _ {W I O S E : Type 0} (w : WorktreeOf W) (i : InterruptOf I) (o : Owners
         | inr untold ↦ inl untold
       ]
 
-  answer_none : (answer : Result Reply HereRefusal) → AnswersWordsWithoutStats w i o w0 w1 i0 i1 o0 o1 place words answer → (t : Names) (owned : OwnershipByPath) (e : HereRefusal)
+  answer_none : (answer : Result Reply CommandRefusal) → AnswersWordsWithoutStats w i o w0 w1 i0 i1 o0 o1 place words answer → (t : Names) (owned : OwnershipByPath) (e : CommandRefusal)
       → w.told w0 ≡ Some t → o.told o0 ≡ Some owned → output.RefusesWordsBeforeSetupIsFound t owned place words e → CountNotIncreased (w.faults w0) (w.faults w1) → CountNotIncreased (o.faults o0) (o.faults o1)
       → IsRefusedAs e answer
   answer_none answer a t owned e told tells known quiet owners_quiet =
       elim a [
         | inl of ↦ task_none w i o w0 w1 i0 i1 o0 o1 place of.request.directory (task_of_command place.takes_colors of.request.command) answer of.answers t owned told tells quiet owners_quiet e (known.refused of.request of.asked)
         | inr (inl wrong) ↦ absurd (no_asking (sym known.words_are ∙ wrong.misuse.is))
-        | inr (inr unread) ↦ subst (λ (x : Result Reply HereRefusal). IsRefusedAs e x) (sym unread.answer_is) (inr refl)
+        | inr (inr unread) ↦ subst (λ (x : Result Reply CommandRefusal). IsRefusedAs e x) (sym unread.answer_is) (inr refl)
       ]
 
-  pub told_refused : (refusal : HereRefusal) (answer : Result Reply HereRefusal) → IsRefusedAs refusal answer → EndsWithStatusAndStreams s e s0 s1 e0 e1 first answer status → SaysRefusalOrMemoryLine e e0 e1 first refusal status
+  pub told_refused : (refusal : CommandRefusal) (answer : Result Reply CommandRefusal) → IsRefusedAs refusal answer → EndsWithStatusAndStreams s e s0 s1 e0 e1 first answer status → SaysRefusalOrMemoryLine e e0 e1 first refusal status
   told_refused refusal (Ok reply) is ends = absurd is
   told_refused refusal (Err other) is ends =
       elim is [
-        | inl same ↦ subst (λ (x : HereRefusal). SaysRefusalOrMemoryLine e e0 e1 first x status) same ends.by.1
+        | inl same ↦ subst (λ (x : CommandRefusal). SaysRefusalOrMemoryLine e e0 e1 first x status) same ends.by.1
         | inr wants ↦ inr (wants_memory s e s0 s1 e0 e1 first status other wants ends.by.1)
       ]
 
-  pub refused : (answer : Result Reply HereRefusal) → AnswersWordsWithoutStats w i o w0 w1 i0 i1 o0 o1 place words answer → EndsWithStatusAndStreams s e s0 s1 e0 e1 first answer status
-      → (t : Names) (owned : OwnershipByPath) (refusal : HereRefusal) → w.told w0 ≡ Some t → o.told o0 ≡ Some owned → output.RefusesWordsBeforeSetupIsFound t owned place words refusal
+  pub refused : (answer : Result Reply CommandRefusal) → AnswersWordsWithoutStats w i o w0 w1 i0 i1 o0 o1 place words answer → EndsWithStatusAndStreams s e s0 s1 e0 e1 first answer status
+      → (t : Names) (owned : OwnershipByPath) (refusal : CommandRefusal) → w.told w0 ≡ Some t → o.told o0 ≡ Some owned → output.RefusesWordsBeforeSetupIsFound t owned place words refusal
       → CountNotIncreased (w.faults w0) (w.faults w1) → CountNotIncreased (o.faults o0) (o.faults o1) → SaysRefusalOrMemoryLine e e0 e1 first refusal status
   refused answer a ends t owned refusal told tells known quiet owners_quiet =
       told_refused refusal answer (answer_none answer a t owned refusal told tells known quiet owners_quiet) ends
 
-  error_interrupted : (refusal : HereRefusal) → AnswersWordsWithoutStats w i o w0 w1 i0 i1 o0 o1 place words (Err refusal) → status_of refusal ≡ 130 → CountIncreasedOrSaturated (i.raised i0) (i.raised i1)
+  error_interrupted : (refusal : CommandRefusal) → AnswersWordsWithoutStats w i o w0 w1 i0 i1 o0 o1 place words (Err refusal) → status_of refusal ≡ 130 → CountIncreasedOrSaturated (i.raised i0) (i.raised i1)
   error_interrupted refusal a is =
       elim a [
         | inl of ↦ task_interrupted w i o w0 w1 i0 i1 o0 o1 place of.request.directory (task_of_command place.takes_colors of.request.command) refusal of.answers is
@@ -147,13 +147,13 @@ module _ {W I O S E : Type 0} (w : WorktreeOf W) (i : InterruptOf I) (o : Owners
         | inr (inr unread) ↦ absurd (let same = memory_not refusal 130 (same_error unread.answer_is) is in omega (arith, same))
       ]
 
-  pub interrupted : (answer : Result Reply HereRefusal) → AnswersWordsWithoutStats w i o w0 w1 i0 i1 o0 o1 place words answer → EndsWithStatusAndStreams s e s0 s1 e0 e1 first answer status → status ≡ 130
+  pub interrupted : (answer : Result Reply CommandRefusal) → AnswersWordsWithoutStats w i o w0 w1 i0 i1 o0 o1 place words answer → EndsWithStatusAndStreams s e s0 s1 e0 e1 first answer status → status ≡ 130
       → CountIncreasedOrSaturated (i.raised i0) (i.raised i1)
   interrupted answer a ends is =
       let refused = ends_above s e s0 s1 e0 e1 first status answer ends 130 is (omega arith) in
-      error_interrupted refused.0 (subst (λ (x : Result Reply HereRefusal). AnswersWordsWithoutStats w i o w0 w1 i0 i1 o0 o1 place words x) refused.1 a) refused.2
+      error_interrupted refused.0 (subst (λ (x : Result Reply CommandRefusal). AnswersWordsWithoutStats w i o w0 w1 i0 i1 o0 o1 place words x) refused.1 a) refused.2
 
-  error_complete : (refusal : HereRefusal) → AnswersWordsWithoutStats w i o w0 w1 i0 i1 o0 o1 place words (Err refusal) → (t : Names) (owned : OwnershipByPath) → w.told w0 ≡ Some t → o.told o0 ≡ Some owned → output.AreWordsAnswerableOverTree (w.precomposes w0) t owned place words
+  error_complete : (refusal : CommandRefusal) → AnswersWordsWithoutStats w i o w0 w1 i0 i1 o0 o1 place words (Err refusal) → (t : Names) (owned : OwnershipByPath) → w.told w0 ≡ Some t → o.told o0 ≡ Some owned → output.AreWordsAnswerableOverTree (w.precomposes w0) t owned place words
       → CountNotIncreased (w.faults w0) (w.faults w1) → CountNotIncreased (o.faults o0) (o.faults o1) → CountNotIncreased (i.raised i0) (i.raised i1) → refusal ≡ memory
   error_complete refusal a t owned told tells valid quiet owners_quiet calm =
       elim a [
@@ -162,7 +162,7 @@ module _ {W I O S E : Type 0} (w : WorktreeOf W) (i : InterruptOf I) (o : Owners
         | inr (inr unread) ↦ same_error unread.answer_is
       ]
 
-  pub complete : (answer : Result Reply HereRefusal) → AnswersWordsWithoutStats w i o w0 w1 i0 i1 o0 o1 place words answer → EndsWithStatusAndStreams s e s0 s1 e0 e1 first answer status
+  pub complete : (answer : Result Reply CommandRefusal) → AnswersWordsWithoutStats w i o w0 w1 i0 i1 o0 o1 place words answer → EndsWithStatusAndStreams s e s0 s1 e0 e1 first answer status
       → (t : Names) (owned : OwnershipByPath) → w.told w0 ≡ Some t → o.told o0 ≡ Some owned → output.AreWordsAnswerableOverTree (w.precomposes w0) t owned place words → CountNotIncreased (w.faults w0) (w.faults w1) → CountNotIncreased (o.faults o0) (o.faults o1)
       → CountNotIncreased (i.raised i0) (i.raised i1) → CountNotIncreased (s.refusals s0) (s.refusals s1) → (status ≤ 1) ⊎ SaysLineWithStatus e e0 e1 out_of_memory_line 128 status
   complete (Ok reply) a ends t owned told tells valid quiet owners_quiet calm taken =

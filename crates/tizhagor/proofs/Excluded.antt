@@ -6,16 +6,16 @@ use Rattle.ls_files.specs.declared.excluded_error.ExcludedError.TheVariants as e
 use Rattle.ls_files.specs.declared.listed.Listed.{Listed}
 use Rattle.worktree_fs.specs.declared.worktree.Worktree.{Ghosts as WorktreeOf}
 use Rattle.worktree_fs.specs.Tree.{Names}
-use Rattle.tizhagor.specs.declared.refusal.HereRefusal.{HereRefusal}
+use Rattle.tizhagor.specs.declared.refusal.CommandRefusal.{CommandRefusal}
 use Rattle.tizhagor.specs.declared.reply.Reply.{Reply}
 use Rattle.tizhagor.specs.Checks.{FindsReplyOverTree}
 use Rattle.tizhagor.specs.Excluding.{reply_of_ignored_index_listing, here_refusal_of_ignored_index_error}
 use Rattle.tizhagor.specs.Refusals.{fault, MayComeBeforeSetupIsFound}
 
-err_is : {A : Type 0} (a b : HereRefusal) → ◌≡◌ {A = Result A HereRefusal} (Err a) (Err b) → a ≡ b
+err_is : {A : Type 0} (a b : CommandRefusal) → ◌≡◌ {A = Result A CommandRefusal} (Err a) (Err b) → a ≡ b
 err_is a b e = cc
 
-no_err : {A : Type 0} (a : A) (e : HereRefusal) → ◌≡◌ {A = Result A HereRefusal} (Ok a) (Err e) → ⊥
+no_err : {A : Type 0} (a : A) (e : CommandRefusal) → ◌≡◌ {A = Result A CommandRefusal} (Ok a) (Err e) → ⊥
 no_err a e is = absurd cc
 
 is_fault : (e : ExcludedError) → here_refusal_of_ignored_index_error e ≡ fault → e ≡ excluding.Fault

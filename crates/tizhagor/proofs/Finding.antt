@@ -9,7 +9,7 @@ use Rattle.git_setup.specs.Finds.{FindsOverToldTreeAndOwners}
 use Rattle.git_setup.specs.declared.error.GitRefusal.{GitRefusal}
 use Rattle.git_setup.specs.declared.error.GitRefusal.TheVariants as git
 use Rattle.git_setup.specs.declared.found.Found.{Found}
-use Rattle.tizhagor.specs.declared.refusal.HereRefusal.{HereRefusal}
+use Rattle.tizhagor.specs.declared.refusal.CommandRefusal.{CommandRefusal}
 use Rattle.tizhagor.specs.Finds.{FindsHereResultOverTreeAndOwners}
 use Rattle.tizhagor.specs.Refusals.{git_result_with_here_refusal, fault, here_refusal_of_git_refusal, MayComeBeforeSetupIsFound}
 

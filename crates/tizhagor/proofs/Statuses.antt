@@ -7,8 +7,8 @@ use Rattle.command_line.specs.Requests.{RequestOrMisuse, Command as Commands, as
 use Rattle.command_line.specs.declared.misuse.Wrong.{Wrong}
 use Rattle.command_line.specs.declared.verb.Topic.{Topic}
 use Rattle.git_setup.specs.declared.found.Found.{Found}
-use Rattle.tizhagor.specs.declared.refusal.HereRefusal.{HereRefusal}
-use Rattle.tizhagor.specs.declared.refusal.HereRefusal.TheVariants as errors
+use Rattle.tizhagor.specs.declared.refusal.CommandRefusal.{CommandRefusal}
+use Rattle.tizhagor.specs.declared.refusal.CommandRefusal.TheVariants as errors
 use Rattle.tizhagor.specs.declared.reply.Reply.{Reply}
 use Rattle.tizhagor.specs.Ends.{EndsWithStatusAndStreams, WritesReplyWhole, SaysRefusalOrMemoryLine, SaysLineWithStatus}
 use Rattle.tizhagor.specs.Parts.{out_of_memory_line}
@@ -28,7 +28,7 @@ program_high refusals.Fault = omega arith
 program_high refusals.Output = omega arith
 program_high refusals.OutOfMemory = omega arith
 
-is_high : (e : HereRefusal) → 128 ≤ status_of e
+is_high : (e : CommandRefusal) → 128 ≤ status_of e
 is_high (errors.Words misuse) = omega arith
 is_high (errors.Absent directory) = omega arith
 is_high (errors.NotADirectory directory) = omega arith
@@ -60,7 +60,7 @@ program_not_misuse refusals.Output is = omega arith
 program_not_misuse refusals.OutOfMemory is = omega arith
 
 -- while a work tree is looked for no word is found wrong, and no interrupt is asked
-pub finding_not_misuse : (e : HereRefusal) → MayComeBeforeSetupIsFound e → status_of e ≡ 129 → ⊥
+pub finding_not_misuse : (e : CommandRefusal) → MayComeBeforeSetupIsFound e → status_of e ≡ 129 → ⊥
 finding_not_misuse (errors.Words misuse) of is = absurd of
 finding_not_misuse (errors.Absent directory) of is = omega arith
 finding_not_misuse (errors.NotADirectory directory) of is = omega arith
@@ -84,7 +84,7 @@ interrupted_is refusals.Fault is = absurd (omega arith)
 interrupted_is refusals.Output is = absurd (omega arith)
 interrupted_is refusals.OutOfMemory is = absurd (omega arith)
 
-pub finding_not_interrupted : (e : HereRefusal) → MayComeBeforeSetupIsFound e → status_of e ≡ 130 → ⊥
+pub finding_not_interrupted : (e : CommandRefusal) → MayComeBeforeSetupIsFound e → status_of e ≡ 130 → ⊥
 finding_not_interrupted (errors.Words misuse) of is = absurd of
 finding_not_interrupted (errors.Absent directory) of is = omega arith
 finding_not_interrupted (errors.NotADirectory directory) of is = omega arith
@@ -105,24 +105,24 @@ finding_not_interrupted (errors.Program refusals.Fault) of is = omega arith
 finding_not_interrupted (errors.Program refusals.Output) of is = absurd of
 finding_not_interrupted (errors.Program refusals.OutOfMemory) of is = omega arith
 
-pub memory_not : (e : HereRefusal) (n : ℕ) → e ≡ memory → status_of e ≡ n → n ≡ 128
+pub memory_not : (e : CommandRefusal) (n : ℕ) → e ≡ memory → status_of e ≡ n → n ≡ 128
 memory_not e n is status = sym status ∙ ap status_of is
 
 -- ---- terms
 
-pub no_reply : {a : Reply} {b : HereRefusal} → ◌≡◌ {A = Result Reply HereRefusal} (Ok a) (Err b) → ⊥
+pub no_reply : {a : Reply} {b : CommandRefusal} → ◌≡◌ {A = Result Reply CommandRefusal} (Ok a) (Err b) → ⊥
 no_reply is = absurd cc
 
-pub same_error : {a b : HereRefusal} → ◌≡◌ {A = Result Reply HereRefusal} (Err a) (Err b) → a ≡ b
+pub same_error : {a b : CommandRefusal} → ◌≡◌ {A = Result Reply CommandRefusal} (Err a) (Err b) → a ≡ b
 same_error e = cc
 
-pub same_found : {a b : Found} → ◌≡◌ {A = Result Found HereRefusal} (Ok a) (Ok b) → a ≡ b
+pub same_found : {a b : Found} → ◌≡◌ {A = Result Found CommandRefusal} (Ok a) (Ok b) → a ≡ b
 same_found e = cc
 
-pub same_refusal : {a b : HereRefusal} → ◌≡◌ {A = Result Found HereRefusal} (Err a) (Err b) → a ≡ b
+pub same_refusal : {a b : CommandRefusal} → ◌≡◌ {A = Result Found CommandRefusal} (Err a) (Err b) → a ≡ b
 same_refusal e = cc
 
-pub not_found : {a : Found} {b : HereRefusal} → ◌≡◌ {A = Result Found HereRefusal} (Ok a) (Err b) → ⊥
+pub not_found : {a : Found} {b : CommandRefusal} → ◌≡◌ {A = Result Found CommandRefusal} (Ok a) (Err b) → ⊥
 not_found is = absurd cc
 
 pub no_asking : {directory : Option (List ℕ)} {command : Commands} {topic : Topic} {wrong : Wrong} {word : List ℕ} → ◌≡◌ {A = RequestOrMisuse} (asks directory command) (is_misuse topic wrong word) → ⊥
@@ -132,7 +132,7 @@ no_asking is = absurd cc
 
 module _ {S E : Type 0} (s : SinkOf S) (e : SinkOf E) (s0 s1 : S) (e0 e1 : E) (first : List ℕ) (status : ℕ) where
   -- with 0 and 1 there is a reply, and it is written
-  pub ends_low : (answer : Result Reply HereRefusal) → EndsWithStatusAndStreams s e s0 s1 e0 e1 first answer status → status ≤ 1
+  pub ends_low : (answer : Result Reply CommandRefusal) → EndsWithStatusAndStreams s e s0 s1 e0 e1 first answer status → status ≤ 1
       → (reply : Reply) × (answer ≡ Ok reply) × WritesReplyWhole s e s0 s1 e0 e1 reply status
   ends_low (Ok reply) ends few = elim ends.by [ inl whole ↦ (reply, refl, whole) | inr cut ↦ absurd (let is = cut.status_is in omega (arith, is, few)) ]
   ends_low (Err refusal) ends few =
@@ -142,8 +142,8 @@ module _ {S E : Type 0} (s : SinkOf S) (e : SinkOf E) (s0 s1 : S) (e0 e1 : E) (f
       ]
 
   -- a status above 128 is that of a refusal
-  pub ends_above : (answer : Result Reply HereRefusal) → EndsWithStatusAndStreams s e s0 s1 e0 e1 first answer status → (n : ℕ) → status ≡ n → 128 < n
-      → (refusal : HereRefusal) × (answer ≡ Err refusal) × (status_of refusal ≡ n)
+  pub ends_above : (answer : Result Reply CommandRefusal) → EndsWithStatusAndStreams s e s0 s1 e0 e1 first answer status → (n : ℕ) → status ≡ n → 128 < n
+      → (refusal : CommandRefusal) × (answer ≡ Err refusal) × (status_of refusal ≡ n)
   ends_above (Ok reply) ends n is high =
       elim ends.by [
         | inl whole ↦ absurd (let same = whole.status_is in let low = is_low reply in omega (arith, same, low, is, high))
@@ -153,5 +153,5 @@ module _ {S E : Type 0} (s : SinkOf S) (e : SinkOf E) (s0 s1 : S) (e0 e1 : E) (f
       elim ends.by.1 [ inl told ↦ (refusal, refl, sym told.status_is ∙ is) | inr untold ↦ absurd (let same = untold.status_is in omega (arith, same, is, high)) ]
 
   -- want of memory is told
-  pub wants_memory : (refusal : HereRefusal) → refusal ≡ memory → SaysRefusalOrMemoryLine e e0 e1 first refusal status → SaysLineWithStatus e e0 e1 out_of_memory_line 128 status
-  wants_memory refusal is told = elim (subst (λ (x : HereRefusal). SaysRefusalOrMemoryLine e e0 e1 first x status) is told) [ inl known ↦ record { status_is = known.status_is; said = known.said } | inr untold ↦ untold ]
+  pub wants_memory : (refusal : CommandRefusal) → refusal ≡ memory → SaysRefusalOrMemoryLine e e0 e1 first refusal status → SaysLineWithStatus e e0 e1 out_of_memory_line 128 status
+  wants_memory refusal is told = elim (subst (λ (x : CommandRefusal). SaysRefusalOrMemoryLine e e0 e1 first x status) is told) [ inl known ↦ record { status_is = known.status_is; said = known.said } | inr untold ↦ untold ]

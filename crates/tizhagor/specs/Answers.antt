@@ -28,9 +28,9 @@ use Rattle.tizhagor.specs.declared.answer.Called.{Called}
 use Rattle.tizhagor.specs.declared.answer.Demand.{Demand}
 use Rattle.tizhagor.specs.declared.answer.Demand.TheVariants as demands
 use Rattle.tizhagor.specs.declared.call.Call.{Call}
-use Rattle.tizhagor.specs.declared.refusal.HereRefusal.{HereRefusal}
+use Rattle.tizhagor.specs.declared.refusal.CommandRefusal.{CommandRefusal}
 use Rattle.tizhagor.specs.declared.call.Call.TheVariants as calls
-use Rattle.tizhagor.specs.declared.refusal.HereRefusal.TheVariants.{Program, Words}
+use Rattle.tizhagor.specs.declared.refusal.CommandRefusal.TheVariants.{Program, Words}
 use Rattle.tizhagor.specs.declared.written.Writing.{Writing}
 use Rattle.tizhagor.specs.declared.written.Writing.TheVariants as writings
 use Rattle.tizhagor.specs.declared.reply.Reply.{Reply}
@@ -48,7 +48,7 @@ use Rattle.tizhagor.specs.Writing.{text_formatted_for_output}
 -- The root and the setup were found first, by asking for nodes, files and owners alone, and no fault of that is hidden; then `Then` holds
 -- of them and of the worktree as it was by then. Where the tree and the owners are told they are the ones that are found in them. The
 -- owners were asked for nothing else.
-pub record HoldsAfterFindingWorkTree {W O : Type 0} (w : WorktreeOf W) (o : OwnersOf O) (w0 : W) (o0 o1 : O) (found : Names → OwnershipByPath → Result Found HereRefusal) (Then : Found → W → Type 0) : Type 0 where
+pub record HoldsAfterFindingWorkTree {W O : Type 0} (w : WorktreeOf W) (o : OwnersOf O) (w0 : W) (o0 o1 : O) (found : Names → OwnershipByPath → Result Found CommandRefusal) (Then : Found → W → Type 0) : Type 0 where
   pub here : Found
   pub is : (t : Names) (owned : OwnershipByPath) → w.told w0 ≡ Some t → o.told o0 ≡ Some owned → found t owned ≡ Ok here
   pub loaded : W
@@ -60,7 +60,7 @@ pub record HoldsAfterFindingWorkTree {W O : Type 0} (w : WorktreeOf W) (o : Owne
 
 -- They were not found: over a told tree and told owners as these have it, or for want of memory, or as the worktree failed, or the owners,
 -- which they counted; no other refusal hides a fault. Nothing was listed, and the interrupt was not asked.
-pub record RefusesFindingWorkTree {W I O : Type 0} (w : WorktreeOf W) (o : OwnersOf O) (w0 w1 : W) (i0 i1 : I) (o0 o1 : O) (found : Names → OwnershipByPath → Result Found HereRefusal) (e : HereRefusal) : Type 0 where
+pub record RefusesFindingWorkTree {W I O : Type 0} (w : WorktreeOf W) (o : OwnersOf O) (w0 w1 : W) (i0 i1 : I) (o0 o1 : O) (found : Names → OwnershipByPath → Result Found CommandRefusal) (e : CommandRefusal) : Type 0 where
   pub is : (t : Names) (owned : OwnershipByPath) → w.told w0 ≡ Some t → o.told o0 ≡ Some owned → IsFoundOrFailed {A = Found} fault memory (Err e) (found t owned)
   pub of : MayComeBeforeSetupIsFound e
   pub cause : e ≡ fault → CountIncreasedOrSaturated (w.faults w0) (w.faults w1) ⊎ CountIncreasedOrSaturated (o.faults o0) (o.faults o1)
@@ -75,30 +75,30 @@ abbrev pub MakesCallTextAfterFound : {W I : Type 0} → WorktreeOf W → Interru
 MakesCallTextAfterFound w i w1 i0 i1 call answer here loaded = MakesTextOfCall w i loaded w1 i0 i1 here.root here.setup answer call
 
 -- There is no text by what was found.
-pub record RefusesTextAfterFound {W I O : Type 0} (w : WorktreeOf W) (i : InterruptOf I) (o : OwnersOf O) (w0 w1 : W) (i0 i1 : I) (o0 o1 : O) (found : Names → OwnershipByPath → Result Found HereRefusal) (call : Call) (e : HereRefusal) : Type 0 where
+pub record RefusesTextAfterFound {W I O : Type 0} (w : WorktreeOf W) (i : InterruptOf I) (o : OwnersOf O) (w0 w1 : W) (i0 i1 : I) (o0 o1 : O) (found : Names → OwnershipByPath → Result Found CommandRefusal) (call : Call) (e : CommandRefusal) : Type 0 where
   pub refusal : Refusal
   pub e_is : e ≡ Program refusal
   pub by : HoldsAfterFindingWorkTree w o w0 o0 o1 found (MakesCallTextAfterFound w i w1 i0 i1 call (Err refusal))
 
 -- The text of a call, or why there is none: by what was found, or as nothing was.
-abbrev pub AnswersCallText : {W I O : Type 0} → WorktreeOf W → InterruptOf I → OwnersOf O → W → W → I → I → O → O → (Names → OwnershipByPath → Result Found HereRefusal) → Call → Result (List ℕ) HereRefusal → Type 0
+abbrev pub AnswersCallText : {W I O : Type 0} → WorktreeOf W → InterruptOf I → OwnersOf O → W → W → I → I → O → O → (Names → OwnershipByPath → Result Found CommandRefusal) → Call → Result (List ℕ) CommandRefusal → Type 0
 AnswersCallText w i o w0 w1 i0 i1 o0 o1 found call (Ok text) = HoldsAfterFindingWorkTree w o w0 o0 o1 found (MakesCallTextAfterFound w i w1 i0 i1 call (Ok text))
 AnswersCallText w i o w0 w1 i0 i1 o0 o1 found call (Err e) = RefusesFindingWorkTree w o w0 w1 i0 i1 o0 o1 found e ⊎ RefusesTextAfterFound w i o w0 w1 i0 i1 o0 o1 found call e
 
 -- The bytes are those that are written for a text of the call.
-pub record FormatsBytesOfCallText {W I O : Type 0} (w : WorktreeOf W) (i : InterruptOf I) (o : OwnersOf O) (w0 w1 : W) (i0 i1 : I) (o0 o1 : O) (found : Names → OwnershipByPath → Result Found HereRefusal) (call : Call) (writing : Writing) (bytes : List ℕ) : Type 0 where
+pub record FormatsBytesOfCallText {W I O : Type 0} (w : WorktreeOf W) (i : InterruptOf I) (o : OwnersOf O) (w0 w1 : W) (i0 i1 : I) (o0 o1 : O) (found : Names → OwnershipByPath → Result Found CommandRefusal) (call : Call) (writing : Writing) (bytes : List ℕ) : Type 0 where
   pub text : List ℕ
   pub bytes_is : bytes ≡ text_formatted_for_output writing text
   pub by : AnswersCallText w i o w0 w1 i0 i1 o0 o1 found call (Ok text)
 
 -- There was a text, and memory was wanted for the bytes that are written for it.
-pub record LacksMemoryToFormatText {W I O : Type 0} (w : WorktreeOf W) (i : InterruptOf I) (o : OwnersOf O) (w0 w1 : W) (i0 i1 : I) (o0 o1 : O) (found : Names → OwnershipByPath → Result Found HereRefusal) (call : Call) (e : HereRefusal) : Type 0 where
+pub record LacksMemoryToFormatText {W I O : Type 0} (w : WorktreeOf W) (i : InterruptOf I) (o : OwnersOf O) (w0 w1 : W) (i0 i1 : I) (o0 o1 : O) (found : Names → OwnershipByPath → Result Found CommandRefusal) (call : Call) (e : CommandRefusal) : Type 0 where
   pub text : List ℕ
   pub e_is : e ≡ memory
   pub by : AnswersCallText w i o w0 w1 i0 i1 o0 o1 found call (Ok text)
 
 -- The bytes for a call, or why there are none.
-abbrev pub AnswersCallBytes : {W I O : Type 0} → WorktreeOf W → InterruptOf I → OwnersOf O → W → W → I → I → O → O → (Names → OwnershipByPath → Result Found HereRefusal) → Call → Writing → Result (List ℕ) HereRefusal → Type 0
+abbrev pub AnswersCallBytes : {W I O : Type 0} → WorktreeOf W → InterruptOf I → OwnersOf O → W → W → I → I → O → O → (Names → OwnershipByPath → Result Found CommandRefusal) → Call → Writing → Result (List ℕ) CommandRefusal → Type 0
 AnswersCallBytes w i o w0 w1 i0 i1 o0 o1 found call writing (Ok bytes) = FormatsBytesOfCallText w i o w0 w1 i0 i1 o0 o1 found call writing bytes
 AnswersCallBytes w i o w0 w1 i0 i1 o0 o1 found call writing (Err e) = AnswersCallText w i o w0 w1 i0 i1 o0 o1 found call (Err e) ⊎ LacksMemoryToFormatText w i o w0 w1 i0 i1 o0 o1 found call e
 
@@ -109,20 +109,20 @@ abbrev pub AnswersCommandAfterFound : {W I : Type 0} → WorktreeOf W → Interr
 AnswersCommandAfterFound w i w1 i0 i1 word answer here loaded = AnswersCommandOfFound w i loaded w1 i0 i1 here answer word
 
 -- There is no reply by what was found.
-pub record RefusesCommandAfterFound {W I O : Type 0} (w : WorktreeOf W) (i : InterruptOf I) (o : OwnersOf O) (w0 w1 : W) (i0 i1 : I) (o0 o1 : O) (found : Names → OwnershipByPath → Result Found HereRefusal) (word : WorkTreeCommand) (e : HereRefusal) : Type 0 where
+pub record RefusesCommandAfterFound {W I O : Type 0} (w : WorktreeOf W) (i : InterruptOf I) (o : OwnersOf O) (w0 w1 : W) (i0 i1 : I) (o0 o1 : O) (found : Names → OwnershipByPath → Result Found CommandRefusal) (word : WorkTreeCommand) (e : CommandRefusal) : Type 0 where
   pub refusal : Refusal
   pub e_is : e ≡ Program refusal
   pub by : HoldsAfterFindingWorkTree w o w0 o0 o1 found (AnswersCommandAfterFound w i w1 i0 i1 word (Err refusal))
 
 -- What is said for one of git's own words, or why nothing is: by what was found, or as nothing was.
-abbrev pub AnswersWorkTreeCommand : {W I O : Type 0} → WorktreeOf W → InterruptOf I → OwnersOf O → W → W → I → I → O → O → (Names → OwnershipByPath → Result Found HereRefusal) → WorkTreeCommand → Result Reply HereRefusal → Type 0
+abbrev pub AnswersWorkTreeCommand : {W I O : Type 0} → WorktreeOf W → InterruptOf I → OwnersOf O → W → W → I → I → O → O → (Names → OwnershipByPath → Result Found CommandRefusal) → WorkTreeCommand → Result Reply CommandRefusal → Type 0
 AnswersWorkTreeCommand w i o w0 w1 i0 i1 o0 o1 found word (Ok reply) = HoldsAfterFindingWorkTree w o w0 o0 o1 found (AnswersCommandAfterFound w i w1 i0 i1 word (Ok reply))
 AnswersWorkTreeCommand w i o w0 w1 i0 i1 o0 o1 found word (Err e) = RefusesFindingWorkTree w o w0 w1 i0 i1 o0 o1 found e ⊎ RefusesCommandAfterFound w i o w0 w1 i0 i1 o0 o1 found word e
 
 -- ---- what is always the same
 
 -- A text that is always the same, or the want of memory for it; nothing was asked for it.
-pub record AnswersFixedText {W I O : Type 0} (w0 w1 : W) (i0 i1 : I) (o0 o1 : O) (text : List ℕ) (answer : Result (List ℕ) HereRefusal) : Type 0 where
+pub record AnswersFixedText {W I O : Type 0} (w0 w1 : W) (i0 i1 : I) (o0 o1 : O) (text : List ℕ) (answer : Result (List ℕ) CommandRefusal) : Type 0 where
   pub gives : IfOk answer (λ bytes. bytes ≡ text)
   pub refused : IfErr answer (λ e. e ≡ memory)
   pub worktree : w1 ≡ w0
@@ -140,7 +140,7 @@ pub data CommandTask : Type 0 where
   check_of : RuleCommand → Asked → CommandTask
   compare_of : StatCommand → Asked → CommandTask
   both_of : WorkTreeCommand → StatCommand → Asked → CommandTask
-  offer_of : List ℕ → CommandTask
+  fixed_text_task : List ℕ → CommandTask
 
 -- what a demand asks for
 abbrev pub task_of_demand : Demand → CommandTask
@@ -153,8 +153,8 @@ task_of_demand (demands.Changed asked wants standings) =
 task_of_demand (demands.Clean asked wants) = word_of (cleaning_of wants) asked
 task_of_demand (demands.Check asked checking) = check_of (checking_of checking) asked
 task_of_demand (demands.Compare asked comparing) = compare_of (differences_of comparing) asked
-task_of_demand (demands.Help topic) = offer_of (help_text_of_topic topic)
-task_of_demand demands.Version = offer_of version_line
+task_of_demand (demands.Help topic) = fixed_text_task (help_text_of_topic topic)
+task_of_demand demands.Version = fixed_text_task version_line
 
 -- what a command asks for; `takes_colors` says whether the output takes colours
 abbrev pub task_of_command : Bool → Command → CommandTask
@@ -180,36 +180,42 @@ pub record CallEnvironment : Type 0 where
   pub takes_colors : Bool
   pub input : List ℕ
 
+-- a call with these values, as the system gave them to the program
 abbrev pub call_environment_of_fields : List ℕ → List EnvironmentVariable → Bool → List ℕ → CallEnvironment
 call_environment_of_fields current variables takes_colors input = record { current = current; variables = variables; takes_colors = takes_colors; input = input }
 
+-- what contracts see of a call of the code, but for its words
 abbrev pub call_environment_of_called : Called → CallEnvironment
 call_environment_of_called called = call_environment_of_fields called.current.now called.variables.now called.takes_colors called.input.now
 
-abbrev pub found_in_call_environment : CallEnvironment → Option (List ℕ) → Asked → Names → OwnershipByPath → Result Found HereRefusal
+-- the work tree and the setup that `report`, `plan`, `modules` or `state` work on, around the directory of `-C` or the current one;
+-- or the first refusal, as of a deletion that is asked for elsewhere than at the top
+abbrev pub found_in_call_environment : CallEnvironment → Option (List ℕ) → Asked → Names → OwnershipByPath → Result Found CommandRefusal
 found_in_call_environment place directory asked t owned = found_around_asked_directory t owned place.current place.variables directory asked
 
-abbrev pub found_for_command_in_environment : CallEnvironment → Option (List ℕ) → WorkTreeCommand → Asked → Names → OwnershipByPath → Result Found HereRefusal
+-- the same for `ls-files`, `clean` and the report of `state --by-stat`; wrong options of the first two are refused here too
+abbrev pub found_for_command_in_environment : CallEnvironment → Option (List ℕ) → WorkTreeCommand → Asked → Names → OwnershipByPath → Result Found CommandRefusal
 found_for_command_in_environment place directory word asked t owned = found_for_work_tree_command t owned place.current place.variables directory asked word
 
-abbrev pub rule_command_reply_in_environment : CallEnvironment → Option (List ℕ) → RuleCommand → Asked → Names → OwnershipByPath → Result Reply HereRefusal
+-- what `check-ignore`, with this standard input, or `ls-files -i -c` says, or the first refusal
+abbrev pub rule_command_reply_in_environment : CallEnvironment → Option (List ℕ) → RuleCommand → Asked → Names → OwnershipByPath → Result Reply CommandRefusal
 rule_command_reply_in_environment place directory word asked t owned = rule_command_reply_around t owned place.current place.variables directory asked place.input word
 
 -- what a task is answered with; what is told by stats too is answered beside these
-abbrev pub AnswersTaskWithoutStats : {W I O : Type 0} → WorktreeOf W → InterruptOf I → OwnersOf O → W → W → I → I → O → O → CallEnvironment → Option (List ℕ) → Result Reply HereRefusal → CommandTask → Type 0
+abbrev pub AnswersTaskWithoutStats : {W I O : Type 0} → WorktreeOf W → InterruptOf I → OwnersOf O → W → W → I → I → O → O → CallEnvironment → Option (List ℕ) → Result Reply CommandRefusal → CommandTask → Type 0
 AnswersTaskWithoutStats w i o w0 w1 i0 i1 o0 o1 place directory answer (call_of call asked writing) = HoldsOfOutputOfPlainReply (AnswersCallBytes w i o w0 w1 i0 i1 o0 o1 (found_in_call_environment place directory asked) call writing) answer
 AnswersTaskWithoutStats w i o w0 w1 i0 i1 o0 o1 place directory answer (word_of word asked) = AnswersWorkTreeCommand w i o w0 w1 i0 i1 o0 o1 (found_for_command_in_environment place directory word asked) word answer
 AnswersTaskWithoutStats w i o w0 w1 i0 i1 o0 o1 place directory answer (check_of wants asked) = FindsReplyOverTreeAndOwners w o w0 w1 o0 o1 (rule_command_reply_in_environment place directory wants asked) answer × (i1 ≡ i0)
 AnswersTaskWithoutStats w i o w0 w1 i0 i1 o0 o1 place directory answer (compare_of comparing asked) = ⊥
 AnswersTaskWithoutStats w i o w0 w1 i0 i1 o0 o1 place directory answer (both_of word stat asked) = ⊥
-AnswersTaskWithoutStats w i o w0 w1 i0 i1 o0 o1 place directory answer (offer_of text) = HoldsOfOutputOfPlainReply (AnswersFixedText w0 w1 i0 i1 o0 o1 text) answer
+AnswersTaskWithoutStats w i o w0 w1 i0 i1 o0 o1 place directory answer (fixed_text_task text) = HoldsOfOutputOfPlainReply (AnswersFixedText w0 w1 i0 i1 o0 o1 text) answer
 
 -- the words ask for this
 abbrev pub WordsParseToRequest : List (List ℕ) → Request → Type 0
 WordsParseToRequest words request = parse_request_words words ≡ asks request.directory (seen request.command)
 
 -- The words ask for something, and this is the answer to it.
-pub record AnswersParsedWordsWithoutStats {W I O : Type 0} (w : WorktreeOf W) (i : InterruptOf I) (o : OwnersOf O) (w0 w1 : W) (i0 i1 : I) (o0 o1 : O) (place : CallEnvironment) (words : List (List ℕ)) (answer : Result Reply HereRefusal) : Type 0 where
+pub record AnswersParsedWordsWithoutStats {W I O : Type 0} (w : WorktreeOf W) (i : InterruptOf I) (o : OwnersOf O) (w0 w1 : W) (i0 i1 : I) (o0 o1 : O) (place : CallEnvironment) (words : List (List ℕ)) (answer : Result Reply CommandRefusal) : Type 0 where
   pub request : Request
   pub asked : WordsParseToRequest words request
   pub answers : AnswersTaskWithoutStats w i o w0 w1 i0 i1 o0 o1 place request.directory answer (task_of_command place.takes_colors request.command)
@@ -222,7 +228,7 @@ pub record WordsAreMisuse (words : List (List ℕ)) : Type 0 where
   pub is : parse_request_words words ≡ is_misuse topic wrong word
 
 -- The words ask for nothing, and the answer names the first that is wrong; nothing was asked for it.
-pub record AnswersMisuseOfWords {W I O : Type 0} (w0 w1 : W) (i0 i1 : I) (o0 o1 : O) (words : List (List ℕ)) (answer : Result Reply HereRefusal) : Type 0 where
+pub record AnswersMisuseOfWords {W I O : Type 0} (w0 w1 : W) (i0 i1 : I) (o0 o1 : O) (words : List (List ℕ)) (answer : Result Reply CommandRefusal) : Type 0 where
   pub misuse : WordsAreMisuse words
   pub answer_is : answer ≡ Err (Words (Word misuse.topic misuse.wrong misuse.word))
   pub worktree : w1 ≡ w0
@@ -230,12 +236,13 @@ pub record AnswersMisuseOfWords {W I O : Type 0} (w0 w1 : W) (i0 i1 : I) (o0 o1 
   pub owners : o1 ≡ o0
 
 -- Memory was wanted for the words; nothing was asked.
-pub record LacksMemoryForWords {W I O : Type 0} (w0 w1 : W) (i0 i1 : I) (o0 o1 : O) (answer : Result Reply HereRefusal) : Type 0 where
+pub record LacksMemoryForWords {W I O : Type 0} (w0 w1 : W) (i0 i1 : I) (o0 o1 : O) (answer : Result Reply CommandRefusal) : Type 0 where
   pub answer_is : answer ≡ Err memory
   pub worktree : w1 ≡ w0
   pub interrupt : i1 ≡ i0
   pub owners : o1 ≡ o0
 
-abbrev pub AnswersWordsWithoutStats : {W I O : Type 0} → WorktreeOf W → InterruptOf I → OwnersOf O → W → W → I → I → O → O → CallEnvironment → List (List ℕ) → Result Reply HereRefusal → Type 0
+-- the words ask for what needs no stats and this is the answer, or one of them is wrong, or memory was wanted for them
+abbrev pub AnswersWordsWithoutStats : {W I O : Type 0} → WorktreeOf W → InterruptOf I → OwnersOf O → W → W → I → I → O → O → CallEnvironment → List (List ℕ) → Result Reply CommandRefusal → Type 0
 AnswersWordsWithoutStats w i o w0 w1 i0 i1 o0 o1 place words answer =
     AnswersParsedWordsWithoutStats w i o w0 w1 i0 i1 o0 o1 place words answer ⊎ (AnswersMisuseOfWords w0 w1 i0 i1 o0 o1 words answer ⊎ LacksMemoryForWords w0 w1 i0 i1 o0 o1 answer)

@@ -15,9 +15,11 @@ use Rattle.tizhagor.specs.StatWords.{StatCommand, changes_of, differences_of, st
 abbrev pub ls_files_options_for_walk_alone : Listing → Listing
 ls_files_options_for_walk_alone l = record l { cached = l.cached && l.ignored; stages = false; unmerged = false }
 
+-- the request of the first part: rules stay; what the index shows (`-s`, `-u`, `-c` without `-i`) is left to the second part
 abbrev pub ls_files_request_of_walk_alone : FilesAsked → FilesAsked
 ls_files_request_of_walk_alone wants = record wants { listing = ls_files_options_for_walk_alone wants.listing }
 
+-- the listing that is made first, by the walk, and asks for no stats
 abbrev pub ls_files_command_of_walk_alone : FilesAsked → WorkTreeCommand
 ls_files_command_of_walk_alone wants = listing_of (ls_files_request_of_walk_alone wants)
 

@@ -11,11 +11,11 @@ use Rattle.worktree_fs.specs.Kept.{KeepsTreeAndListCounts}
 use Rattle.worktree_fs.specs.KeptOwners.{KeepsOwnershipAnswers}
 use Rattle.worktree_fs.specs.Owners.{OwnershipByPath}
 use Rattle.worktree_fs.specs.Tree.{Names}
-use Rattle.tizhagor.specs.declared.refusal.HereRefusal.{HereRefusal}
+use Rattle.tizhagor.specs.declared.refusal.CommandRefusal.{CommandRefusal}
 use Rattle.tizhagor.specs.Refusals.{fault, memory, MayComeBeforeSetupIsFound}
 
 -- Over a told tree and told stats it is what is found there; a fault was counted, and whatever else is answered none was; and what stays.
-pub record FindsOverTreeAndStats {W D A : Type 0} (w : WorktreeOf W) (d : StatsOf D) (w0 w1 : W) (d0 d1 : D) (found : Names → StatsByPath → Result A HereRefusal) (answer : Result A HereRefusal) : Type 0 where
+pub record FindsOverTreeAndStats {W D A : Type 0} (w : WorktreeOf W) (d : StatsOf D) (w0 w1 : W) (d0 d1 : D) (found : Names → StatsByPath → Result A CommandRefusal) (answer : Result A CommandRefusal) : Type 0 where
   pub gives : (t : Names) (told : StatsByPath) → w.told w0 ≡ Some t → d.told d0 ≡ Some told → IsFoundOrFailed fault memory answer (found t told)
   pub cause : IsErrOf answer fault → CountsFaultInEither w d w0 w1 d0 d1
   pub unfaulted : HoldsUnlessFault fault answer (w.faults w1 ≡ w.faults w0)
@@ -29,7 +29,7 @@ WorktreeOwnersOrStatsFail w o d w0 w1 o0 o1 d0 d1 =
     CountIncreasedOrSaturated (w.faults w0) (w.faults w1) ⊎ (CountIncreasedOrSaturated (o.faults o0) (o.faults o1) ⊎ CountIncreasedOrSaturated (d.faults d0) (d.faults d1))
 
 -- The same over told owners too, with what the refusals are.
-pub record FindsOverTreeOwnersAndStats {W O D A : Type 0} (w : WorktreeOf W) (o : OwnersOf O) (d : StatsOf D) (w0 w1 : W) (o0 o1 : O) (d0 d1 : D) (found : Names → OwnershipByPath → StatsByPath → Result A HereRefusal) (answer : Result A HereRefusal) : Type 0 where
+pub record FindsOverTreeOwnersAndStats {W O D A : Type 0} (w : WorktreeOf W) (o : OwnersOf O) (d : StatsOf D) (w0 w1 : W) (o0 o1 : O) (d0 d1 : D) (found : Names → OwnershipByPath → StatsByPath → Result A CommandRefusal) (answer : Result A CommandRefusal) : Type 0 where
   pub gives : (t : Names) (owned : OwnershipByPath) (told : StatsByPath) → w.told w0 ≡ Some t → o.told o0 ≡ Some owned → d.told d0 ≡ Some told → IsFoundOrFailed fault memory answer (found t owned told)
   pub of : IfErr answer MayComeBeforeSetupIsFound
   pub cause : IsErrOf answer fault → WorktreeOwnersOrStatsFail w o d w0 w1 o0 o1 d0 d1

@@ -31,8 +31,8 @@ use Rattle.worktree_fs.specs.Tree.{Names}
 use Rattle.tizhagor.specs.declared.compare.ChangeLines.{ChangeLines}
 use Rattle.tizhagor.specs.declared.compare.ChangeLines.TheVariants as lines
 use Rattle.tizhagor.specs.declared.compare.Placed.{Placed}
-use Rattle.tizhagor.specs.declared.refusal.HereRefusal.{HereRefusal}
-use Rattle.tizhagor.specs.declared.refusal.HereRefusal.TheVariants as errors
+use Rattle.tizhagor.specs.declared.refusal.CommandRefusal.{CommandRefusal}
+use Rattle.tizhagor.specs.declared.refusal.CommandRefusal.TheVariants as errors
 use Rattle.tizhagor.specs.declared.refusal.Uncompared.TheVariants as reasons
 use Rattle.tizhagor.specs.declared.reply.Reply.{Reply}
 use Rattle.tizhagor.specs.declared.written.Writing.{Writing}
@@ -43,40 +43,47 @@ use Rattle.tizhagor.specs.StateLines.{diff_options_without_submodules, state_lin
 
 -- ---- where
 
-abbrev pub places_result_with_here_refusal : Result RepositoryPlaces GitRefusal → Result RepositoryPlaces HereRefusal
+-- where the repository lies; git's refusal is told as such, a fault and want of memory as those of the program
+abbrev pub places_result_with_here_refusal : Result RepositoryPlaces GitRefusal → Result RepositoryPlaces CommandRefusal
 places_result_with_here_refusal answer = git_result_with_here_refusal answer
 
-abbrev pub placed_of_fields : Surroundings → RepositoryPlaces → Result Placed HereRefusal
+-- the places beside the variables and the directory by which they were found; never refused
+abbrev pub placed_of_fields : Surroundings → RepositoryPlaces → Result Placed CommandRefusal
 placed_of_fields around places = Ok (record { around = around; places = places })
 
-abbrev pub find_repository_from_directory : Names → OwnershipByPath → List EnvironmentVariable → List ℕ → Result Placed HereRefusal
+-- where the work tree around this directory and its repository lie, by the variables that git heeds; or git's refusal
+abbrev pub find_repository_from_directory : Names → OwnershipByPath → List EnvironmentVariable → List ℕ → Result Placed CommandRefusal
 find_repository_from_directory t owned variables directory =
     and_then (placed_of_fields (surroundings_of_variables directory variables)) (places_result_with_here_refusal (setups.find_repository_places t owned (surroundings_of_variables directory variables)))
 
 -- the work tree around a directory, and where its repository lies
-unfoldable pub find_work_tree_and_repository_places : Names → OwnershipByPath → List ℕ → List EnvironmentVariable → Option (List ℕ) → Result Placed HereRefusal
+unfoldable pub find_work_tree_and_repository_places : Names → OwnershipByPath → List ℕ → List EnvironmentVariable → Option (List ℕ) → Result Placed CommandRefusal
 find_work_tree_and_repository_places t owned current variables directory = and_then (find_repository_from_directory t owned variables) (resolve_directory_or_current t current directory)
 
 -- ---- when the index was written
 
+-- when what a node holds last changed, in seconds; 0 where there is no node
 abbrev pub mtime_or_zero : Option NodeStat → ℕ
 mtime_or_zero None = 0
 mtime_or_zero (Some at) = at.mtime
 
-abbrev pub mtime_of_path : StatsByPath → List ℕ → Result ℕ HereRefusal
+-- the same by the stats of a path; 0 where nothing is there, which is no refusal
+abbrev pub mtime_of_path : StatsByPath → List ℕ → Result ℕ CommandRefusal
 mtime_of_path told path = Ok (mtime_or_zero (told.stat_at path))
 
-abbrev pub mtime_of_optional_path : StatsByPath → Option (List ℕ) → Result ℕ HereRefusal
+-- the same where there may be no path at all: 0 without one
+abbrev pub mtime_of_optional_path : StatsByPath → Option (List ℕ) → Result ℕ CommandRefusal
 mtime_of_optional_path told None = Ok 0
 mtime_of_optional_path told (Some real) = mtime_of_path told real
 
 -- the file that the path of the index leads to; 0 where there is none
-abbrev pub index_mtime_of_git_dir : Names → StatsByPath → List ℕ → Result ℕ HereRefusal
+abbrev pub index_mtime_of_git_dir : Names → StatsByPath → List ℕ → Result ℕ CommandRefusal
 index_mtime_of_git_dir t told git = mtime_of_optional_path told (real_path t (path_of_index_file git) (codes "/"))
 
 -- ---- the comparison
 
-abbrev pub comparison_inputs_of_placed : Names → Placed → Asked → Result Compared HereRefusal
+-- the index with its details, the settings and the path specs, as they are read from the repository; or git's first refusal
+abbrev pub comparison_inputs_of_placed : Names → Placed → Asked → Result Compared CommandRefusal
 comparison_inputs_of_placed t placed asked = git_result_with_here_refusal (setups.read_comparison_setup t placed.places placed.around asked.paths.items)
 
 -- beside `--name-status` and `--name-only` `--raw` says nothing; with none of them it is as with `--raw`
@@ -89,6 +96,8 @@ submodules_mode_of_ignore_setting ignorings.Nothing ignores = subs.Told
 submodules_mode_of_ignore_setting ignorings.All ignores = subs.LeftOut
 submodules_mode_of_ignore_setting ignorings.Configured ignores = if ignores then subs.MayBeLeftOut else subs.Told
 
+-- the words say the form, `-z` and, if they do, how submodules count, the configuration all else;
+-- `time` is when the index was written
 abbrev pub comparison_of_request_and_settings : Comparing → Settings → ℕ → Comparison
 comparison_of_request_and_settings comparing settings time =
     record {
@@ -116,16 +125,18 @@ diff_reply_of_differences comparing made =
       is_no = (comparing.tells_changes || comparing.is_quiet) && not (is_empty made.out);
     }
 
-abbrev pub reply_of_differences : Comparing → Result Differences DiffError → Result Reply HereRefusal
+-- what the code told of differences, as a reply, or why it told nothing, a fault or want of memory among the reasons
+abbrev pub reply_of_differences : Comparing → Result Differences DiffError → Result Reply CommandRefusal
 reply_of_differences comparing (Ok made) = Ok (diff_reply_of_differences comparing made)
 reply_of_differences comparing (Err e) = Err (here_refusal_of_diff_error e)
 
-abbrev pub reply_of_differences_or_unsupported : Comparing → Result Differences Unanswered → Result Reply HereRefusal
+-- the same where nothing fails: the one reason is a form that is not supported here, at the path of an entry
+abbrev pub reply_of_differences_or_unsupported : Comparing → Result Differences Unanswered → Result Reply CommandRefusal
 reply_of_differences_or_unsupported comparing (Ok made) = Ok (diff_reply_of_differences comparing made)
 reply_of_differences_or_unsupported comparing (Err refused) = Err (errors.Uncompared (reasons.Form refused))
 
 -- what is said of a work tree and its index, where that was written at a time
-abbrev pub diff_files_reply_of_comparison : Names → StatsByPath → Comparing → Compared → ℕ → Result Reply HereRefusal
+abbrev pub diff_files_reply_of_comparison : Names → StatsByPath → Comparing → Compared → ℕ → Result Reply CommandRefusal
 diff_files_reply_of_comparison t told comparing compared time =
     reply_of_differences_or_unsupported comparing
     (differences_of_text
@@ -134,15 +145,18 @@ diff_files_reply_of_comparison t told comparing compared time =
 
 -- ---- in the words of `state`
 
-abbrev pub reply_of_state_lines : Result (List ℕ) DiffError → Result Reply HereRefusal
+-- the lines that the code made, as output alone, or why it made none, a fault or want of memory among the reasons
+abbrev pub reply_of_state_lines : Result (List ℕ) DiffError → Result Reply CommandRefusal
 reply_of_state_lines (Ok text) = Ok (plain_reply text)
 reply_of_state_lines (Err e) = Err (here_refusal_of_diff_error e)
 
-abbrev pub reply_of_state_lines_or_unsupported : Result (List ℕ) Unanswered → Result Reply HereRefusal
+-- the same where nothing fails: the one reason is a form that is not supported here, at the path of an entry
+abbrev pub reply_of_state_lines_or_unsupported : Result (List ℕ) Unanswered → Result Reply CommandRefusal
 reply_of_state_lines_or_unsupported (Ok text) = Ok (plain_reply text)
 reply_of_state_lines_or_unsupported (Err refused) = Err (errors.Uncompared (reasons.Form refused))
 
-abbrev pub state_reply_by_stat : Names → StatsByPath → Writing → Compared → ℕ → Result Reply HereRefusal
+-- the lines of `state --by-stat` for paths of the index that changed, without submodules; or a form that is not supported here
+abbrev pub state_reply_by_stat : Names → StatsByPath → Writing → Compared → ℕ → Result Reply CommandRefusal
 state_reply_by_stat t told writing compared time =
     reply_of_state_lines_or_unsupported
     (state_lines_over_tree_and_stats (record { tree = t; stats = told }) compared.root compared.index compared.details (comparison_of_request_and_settings diff_options_without_submodules compared.settings time)
@@ -150,15 +164,18 @@ state_reply_by_stat t told writing compared time =
 
 -- ---- in the lines that are asked for
 
-abbrev pub diff_files_or_state_lines_reply : Names → StatsByPath → ChangeLines → Compared → ℕ → Result Reply HereRefusal
+-- what changed, in the lines of `diff-files` or in those of `state`; `time` is when the index was written
+abbrev pub diff_files_or_state_lines_reply : Names → StatsByPath → ChangeLines → Compared → ℕ → Result Reply CommandRefusal
 diff_files_or_state_lines_reply t told (lines.Differences comparing) compared time = diff_files_reply_of_comparison t told comparing compared time
 diff_files_or_state_lines_reply t told (lines.States writing) compared time = state_reply_by_stat t told writing compared time
 
-abbrev pub comparison_reply_at_index_time : Names → StatsByPath → Placed → Asked → ChangeLines → ℕ → Result Reply HereRefusal
+-- what is said where the index was written at `time`: what the comparison needs is read first, or refused
+abbrev pub comparison_reply_at_index_time : Names → StatsByPath → Placed → Asked → ChangeLines → ℕ → Result Reply CommandRefusal
 comparison_reply_at_index_time t told placed asked wanted time =
     and_then (λ (compared : Compared). diff_files_or_state_lines_reply t told wanted compared time) (comparison_inputs_of_placed t placed asked)
 
-abbrev pub comparison_reply_of_placed : Names → StatsByPath → Placed → Asked → ChangeLines → Result Reply HereRefusal
+-- what is said once the repository is found: the time of the index file is asked for before the index is read
+abbrev pub comparison_reply_of_placed : Names → StatsByPath → Placed → Asked → ChangeLines → Result Reply CommandRefusal
 comparison_reply_of_placed t told placed asked wanted =
     and_then (λ (time : ℕ). comparison_reply_at_index_time t told placed asked wanted time) (index_mtime_of_git_dir t told placed.places.git)
 
@@ -167,11 +184,12 @@ abbrev pub asks_name_only_and_name_status : ChangeLines → Bool
 asks_name_only_and_name_status (lines.Differences comparing) = comparing.names && comparing.statuses
 asks_name_only_and_name_status (lines.States writing) = false
 
-abbrev pub comparison_reply_if_options_agree : Names → StatsByPath → Placed → Asked → ChangeLines → Result Reply HereRefusal
+-- `--name-only` beside `--name-status` is refused before the index is read; else what is said
+abbrev pub comparison_reply_if_options_agree : Names → StatsByPath → Placed → Asked → ChangeLines → Result Reply CommandRefusal
 comparison_reply_if_options_agree t told placed asked wanted =
     if asks_name_only_and_name_status wanted then Err (errors.Uncompared reasons.Exclusive) else comparison_reply_of_placed t told placed asked wanted
 
 -- what is said of the work tree around a directory, or the first refusal
-abbrev pub comparison_reply_around_directory : Names → OwnershipByPath → StatsByPath → List ℕ → List EnvironmentVariable → Option (List ℕ) → Asked → ChangeLines → Result Reply HereRefusal
+abbrev pub comparison_reply_around_directory : Names → OwnershipByPath → StatsByPath → List ℕ → List EnvironmentVariable → Option (List ℕ) → Asked → ChangeLines → Result Reply CommandRefusal
 comparison_reply_around_directory t owned told current variables directory asked wanted =
     and_then (λ (placed : Placed). comparison_reply_if_options_agree t told placed asked wanted) (find_work_tree_and_repository_places t owned current variables directory)

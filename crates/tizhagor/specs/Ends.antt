@@ -4,7 +4,7 @@ use Rattle.worktree_fs.specs.declared.sink.Sink.{Ghosts as SinkOf}
 use Rattle.worktree_fs.specs.Causes.{CountIncrementedOrSaturated}
 use Rattle.worktree_report.specs.Ends.{WritesLineToStderr}
 use Rattle.worktree_report.specs.Written.{AppendsWholeBytes, AppendsFrontOfBytes}
-use Rattle.tizhagor.specs.declared.refusal.HereRefusal.{HereRefusal}
+use Rattle.tizhagor.specs.declared.refusal.CommandRefusal.{CommandRefusal}
 use Rattle.tizhagor.specs.declared.reply.Reply.{Reply}
 use Rattle.tizhagor.specs.Parts.{out_of_memory_line, output_refused_line}
 use Rattle.tizhagor.specs.Replies.{status_of_reply}
@@ -36,28 +36,28 @@ pub record SaysLineWithStatus {E : Type 0} (e : SinkOf E) (e0 e1 : E) (line : Li
 
 -- the status with the line of a refusal, or, as a line takes memory, the want of it instead; `first` is the path that the worktree names
 -- as that of its first fault
-abbrev pub SaysRefusalOrMemoryLine : {E : Type 0} → SinkOf E → E → E → List ℕ → HereRefusal → ℕ → Type 0
+abbrev pub SaysRefusalOrMemoryLine : {E : Type 0} → SinkOf E → E → E → List ℕ → CommandRefusal → ℕ → Type 0
 SaysRefusalOrMemoryLine e e0 e1 first refusal status = SaysLineWithStatus e e0 e1 (line_of_refusal_with_fault_path first refusal) (status_of refusal) status ⊎ SaysLineWithStatus e e0 e1 out_of_memory_line 128 status
 
 -- a reply is written, whole or a front of its bytes; a refusal is told, and nothing is written
-abbrev pub WritesReplyOrSaysRefusal : {S E : Type 0} → SinkOf S → SinkOf E → S → S → E → E → List ℕ → Result Reply HereRefusal → ℕ → Type 0
+abbrev pub WritesReplyOrSaysRefusal : {S E : Type 0} → SinkOf S → SinkOf E → S → S → E → E → List ℕ → Result Reply CommandRefusal → ℕ → Type 0
 WritesReplyOrSaysRefusal s e s0 s1 e0 e1 first (Ok reply) status = WritesReplyWhole s e s0 s1 e0 e1 reply status ⊎ WritesFrontOfTextThenFails s e s0 s1 e0 e1 reply.out status
 WritesReplyOrSaysRefusal s e s0 s1 e0 e1 first (Err refusal) status = (s1 ≡ s0) × SaysRefusalOrMemoryLine e e0 e1 first refusal status
 
 -- The status, and what stands on the output and on standard error, where these were `s0` and `e0` and are `s1` and `e1`.
-pub record EndsWithStatusAndStreams {S E : Type 0} (s : SinkOf S) (e : SinkOf E) (s0 s1 : S) (e0 e1 : E) (first : List ℕ) (answer : Result Reply HereRefusal) (status : ℕ) : Type 0 where
+pub record EndsWithStatusAndStreams {S E : Type 0} (s : SinkOf S) (e : SinkOf E) (s0 s1 : S) (e0 e1 : E) (first : List ℕ) (answer : Result Reply CommandRefusal) (status : ℕ) : Type 0 where
   pub by : WritesReplyOrSaysRefusal s e s0 s1 e0 e1 first answer status
   pub refusals : s.refusals s0 ≤ s.refusals s1
   pub err_refusals : e.refusals e0 ≤ e.refusals e1
 
 -- A call: what it was asked for came to an answer for which `Answers` holds, and it ends as that answer does.
-pub record RunsToAnswerAndEnds {S E : Type 0} (s : SinkOf S) (e : SinkOf E) (s0 s1 : S) (e0 e1 : E) (first : List ℕ) (Answers : Result Reply HereRefusal → Type 0) (status : ℕ) : Type 0 where
-  pub answer : Result Reply HereRefusal
+pub record RunsToAnswerAndEnds {S E : Type 0} (s : SinkOf S) (e : SinkOf E) (s0 s1 : S) (e0 e1 : E) (first : List ℕ) (Answers : Result Reply CommandRefusal → Type 0) (status : ℕ) : Type 0 where
+  pub answer : Result Reply CommandRefusal
   pub answers : Answers answer
   pub ends : EndsWithStatusAndStreams s e s0 s1 e0 e1 first answer status
 
 -- The line of a refusal was said, for which `Refuses` holds.
-pub record SaysRefusalWithProperty {E : Type 0} (e : SinkOf E) (e0 e1 : E) (first : List ℕ) (Refuses : HereRefusal → Type 0) : Type 0 where
-  pub refusal : HereRefusal
+pub record SaysRefusalWithProperty {E : Type 0} (e : SinkOf E) (e0 e1 : E) (first : List ℕ) (Refuses : CommandRefusal → Type 0) : Type 0 where
+  pub refusal : CommandRefusal
   pub refused : Refuses refusal
   pub said : WritesLineToStderr e e0 e1 (line_of_refusal_with_fault_path first refusal)

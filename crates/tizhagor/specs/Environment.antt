@@ -3,6 +3,7 @@ use Rattle.std.specs.Prelude.{ℕ, ◌+◌, List, [], ◌∷◌, ◌==◌, posit
 use Rattle.std.specs.List.{flat_map}
 use Rattle.git_places.specs.Variables.{EnvironmentVariable}
 
+-- one variable, whose name stands before this byte and whose value behind it; none where there is no such byte
 abbrev pub variable_split_at : Option ℕ → List ℕ → List EnvironmentVariable
 variable_split_at None entry = []
 variable_split_at (Some place) entry = record { name = take place entry; value = drop (place + 1) entry } ∷ []

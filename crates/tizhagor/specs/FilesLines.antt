@@ -4,6 +4,7 @@ use Rattle.git_config_files.specs.declared.error.FilesError.{FilesError}
 use Rattle.git_config_files.specs.declared.error.FilesError.TheVariants as errors
 use Rattle.tizhagor.specs.Parts.{bad_config_line, variable_not_heeded_line, fault_line_without_path, dubious_ownership_line, out_of_memory_line, bad_config_value_line, text_with_optional_file, text_with_escaped_path}
 
+-- begins with `fatal: ` and ends in a line feed; a file, a variable or a value in it is escaped
 abbrev pub line_of_files_error : FilesError → List ℕ
 line_of_files_error (errors.Config path line) = bad_config_line path line
 line_of_files_error (errors.Include path) = text_with_escaped_path (codes "fatal: missing value for 'include.path' in file ") path (codes "\n")

@@ -10,6 +10,7 @@ use Rattle.git_setup.specs.declared.asked.Asked.{Asked}
 abbrev pub check_ignore_reads_input : Asked → CheckAsked → Bool
 check_ignore_reads_input asked wants = wants.checking.stdin && is_none (first_option_error wants.checking (length asked.paths.items))
 
+-- of all commands `check-ignore` alone asks for the standard input, with `--stdin` and no wrong option
 abbrev pub reads : Command → Bool
 reads (commands.Report asked form) = false
 reads (commands.Plan asked what finding form) = false

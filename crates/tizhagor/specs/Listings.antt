@@ -25,8 +25,8 @@ use Rattle.worktree_fs.specs.Tree.{Names}
 use Rattle.worktree_report.specs.Asked.{sources_of_tree_and_setup, IsSetupValidAtRoot}
 use Rattle.worktree_report.specs.declared.refusal.Refusal.{Refusal}
 use Rattle.worktree_report.specs.declared.setup.Setup.{Setup}
-use Rattle.tizhagor.specs.declared.refusal.HereRefusal.{HereRefusal}
-use Rattle.tizhagor.specs.declared.refusal.HereRefusal.TheVariants as errors
+use Rattle.tizhagor.specs.declared.refusal.CommandRefusal.{CommandRefusal}
+use Rattle.tizhagor.specs.declared.refusal.CommandRefusal.TheVariants as errors
 use Rattle.tizhagor.specs.declared.reply.Reply.{Reply}
 use Rattle.tizhagor.specs.Asking.{found_around_asked_directory}
 use Rattle.tizhagor.specs.ExcludeFiles.{read_exclude_files_into_found}
@@ -34,6 +34,7 @@ use Rattle.tizhagor.specs.Patterns.{is_nonempty_list, rules_text_of_patterns}
 
 -- ---- what is asked of a listing
 
+-- the options of `ls-files` with whether the words give rules; all others stay
 abbrev pub ls_files_options_with_pattern_flag : Listing → Bool → Listing
 ls_files_options_with_pattern_flag listing patterns = record listing { patterns = patterns }
 
@@ -47,7 +48,8 @@ ls_files_options_of_request wants = ls_files_options_with_pattern_flag wants.lis
 
 -- ---- what is found for a listing
 
-abbrev pub found_or_refusal_of_wrong_listing : Found → Option WrongListing → Result Found HereRefusal
+-- what is found, unless there is a reason why there is no such listing of it
+abbrev pub found_or_refusal_of_wrong_listing : Found → Option WrongListing → Result Found CommandRefusal
 found_or_refusal_of_wrong_listing here None = Ok here
 found_or_refusal_of_wrong_listing here (Some wrong) = Err (errors.Listing wrong)
 
@@ -55,22 +57,23 @@ found_or_refusal_of_wrong_listing here (Some wrong) = Err (errors.Listing wrong)
 abbrev pub lists_whole_work_tree : Asked → Found → Bool
 lists_whole_work_tree asked here = is_empty here.prefix && not (is_nonempty_list asked.paths.items)
 
+-- the first reason: of the options and the index, and then that `-i --directory` is asked of a part of the work tree
 abbrev pub reason_ls_files_request_is_wrong : FilesAsked → Asked → Found → Option WrongListing
 reason_ls_files_request_is_wrong wants asked here =
     option_or (first_refusal_of_options_and_index (ls_files_options_of_request wants) here.setup.index) (refusal_of_partial_ignored_directories (ls_files_options_of_request wants) (lists_whole_work_tree asked here))
 
 -- what is found, unless there is no such listing of its index, or of a part of the work tree
-unfoldable pub require_valid_ls_files_request : FilesAsked → Asked → Found → Result Found HereRefusal
+unfoldable pub require_valid_ls_files_request : FilesAsked → Asked → Found → Result Found CommandRefusal
 require_valid_ls_files_request wants asked here = found_or_refusal_of_wrong_listing here (reason_ls_files_request_is_wrong wants asked here)
 
 -- The work tree around a directory and its setup, with the rules of the files that are named, or the first refusal: as for any command, and
 -- then of these files.
-unfoldable pub found_with_exclude_files_of_request : Names → OwnershipByPath → List ℕ → List EnvironmentVariable → Option (List ℕ) → FilesAsked → Asked → Result Found HereRefusal
+unfoldable pub found_with_exclude_files_of_request : Names → OwnershipByPath → List ℕ → List EnvironmentVariable → Option (List ℕ) → FilesAsked → Asked → Result Found CommandRefusal
 found_with_exclude_files_of_request t owned current variables directory wants asked =
     and_then (read_exclude_files_into_found t wants) (found_around_asked_directory t owned current variables directory asked)
 
 -- the same, or the first refusal: as there, and then of the listing
-abbrev pub found_checked_for_ls_files : Names → OwnershipByPath → List ℕ → List EnvironmentVariable → Option (List ℕ) → FilesAsked → Asked → Result Found HereRefusal
+abbrev pub found_checked_for_ls_files : Names → OwnershipByPath → List ℕ → List EnvironmentVariable → Option (List ℕ) → FilesAsked → Asked → Result Found CommandRefusal
 found_checked_for_ls_files t owned current variables directory wants asked =
     and_then (require_valid_ls_files_request wants asked) (found_with_exclude_files_of_request t owned current variables directory wants asked)
 
@@ -80,6 +83,7 @@ found_checked_for_ls_files t owned current variables directory wants asked =
 abbrev pub ls_files_options_with_quote_path : Listing → Bool → Listing
 ls_files_options_with_quote_path listing quote_path = record listing { quote_path = quote_path }
 
+-- the options, with whether the words give rules, and with `core.quotePath` of the configuration
 abbrev pub ls_files_options_for_found : FilesAsked → Found → Listing
 ls_files_options_for_found wants here = ls_files_options_with_quote_path (ls_files_options_of_request wants) here.quote_path
 
@@ -88,12 +92,15 @@ abbrev pub setup_with_listing_options_and_rules : Listing → List ℕ → Setup
 setup_with_listing_options_and_rules listing rules setup =
     record setup { options = walk_options_for_listing listing setup.options; overrides = rules }
 
+-- the setup by which `ls-files` walks: with the options that it needs, and the patterns of the words before all other rules
 abbrev pub ls_files_setup_for_found : FilesAsked → Found → Setup
 ls_files_setup_for_found wants here = setup_with_listing_options_and_rules (ls_files_options_of_request wants) (rules_text_of_patterns wants.rules.patterns) here.setup
 
+-- a path spec and how it was written, as `ls-files` and `clean` take it
 abbrev pub named_spec_of_asked_spec : AskedSpec → NamedSpec
 named_spec_of_asked_spec asked = record { text = asked.text; spec = asked.spec }
 
+-- each path spec of what is found by itself, in order, with how it was written
 abbrev pub named_specs_of_found : Found → List NamedSpec
 named_specs_of_found here = map named_spec_of_asked_spec here.each
 
@@ -119,6 +126,7 @@ AnswersLsFilesOfFound w i w0 w1 i0 i1 wants here answer =
 abbrev pub reply_of_listed_files : Listed → Reply
 reply_of_listed_files made = record { out = made.out; err = made.err; is_no = not (is_empty made.err) }
 
+-- the listing as a reply, or why the walk gives none; the answer is no where something is told of path specs
 abbrev pub reply_of_ls_files_answer : Result Listed Refusal → Result Reply Refusal
 reply_of_ls_files_answer (Ok made) = Ok (reply_of_listed_files made)
 reply_of_ls_files_answer (Err e) = Err e

@@ -56,5 +56,6 @@ fault_line_with_path path =
 abbrev pub output_refused_line : List ℕ
 output_refused_line = codes "fatal: write failure on standard output\n"
 
+-- memory was wanted, for an answer or for the line of another refusal; this line takes none to be made
 abbrev pub out_of_memory_line : List ℕ
 out_of_memory_line = codes "fatal: out of memory\n"

@@ -4,6 +4,7 @@ use Rattle.git_places.specs.declared.error.PlacesError.{PlacesError}
 use Rattle.git_places.specs.declared.error.PlacesError.TheVariants as errors
 use Rattle.tizhagor.specs.Parts.{bad_config_line, fault_line_without_path, optional_in_file_ending, out_of_memory_line, bad_config_value_line, text_with_optional_file, text_with_escaped_path}
 
+-- begins with `fatal: ` and ends in a line feed; in git's words where git says so too, with paths and values escaped
 abbrev pub line_of_places_error : PlacesError → List ℕ
 line_of_places_error errors.NoRepository = codes "fatal: not a git repository (or any of the parent directories): .git\n"
 line_of_places_error (errors.Border path) =

@@ -21,6 +21,7 @@ phrase_of_walk_refusal words.Blob = codes "fatal: a skipped .gitignore is not ch
 phrase_of_walk_refusal words.Lookup = codes "fatal: ignore rules cannot be asked: '"
 phrase_of_walk_refusal words.TooDeep = codes "fatal: deeper than --depth (256 where it is not said, at most 1000): '"
 
+-- where what tells of submodules is outside its grammar: in a configuration, in `.gitmodules`, or in `submodule.active`
 abbrev pub line_of_misread_submodules : Misread → List ℕ
 line_of_misread_submodules (misread.Config at line) = text_with_number (codes "fatal: bad config line ") line (text_with_number (codes " in configuration ") at (codes "\n"))
 line_of_misread_submodules (misread.Modules line) = bad_config_line (codes ".gitmodules") line

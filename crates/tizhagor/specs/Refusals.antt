@@ -16,8 +16,8 @@ use Rattle.check_ignore.specs.declared.stop.Stop.{Stop}
 use Rattle.check_ignore.specs.declared.stop.Stop.TheVariants as stops
 use Rattle.command_line.specs.declared.misuse.Misuse.{Misuse}
 use Rattle.command_line.specs.declared.misuse.Misuse.TheVariants as misuses
-use Rattle.tizhagor.specs.declared.refusal.HereRefusal.{HereRefusal}
-use Rattle.tizhagor.specs.declared.refusal.HereRefusal.TheVariants as errors
+use Rattle.tizhagor.specs.declared.refusal.CommandRefusal.{CommandRefusal}
+use Rattle.tizhagor.specs.declared.refusal.CommandRefusal.TheVariants as errors
 use Rattle.tizhagor.specs.declared.refusal.Unchecked.{Unchecked}
 use Rattle.tizhagor.specs.declared.refusal.Unchecked.TheVariants as unchecked
 use Rattle.tizhagor.specs.declared.refusal.Uncompared.{Uncompared}
@@ -34,26 +34,27 @@ use Rattle.tizhagor.specs.PlacesLines.{line_of_places_error}
 use Rattle.tizhagor.specs.ProgramLines.{line_of_program_refusal, status_of_program_refusal}
 
 -- the worktree failed, and counted it
-abbrev pub fault : HereRefusal
+abbrev pub fault : CommandRefusal
 fault = errors.Program refusals.Fault
 
 -- want of memory
-abbrev pub memory : HereRefusal
+abbrev pub memory : CommandRefusal
 memory = errors.Program refusals.OutOfMemory
 
 -- ---- the refusal that stands for one of a part
 
-abbrev pub here_refusal_of_read_error : ReadError → HereRefusal
+-- that a question to the worktree has no answer: it failed, or memory was wanted
+abbrev pub here_refusal_of_read_error : ReadError → CommandRefusal
 here_refusal_of_read_error read.Fault = fault
 here_refusal_of_read_error read.OutOfMemory = memory
 
 -- that words ask for nothing
-abbrev pub here_refusal_of_misuse : Misuse → HereRefusal
+abbrev pub here_refusal_of_misuse : Misuse → CommandRefusal
 here_refusal_of_misuse (misuses.Word topic wrong word) = errors.Words (misuses.Word topic wrong word)
 here_refusal_of_misuse misuses.OutOfMemory = memory
 
 -- that no setup is found
-abbrev pub here_refusal_of_git_refusal : GitRefusal → HereRefusal
+abbrev pub here_refusal_of_git_refusal : GitRefusal → CommandRefusal
 here_refusal_of_git_refusal (git.Elsewhere name) = errors.Git (git.Elsewhere name)
 here_refusal_of_git_refusal (git.Places e) = errors.Git (git.Places e)
 here_refusal_of_git_refusal (git.Foreign path) = errors.Git (git.Foreign path)
@@ -71,17 +72,18 @@ here_refusal_of_git_refusal (git.SubmoduleCase path) = errors.Git (git.Submodule
 here_refusal_of_git_refusal git.Fault = fault
 here_refusal_of_git_refusal git.OutOfMemory = memory
 
-abbrev pub git_result_with_here_refusal : {A : Type 0} → Result A GitRefusal → Result A HereRefusal
+-- what was found stays; of git's refusals a fault and want of memory become the program's, and all others are told as git's
+abbrev pub git_result_with_here_refusal : {A : Type 0} → Result A GitRefusal → Result A CommandRefusal
 git_result_with_here_refusal answer = map_error here_refusal_of_git_refusal answer
 
 -- that a work tree is not compared with its index
-abbrev pub here_refusal_of_diff_error : DiffError → HereRefusal
+abbrev pub here_refusal_of_diff_error : DiffError → CommandRefusal
 here_refusal_of_diff_error (differences.Unsupported refused) = errors.Uncompared (reasons.Form refused)
 here_refusal_of_diff_error differences.Fault = fault
 here_refusal_of_diff_error differences.OutOfMemory = memory
 
 -- that nothing is answered of paths in the work tree at `root`
-abbrev pub here_refusal_of_check_ignore_stop : List ℕ → Stop → HereRefusal
+abbrev pub here_refusal_of_check_ignore_stop : List ℕ → Stop → CommandRefusal
 here_refusal_of_check_ignore_stop root stops.SparseIndex = errors.Unchecked (unchecked.Stopped root stops.SparseIndex)
 here_refusal_of_check_ignore_stop root stops.BadQuotes = errors.Unchecked (unchecked.Stopped root stops.BadQuotes)
 here_refusal_of_check_ignore_stop root stops.Empty = errors.Unchecked (unchecked.Stopped root stops.Empty)
@@ -98,12 +100,12 @@ here_refusal_of_check_ignore_stop root stops.Fault = fault
 here_refusal_of_check_ignore_stop root stops.OutOfMemory = memory
 
 -- that there is no text by a setup
-abbrev pub program_result_with_here_refusal : {A : Type 0} → Result A Refusal → Result A HereRefusal
+abbrev pub program_result_with_here_refusal : {A : Type 0} → Result A Refusal → Result A CommandRefusal
 program_result_with_here_refusal (Ok text) = Ok text
 program_result_with_here_refusal (Err e) = Err (errors.Program e)
 
 -- a refusal that may come while a work tree and its setup are looked for
-abbrev pub MayComeBeforeSetupIsFound : HereRefusal → Type 0
+abbrev pub MayComeBeforeSetupIsFound : CommandRefusal → Type 0
 MayComeBeforeSetupIsFound (errors.Words misuse) = ⊥
 MayComeBeforeSetupIsFound (errors.Absent directory) = Unit {0}
 MayComeBeforeSetupIsFound (errors.NotADirectory directory) = Unit {0}
@@ -126,7 +128,8 @@ MayComeBeforeSetupIsFound (errors.Program refusals.OutOfMemory) = Unit {0}
 
 -- ---- statuses
 
-abbrev pub status_of : HereRefusal → ℕ
+-- the exit status: 129 for wrong words and 128 for all else, as git has them; 130 for an interrupt, as a shell has it
+abbrev pub status_of : CommandRefusal → ℕ
 status_of (errors.Words misuse) = 129
 status_of (errors.Absent directory) = 128
 status_of (errors.NotADirectory directory) = 128
@@ -142,6 +145,7 @@ status_of (errors.Program refusal) = status_of_program_refusal refusal
 
 -- ---- lines
 
+-- why no setup is found; begins with `fatal: `, ends in a line feed, and escapes the paths in it
 abbrev pub line_of_git_refusal : GitRefusal → List ℕ
 line_of_git_refusal (git.Elsewhere name) = variable_not_heeded_line name
 line_of_git_refusal (git.Places e) = line_of_places_error e
@@ -168,10 +172,12 @@ line_of_git_refusal git.OutOfMemory = out_of_memory_line
 abbrev pub unsupported_form_line : Unanswered → List ℕ
 unsupported_form_line refused = text_with_escaped_path ((codes "fatal: " ++ unsupported_text refused.form) ++ codes ": '") refused.path (codes "'\n")
 
+-- git's line for options that exclude each other, or the form that is not supported here with its path
 abbrev pub line_of_comparison_refusal : Uncompared → List ℕ
 line_of_comparison_refusal reasons.Exclusive = codes "fatal: options '--name-only', '--name-status', '--check', and '-s' cannot be used together\n"
 line_of_comparison_refusal (reasons.Form refused) = unsupported_form_line refused
 
+-- the words alone, before `fatal: ` is put in front and they are escaped
 abbrev pub text_of_check_ignore_refusal : Unchecked → List ℕ
 text_of_check_ignore_refusal (unchecked.Wrong wrong) = checks.message_of_wrong_check wrong
 text_of_check_ignore_refusal (unchecked.Stopped root stop) = told root stop
@@ -181,7 +187,7 @@ abbrev pub line_of_check_ignore_refusal : Unchecked → List ℕ
 line_of_check_ignore_refusal reason = text_with_escaped_path (codes "fatal: ") (text_of_check_ignore_refusal reason) (codes "\n")
 
 -- the line on standard error, its line feed included
-abbrev pub line_of_refusal : HereRefusal → List ℕ
+abbrev pub line_of_refusal : CommandRefusal → List ℕ
 line_of_refusal (errors.Words misuse) = message_of_misuse misuse
 line_of_refusal (errors.Absent directory) = text_with_escaped_path (codes "fatal: cannot change to '") directory (codes "': No such file or directory\n")
 line_of_refusal (errors.NotADirectory directory) = text_with_escaped_path (codes "fatal: cannot change to '") directory (codes "': Not a directory\n")
@@ -196,7 +202,7 @@ line_of_refusal (errors.Cleaning wrong) = codes "fatal: " ++ message_of_wrong_cl
 line_of_refusal (errors.Program refusal) = line_of_program_refusal refusal
 
 -- whether the worktree, the owners or the stats failed
-abbrev pub is_fault_refusal : HereRefusal → Bool
+abbrev pub is_fault_refusal : CommandRefusal → Bool
 is_fault_refusal (errors.Words misuse) = false
 is_fault_refusal (errors.Absent directory) = false
 is_fault_refusal (errors.NotADirectory directory) = false
@@ -218,5 +224,5 @@ is_fault_refusal (errors.Program refusals.Output) = false
 is_fault_refusal (errors.Program refusals.OutOfMemory) = false
 
 -- the line of a refusal; that of a fault names the path of the worktree's first one, where there is a name for it
-abbrev pub line_of_refusal_with_fault_path : List ℕ → HereRefusal → List ℕ
+abbrev pub line_of_refusal_with_fault_path : List ℕ → CommandRefusal → List ℕ
 line_of_refusal_with_fault_path first refusal = if is_fault_refusal refusal then fault_line_with_path first else line_of_refusal refusal

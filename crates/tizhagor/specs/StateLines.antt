@@ -43,6 +43,7 @@ state_word_of_unmerged_change (changes.Modified mode) = None
 state_word_of_unmerged_change (changes.TypeChanged mode) = None
 state_word_of_unmerged_change (changes.Unmerged mode) = Some (codes "conflicted")
 
+-- the word for a change of an entry; none where nothing changed, and of an entry that is not merged `conflicted` at most
 abbrev pub state_word_of_row : ChangeRow → Option (List ℕ)
 state_word_of_row row = if is_merged row.entry then state_word_of_change row.change else state_word_of_unmerged_change row.change
 

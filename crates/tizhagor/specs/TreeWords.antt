@@ -12,7 +12,7 @@ use Rattle.worktree_fs.specs.declared.worktree.Worktree.{Ghosts as WorktreeOf}
 use Rattle.worktree_fs.specs.Owners.{OwnershipByPath}
 use Rattle.worktree_fs.specs.Tree.{Names}
 use Rattle.worktree_report.specs.declared.refusal.Refusal.{Refusal}
-use Rattle.tizhagor.specs.declared.refusal.HereRefusal.{HereRefusal}
+use Rattle.tizhagor.specs.declared.refusal.CommandRefusal.{CommandRefusal}
 use Rattle.tizhagor.specs.declared.reply.Reply.{Reply}
 use Rattle.tizhagor.specs.declared.written.Writing.{Writing}
 use Rattle.tizhagor.specs.Asking.{found_around_asked_directory}
@@ -31,7 +31,7 @@ pub data WorkTreeCommand : Type 0 where
   report_of : Writing → WorkTreeCommand
 
 -- the work tree around a directory and its setup, or the first refusal
-abbrev pub found_for_work_tree_command : Names → OwnershipByPath → List ℕ → List EnvironmentVariable → Option (List ℕ) → Asked → WorkTreeCommand → Result Found HereRefusal
+abbrev pub found_for_work_tree_command : Names → OwnershipByPath → List ℕ → List EnvironmentVariable → Option (List ℕ) → Asked → WorkTreeCommand → Result Found CommandRefusal
 found_for_work_tree_command t owned current variables directory asked (listing_of wants) = found_checked_for_ls_files t owned current variables directory wants asked
 found_for_work_tree_command t owned current variables directory asked (cleaning_of wants) = found_checked_for_clean t owned current variables directory wants asked
 found_for_work_tree_command t owned current variables directory asked (report_of writing) = found_around_asked_directory t owned current variables directory asked

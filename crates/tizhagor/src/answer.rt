@@ -29,7 +29,7 @@ use crate::fault::NamesFault;
 use crate::files::answer_ls_files;
 use crate::finish::finish_with_answer;
 use crate::found::request_with_call_options;
-use crate::refusal::HereRefusal;
+use crate::refusal::CommandRefusal;
 use crate::reply::{Reply, plain_reply_or_here_refusal};
 use crate::texts::find_setup_and_make_call_text;
 use crate::written::{Writing, format_text_of_answer};
@@ -41,7 +41,7 @@ use diff_files::Stats;
 use git_places::Variable;
 use git_setup::Asked;
 use gitbase_core::Bytes;
-use ls_files::{Standings, lists_only_ignored_index_entries, needs_worktree_walk};
+use ls_files::{DeletedModifiedChoice, lists_only_ignored_index_entries, needs_worktree_walk};
 use std::alloc::Global;
 use worktree_fs::{Interrupt, Owners, Sink};
 use worktree_report::CountsFaults;
@@ -68,7 +68,7 @@ fn find_setup_and_make_call_bytes<W: CountsFaults, O: Owners, I: Interrupt>(
     call: Call,
     asked: Asked,
     writing: Writing,
-) -> Result<Bytes, HereRefusal>
+) -> Result<Bytes, CommandRefusal>
     ensures { answers.AnswersCallBytes W.Worktree I.Interrupt O.Owners worktree.old worktree.new
         interrupt.old interrupt.new owners.old owners.new (answers.found_in_call_environment
         (answers.call_environment_of_fields here.now.current.now here.now.variables.now true [])
@@ -91,7 +91,7 @@ fn find_setup_and_make_call_reply<W: CountsFaults, O: Owners, I: Interrupt>(
     call: Call,
     asked: Asked,
     writing: Writing,
-) -> Result<Reply, HereRefusal>
+) -> Result<Reply, CommandRefusal>
     ensures { HoldsOfOutputOfPlainReply (answers.AnswersCallBytes W.Worktree I.Interrupt O.Owners
         worktree.old worktree.new interrupt.old interrupt.new owners.old owners.new
         (answers.found_in_call_environment (answers.call_environment_of_fields here.now.current.now
@@ -105,7 +105,7 @@ fn find_setup_and_make_call_reply<W: CountsFaults, O: Owners, I: Interrupt>(
 }
 
 /// A text that is always the same.
-fn copy_fixed_text(alloc: Global, text: &[u8]) -> Result<Bytes, HereRefusal>
+fn copy_fixed_text(alloc: Global, text: &[u8]) -> Result<Bytes, CommandRefusal>
     ensures gives { IfOk result (λ bytes. bytes ≡ text.now) }
     ensures refused { IfErr result (λ e. e ≡ memory) }
 {
@@ -113,7 +113,7 @@ fn copy_fixed_text(alloc: Global, text: &[u8]) -> Result<Bytes, HereRefusal>
 }
 
 /// The same as what a command says.
-fn reply_with_fixed_text(alloc: Global, text: &[u8]) -> Result<Reply, HereRefusal>
+fn reply_with_fixed_text(alloc: Global, text: &[u8]) -> Result<Reply, CommandRefusal>
     ensures gives { IfOk result (λ reply. reply ≡ plain_reply text.now) }
     ensures refused { IfErr result (λ e. e ≡ memory) }
 {
@@ -131,7 +131,7 @@ pub enum Demand {
     /// What `ls-files` prints, with neither `-d` nor `-m`.
     Files(Asked, FilesAsked),
     /// What `ls-files` prints with `-d` or `-m`.
-    Changed(Asked, FilesAsked, Standings),
+    Changed(Asked, FilesAsked, DeletedModifiedChoice),
     /// What `clean` prints.
     Clean(Asked, CleanAsked),
     /// What `check-ignore` prints.
@@ -198,7 +198,7 @@ fn answer_demand<W: CountsFaults, O: Owners, D: Stats, I: Interrupt>(
     here: &Here<'_>,
     called: &Called<'_>,
     demand: Demand,
-) -> Result<Reply, HereRefusal>
+) -> Result<Reply, CommandRefusal>
     ensures { compared.AnswersAnyTask W.Worktree I.Interrupt O.Owners D.Stats worktree.old
         worktree.new interrupt.old interrupt.new owners.old owners.new stats.old stats.new
         (answers.call_environment_of_fields here.now.current.now here.now.variables.now
@@ -257,7 +257,7 @@ fn answer_command<W: CountsFaults, O: Owners, D: Stats, I: Interrupt>(
     called: &Called<'_>,
     directory: &Option<Bytes>,
     command: Command,
-) -> Result<Reply, HereRefusal>
+) -> Result<Reply, CommandRefusal>
     ensures { compared.AnswersAnyTask W.Worktree I.Interrupt O.Owners D.Stats worktree.old
         worktree.new interrupt.old interrupt.new owners.old owners.new stats.old stats.new
         (answers.call_environment_of_called called.now) directory.now result
@@ -282,7 +282,7 @@ fn parse_and_answer_words<W: CountsFaults, O: Owners, D: Stats, I: Interrupt>(
     stats: &mut D,
     interrupt: &mut I,
     called: &Called<'_>,
-) -> Result<Reply, HereRefusal>
+) -> Result<Reply, CommandRefusal>
     ensures { both.AnswersWordsOfAnyCommand W.Worktree I.Interrupt O.Owners D.Stats worktree.old
         worktree.new interrupt.old interrupt.new owners.old owners.new stats.old stats.new
         (answers.call_environment_of_called called.now) called.now.words.now result }
@@ -399,12 +399,12 @@ pub fn answer_words_to_streams<W: NamesFault, O: Owners, D: Stats, I: Interrupt,
 
     // And the other way: where no work tree and no setup is found over them, and no fault was
     // counted, the line says why, or that memory was wanted, with its status.
-    ensures refused { (t : Names) (owned : OwnershipByPath) (e : HereRefusal) → W.told worktree.old
-        ≡ Some t → O.told owners.old ≡ Some owned → output.RefusesWordsBeforeSetupIsFound t owned
-        (answers.call_environment_of_called called.now) called.now.words.now e
-        → CountNotIncreased (W.faults worktree.old) (W.faults worktree.new) → CountNotIncreased
-        (O.faults owners.old) (O.faults owners.new) → SaysRefusalOrMemoryLine E.Sink err.old err.new
-        (W.first_fault worktree.new) e result }
+    ensures refused { (t : Names) (owned : OwnershipByPath) (e : CommandRefusal) → W.told
+        worktree.old ≡ Some t → O.told owners.old ≡ Some owned →
+        output.RefusesWordsBeforeSetupIsFound t owned (answers.call_environment_of_called
+        called.now) called.now.words.now e → CountNotIncreased (W.faults worktree.old) (W.faults
+        worktree.new) → CountNotIncreased (O.faults owners.old) (O.faults owners.new) →
+        SaysRefusalOrMemoryLine E.Sink err.old err.new (W.first_fault worktree.new) e result }
 
     // Status 130: the interrupt was raised.
     ensures interrupted { result ≡ 130
@@ -426,14 +426,14 @@ pub fn answer_words_to_streams<W: NamesFault, O: Owners, D: Stats, I: Interrupt,
     // it ends as what is found over them does, with its reply or with the line of its refusal; or
     // want of memory is told. So does what is told by a walk and by stats, where the walk can be
     // had and no interrupt was raised.
-    ensures compared { (t : Names) (owned : OwnershipByPath) (told : StatsByPath)
-        (wanted : ResultOf ReplyOf HereRefusal) → W.told worktree.old ≡ Some t → O.told owners.old
-        ≡ Some owned → D.told stats.old ≡ Some told → compared.StatWordsHaveResult t owned told
+    ensures compared { (t : Names) (owned : OwnershipByPath) (told : StatsByPath) (wanted : ResultOf
+        ReplyOf CommandRefusal) → W.told worktree.old ≡ Some t → O.told owners.old ≡ Some owned →
+        D.told stats.old ≡ Some told → compared.StatWordsHaveResult t owned told
         (answers.call_environment_of_called called.now) called.now.words.now wanted ⊎
-        (CountNotIncreased (I.raised interrupt.old) (I.raised interrupt.new)
-        × both.WalkAndStatWordsHaveResult (W.precomposes worktree.old) t owned told
-        (answers.call_environment_of_called called.now) called.now.words.now wanted)
-        → CountNotIncreased (W.faults worktree.old) (W.faults worktree.new) → CountNotIncreased
+        (CountNotIncreased (I.raised interrupt.old) (I.raised interrupt.new) ×
+        both.WalkAndStatWordsHaveResult (W.precomposes worktree.old) t owned told
+        (answers.call_environment_of_called called.now) called.now.words.now wanted) →
+        CountNotIncreased (W.faults worktree.old) (W.faults worktree.new) → CountNotIncreased
         (O.faults owners.old) (O.faults owners.new) → CountNotIncreased (D.faults stats.old)
         (D.faults stats.new) → SaysLineWithStatus E.Sink err.old err.new out_of_memory_line 128
         result ⊎ EndsWithStatusAndStreams S.Sink E.Sink out.old out.new err.old err.new

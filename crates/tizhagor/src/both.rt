@@ -10,13 +10,13 @@ ghost use Rattle.tizhagor.specs.Listings.{found_checked_for_ls_files};
 use crate::changed::answer_ls_files_changed;
 use crate::directory::Here;
 use crate::files::answer_ls_files;
-use crate::refusal::HereRefusal;
+use crate::refusal::CommandRefusal;
 use crate::reply::Reply;
 use command_line::FilesAsked;
 use diff_files::Stats;
 use git_setup::Asked;
 use gitbase_core::{Bytes, OutOfMemory};
-use ls_files::{Listing, Standings};
+use ls_files::{DeletedModifiedChoice, Listing};
 use std::alloc::Global;
 use worktree_fs::{Interrupt, Owners};
 use worktree_report::CountsFaults;
@@ -52,8 +52,8 @@ pub fn join_replies(alloc: Global, first: Reply, second: &Reply) -> Result<Reply
 fn join_replies_unless_second_refused(
     alloc: Global,
     first: Reply,
-    second: Result<Reply, HereRefusal>,
-) -> Result<Reply, HereRefusal>
+    second: Result<Reply, CommandRefusal>,
+) -> Result<Reply, CommandRefusal>
     ensures { IsJoinedReply words.join_replies first second result }
 {
     let second = second?;
@@ -66,7 +66,7 @@ pub struct WalkAndChangesAsked {
     /// What is listed, by which rules.
     pub files: FilesAsked,
     /// Which changes are listed.
-    pub standings: Standings,
+    pub standings: DeletedModifiedChoice,
 }
 
 /// What `ls-files` with `-d` or `-m` and with `-o` or `-k` says of the work tree around the
@@ -87,7 +87,7 @@ pub fn list_walked_and_changed_files<W: CountsFaults, O: Owners, D: Stats, I: In
     here: &Here<'_>,
     asked: &Asked,
     both: WalkAndChangesAsked,
-) -> Result<Reply, HereRefusal>
+) -> Result<Reply, CommandRefusal>
     ensures { AnswersTreeAndStatCommand W.Worktree I.Interrupt O.Owners D.Stats worktree.old
         worktree.new interrupt.old interrupt.new owners.old owners.new stats.old stats.new
         (λ t owned. found_checked_for_ls_files t owned here.now.current.now here.now.variables.now

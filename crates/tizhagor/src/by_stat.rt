@@ -10,7 +10,7 @@ use crate::both::join_replies;
 use crate::compare::{ChangeLines, answer_diff_files_or_state_lines};
 use crate::directory::Here;
 use crate::quiet_report::answer_report_unless_worktree_failed;
-use crate::refusal::HereRefusal;
+use crate::refusal::CommandRefusal;
 use crate::reply::Reply;
 use crate::written::Writing;
 use diff_files::Stats;
@@ -23,8 +23,8 @@ use worktree_report::CountsFaults;
 fn put_states_before_report(
     alloc: Global,
     report: &Reply,
-    states: Result<Reply, HereRefusal>,
-) -> Result<Reply, HereRefusal>
+    states: Result<Reply, CommandRefusal>,
+) -> Result<Reply, CommandRefusal>
     ensures { IsJoinedReply words.second_reply_before_first report.now states result }
 {
     let states = states?;
@@ -48,7 +48,7 @@ pub fn answer_state_by_stat<W: CountsFaults, O: Owners, D: Stats, I: Interrupt>(
     here: &Here<'_>,
     asked: &Asked,
     writing: Writing,
-) -> Result<Reply, HereRefusal>
+) -> Result<Reply, CommandRefusal>
     ensures { AnswersTreeAndStatCommand W.Worktree I.Interrupt O.Owners D.Stats worktree.old
         worktree.new interrupt.old interrupt.new owners.old owners.new stats.old stats.new
         (λ t owned. found_around_asked_directory t owned here.now.current.now here.now.variables.now

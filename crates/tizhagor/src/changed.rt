@@ -13,13 +13,13 @@ use crate::directory::Here;
 use crate::files::{
     ls_files_options_of_request, ls_files_options_with_quote_path, named_specs_of_asked_specs,
 };
-use crate::refusal::HereRefusal;
+use crate::refusal::CommandRefusal;
 use crate::reply::Reply;
 use command_line::{FilesAsked, default_diff_files_request};
 use diff_files::{Comparison, Stats};
 use git_setup::{Asked, Compared, ComparedFrom, Settings, read_comparison_setup_from_directory};
 use ls_files::{
-    ChangeQuery, ChangedError, Listed, Listing, NamedSpec, Standings, WrongListing,
+    ChangeQuery, ChangedError, DeletedModifiedChoice, Listed, Listing, NamedSpec, WrongListing,
     list_deleted_and_modified, refusal_of_options_for_changes,
 };
 use std::alloc::Global;
@@ -32,7 +32,7 @@ fn read_inputs_for_listing_changes<W: Worktree>(
     worktree: &mut W,
     placed: &Placed,
     asked: &Asked,
-) -> Result<ComparedFrom, HereRefusal>
+) -> Result<ComparedFrom, CommandRefusal>
     ensures finds { FindsHereResultOverToldTree W.Worktree worktree.old worktree.new
         (λ t. words.inputs_for_listing_changes_in_tree t placed.now asked.now) result }
     ensures of { IfErr result MayComeBeforeSetupIsFound }
@@ -51,12 +51,12 @@ fn read_inputs_for_listing_changes<W: Worktree>(
 fn require_valid_listing_of_changes(
     wants: &FilesAsked,
     compared: ComparedFrom,
-) -> Result<ComparedFrom, HereRefusal>
+) -> Result<ComparedFrom, CommandRefusal>
     ensures gives { result ≡ words.require_valid_listing_of_changes wants.now compared }
     ensures of { IfErr result MayComeBeforeSetupIsFound }
 {
     match refusal_of_options_for_changes(&ls_files_options_of_request(wants)) {
-        Some(wrong) => Err(HereRefusal::Listing(wrong)),
+        Some(wrong) => Err(CommandRefusal::Listing(wrong)),
         None => Ok(compared),
     }
 }
@@ -69,7 +69,7 @@ fn read_and_check_inputs_for_changes<W: Worktree>(
     placed: &Placed,
     asked: &Asked,
     wants: &FilesAsked,
-) -> Result<ComparedFrom, HereRefusal>
+) -> Result<ComparedFrom, CommandRefusal>
     ensures finds { FindsHereResultOverToldTree W.Worktree worktree.old worktree.new
         (λ t. words.checked_inputs_for_listing_changes t placed.now asked.now wants.now) result }
     ensures of { IfErr result MayComeBeforeSetupIsFound }
@@ -93,18 +93,20 @@ fn ls_files_options_with_config_quoting(wants: &FilesAsked, settings: &Settings)
 }
 
 /// The refusal that stands for one of a listing of what changed.
-fn here_refusal_of_changed_error(refused: ChangedError) -> HereRefusal
+fn here_refusal_of_changed_error(refused: ChangedError) -> CommandRefusal
     ensures { result ≡ words.here_refusal_of_changed_error refused }
 {
     match refused {
-        ChangedError::Unsupported(form) => HereRefusal::Listing(WrongListing::Unsupported(form)),
-        ChangedError::Fault => HereRefusal::Program(Refusal::Fault),
-        ChangedError::OutOfMemory => HereRefusal::Program(Refusal::OutOfMemory),
+        ChangedError::Unsupported(form) => CommandRefusal::Listing(WrongListing::Unsupported(form)),
+        ChangedError::Fault => CommandRefusal::Program(Refusal::Fault),
+        ChangedError::OutOfMemory => CommandRefusal::Program(Refusal::OutOfMemory),
     }
 }
 
 /// What is said of a listing.
-fn reply_of_deleted_and_modified(answer: Result<Listed, ChangedError>) -> Result<Reply, HereRefusal>
+fn reply_of_deleted_and_modified(
+    answer: Result<Listed, ChangedError>,
+) -> Result<Reply, CommandRefusal>
     ensures { result ≡ words.reply_of_deleted_and_modified answer }
 {
     match answer {
@@ -125,7 +127,7 @@ fn reply_of_deleted_and_modified(answer: Result<Listed, ChangedError>) -> Result
 #[derive(Clone, Copy)]
 struct ChangedAsked<'a> {
     wants: &'a FilesAsked,
-    standings: Standings,
+    standings: DeletedModifiedChoice,
     index_time: u32,
 }
 
@@ -138,7 +140,7 @@ fn list_changed_as_reply<W: Worktree, D: Stats>(
     prefix: &[u8],
     named: &[NamedSpec],
     asked: &ChangedAsked<'_>,
-) -> Result<Reply, HereRefusal>
+) -> Result<Reply, CommandRefusal>
     ensures finds { FindsOverTreeAndStats W.Worktree D.Stats worktree.old worktree.new stats.old
         stats.new (λ t told. words.changed_files_reply_of_comparison t told asked.now.wants.now
         asked.now.standings compared.now prefix.now named.now asked.now.index_time) result }
@@ -174,7 +176,7 @@ fn list_changed_of_comparison<W: Worktree, D: Stats>(
     stats: &mut D,
     compared: ComparedFrom,
     asked: &ChangedAsked<'_>,
-) -> Result<Reply, HereRefusal>
+) -> Result<Reply, CommandRefusal>
     ensures finds { FindsOverTreeAndStats W.Worktree D.Stats worktree.old worktree.new stats.old
         stats.new (λ t told. words.changed_files_reply_from_directory t told asked.now.wants.now
         asked.now.standings compared asked.now.index_time) result }
@@ -198,7 +200,7 @@ fn read_and_list_changed<W: Worktree, D: Stats>(
     placed: &Placed,
     by: &Asked,
     asked: &ChangedAsked<'_>,
-) -> Result<Reply, HereRefusal>
+) -> Result<Reply, CommandRefusal>
     ensures finds { FindsOverTreeAndStats W.Worktree D.Stats worktree.old worktree.new stats.old
         stats.new (λ t told. words.changed_files_reply_at_index_time t told placed.now by.now
         asked.now.wants.now asked.now.standings asked.now.index_time) result }
@@ -217,8 +219,8 @@ fn read_index_time_and_list_changed<W: Worktree, D: Stats>(
     placed: &Placed,
     asked: &Asked,
     wants: &FilesAsked,
-    standings: Standings,
-) -> Result<Reply, HereRefusal>
+    standings: DeletedModifiedChoice,
+) -> Result<Reply, CommandRefusal>
     ensures finds { FindsOverTreeAndStats W.Worktree D.Stats worktree.old worktree.new stats.old
         stats.new (λ t told. words.changed_files_reply_of_placed t told placed.now asked.now
         wants.now standings) result }
@@ -253,8 +255,8 @@ pub fn answer_ls_files_changed<W: Worktree, O: Owners, D: Stats>(
     here: &Here<'_>,
     asked: &Asked,
     wants: &FilesAsked,
-    standings: Standings,
-) -> Result<Reply, HereRefusal>
+    standings: DeletedModifiedChoice,
+) -> Result<Reply, CommandRefusal>
     ensures { FindsOverTreeOwnersAndStats W.Worktree O.Owners D.Stats worktree.old worktree.new
         owners.old owners.new stats.old stats.new
         (λ t owned told. words.changed_files_reply_around_directory t owned told

@@ -7,7 +7,7 @@ ghost use Rattle.tizhagor.specs.Refusals.{MayComeBeforeSetupIsFound, here_refusa
 
 use crate::compare::{Placed, find_work_tree_and_repository_places};
 use crate::directory::Here;
-use crate::refusal::{HereRefusal, Unchecked};
+use crate::refusal::{CommandRefusal, Unchecked};
 use crate::reply::Reply;
 use check_ignore::{
     Answered, CheckContext, Checking, NamedRules, OuterRules, Stop, check_paths_or_stdin,
@@ -21,13 +21,13 @@ use worktree_fs::{Owners, Worktree};
 use worktree_report::Refusal;
 
 /// That nothing is answered of paths in the work tree at `root`.
-fn here_refusal_of_check_ignore_stop(root: PathText, stop: Stop) -> HereRefusal
+fn here_refusal_of_check_ignore_stop(root: PathText, stop: Stop) -> CommandRefusal
     ensures { result ≡ here_refusal_of_check_ignore_stop root stop }
 {
     match stop {
-        Stop::Fault => HereRefusal::Program(Refusal::Fault),
-        Stop::OutOfMemory => HereRefusal::Program(Refusal::OutOfMemory),
-        stop => HereRefusal::Unchecked(Unchecked::Stopped { root, stop }),
+        Stop::Fault => CommandRefusal::Program(Refusal::Fault),
+        Stop::OutOfMemory => CommandRefusal::Program(Refusal::OutOfMemory),
+        stop => CommandRefusal::Unchecked(Unchecked::Stopped { root, stop }),
     }
 }
 
@@ -36,7 +36,7 @@ fn reply_of_check_ignore_answer(
     alloc: Global,
     root: PathText,
     answer: Result<Answered, Stop>,
-) -> Result<Reply, HereRefusal>
+) -> Result<Reply, CommandRefusal>
     ensures { result ≡ words.reply_of_check_ignore_answer root answer }
 {
     match answer {
@@ -90,7 +90,7 @@ fn check_ignore_paths_as_reply<W: Worktree>(
     paths: &[Bytes],
     input: &[u8],
     here: Checked,
-) -> Result<Reply, HereRefusal>
+) -> Result<Reply, CommandRefusal>
     ensures looks { FindsReplyOverTree W.Worktree worktree.old worktree.new
         (λ t. words.check_ignore_reply_of_paths t wants.now paths.now input.now here) result }
     ensures of { IfErr result MayComeBeforeSetupIsFound }
@@ -124,7 +124,7 @@ fn read_check_ignore_setup_of_placed<W: Worktree>(
     worktree: &mut W,
     placed: &Placed,
     wants: &CheckAsked,
-) -> Result<Checked, HereRefusal>
+) -> Result<Checked, CommandRefusal>
     ensures finds { FindsHereResultOverToldTree W.Worktree worktree.old worktree.new
         (λ t. words.check_ignore_setup_of_placed t placed.now wants.now) result }
     ensures of { IfErr result MayComeBeforeSetupIsFound }
@@ -146,7 +146,7 @@ fn read_setup_and_check_ignore_paths<W: Worktree>(
     asked: &Asked,
     wants: &CheckAsked,
     input: &[u8],
-) -> Result<Reply, HereRefusal>
+) -> Result<Reply, CommandRefusal>
     ensures looks { FindsReplyOverTree W.Worktree worktree.old worktree.new
         (λ t. words.check_ignore_reply_of_placed t placed.now asked.now wants.now input.now)
         result }
@@ -164,14 +164,14 @@ fn check_ignore_paths_if_options_valid<W: Worktree>(
     asked: &Asked,
     wants: &CheckAsked,
     input: &[u8],
-) -> Result<Reply, HereRefusal>
+) -> Result<Reply, CommandRefusal>
     ensures looks { FindsReplyOverTree W.Worktree worktree.old worktree.new
         (λ t. words.check_ignore_reply_if_options_valid t placed.now asked.now wants.now input.now)
         result }
     ensures of { IfErr result MayComeBeforeSetupIsFound }
 {
     match first_option_error(&wants.checking, asked.paths.len()) {
-        Some(wrong) => Err(HereRefusal::Unchecked(Unchecked::Wrong(wrong))),
+        Some(wrong) => Err(CommandRefusal::Unchecked(Unchecked::Wrong(wrong))),
         None => read_setup_and_check_ignore_paths(alloc, worktree, placed, asked, wants, input),
     }
 }
@@ -196,7 +196,7 @@ pub fn answer_check_ignore<W: Worktree, O: Owners>(
     asked: &Asked,
     wants: &CheckAsked,
     input: &[u8],
-) -> Result<Reply, HereRefusal>
+) -> Result<Reply, CommandRefusal>
     ensures { FindsReplyOverTreeAndOwners W.Worktree O.Owners worktree.old worktree.new owners.old
         owners.new (λ t owned. words.check_ignore_reply_around_directory t owned
         here.now.current.now here.now.variables.now here.now.directory.now asked.now wants.now

@@ -11,7 +11,7 @@ use crate::directory::Here;
 use crate::files::named_specs_of_asked_specs;
 use crate::found::find_work_tree_around_current;
 use crate::patterns::{is_nonempty_list, rules_text_of_patterns};
-use crate::refusal::HereRefusal;
+use crate::refusal::CommandRefusal;
 use crate::reply::{Reply, plain_reply_or_program_refusal, reply_result_with_here_refusal};
 use crate::require_force::{
     WrongClean, is_require_force_false, read_require_force, reason_force_is_missing_in_found,
@@ -59,7 +59,7 @@ fn find_setup_checked_for_clean<W: Worktree, O: Owners>(
     here: &Here<'_>,
     wants: &CleanAsked,
     asked: Asked,
-) -> Result<Found, HereRefusal>
+) -> Result<Found, CommandRefusal>
     ensures finds { FindsHereResultOverTreeAndOwners W.Worktree O.Owners worktree.old worktree.new
         owners.old owners.new (λ t owned. words.found_checked_for_clean t owned here.now.current.now
         here.now.variables.now here.now.directory.now wants.now asked) result }
@@ -70,9 +70,9 @@ fn find_setup_checked_for_clean<W: Worktree, O: Owners>(
     let asked = request_with_walk_options_for_clean(wants, asked);
     let found = find_work_tree_around_current(alloc, worktree, owners, here, &asked)?;
     match reason_force_is_missing_in_found(wants, &found) {
-        Some(wrong) => Err(HereRefusal::Cleaning(wrong)),
+        Some(wrong) => Err(CommandRefusal::Cleaning(wrong)),
         None => match reason_cleaning_unsupported(&clean_options_of_request(wants), &found.setup) {
-            Some(wrong) => Err(HereRefusal::Cleaning(WrongClean::Wrong(wrong))),
+            Some(wrong) => Err(CommandRefusal::Cleaning(WrongClean::Wrong(wrong))),
             None => Ok(found),
         },
     }
@@ -84,7 +84,8 @@ fn clean_options_with_repositories_and_quoting(
     repositories: bool,
     quote_path: bool,
 ) -> Cleaning
-    ensures { result ≡ words.clean_options_with_repositories_and_quoting cleaning.now repositories quote_path }
+    ensures { result ≡ words.clean_options_with_repositories_and_quoting cleaning.now repositories
+        quote_path }
 {
     let mut cleaning = *cleaning;
     cleaning.repositories = repositories;
@@ -158,7 +159,7 @@ pub fn answer_clean<W: CountsFaults, O: Owners, I: Interrupt>(
     here: &Here<'_>,
     wants: &CleanAsked,
     asked: Asked,
-) -> Result<Reply, HereRefusal>
+) -> Result<Reply, CommandRefusal>
     ensures { answers.AnswersWorkTreeCommand W.Worktree I.Interrupt O.Owners worktree.old
         worktree.new interrupt.old interrupt.new owners.old owners.new
         (λ t owned. words.found_checked_for_clean t owned here.now.current.now

@@ -9,7 +9,7 @@ ghost use Rattle.tizhagor.specs.Refusals.{MayComeBeforeSetupIsFound};
 
 use crate::directory::Here;
 use crate::found::resolve_directory_or_current;
-use crate::refusal::{HereRefusal, Uncompared};
+use crate::refusal::{CommandRefusal, Uncompared};
 use crate::reply::Reply;
 use crate::state_lines::state_reply_by_stat;
 use crate::written::Writing;
@@ -47,12 +47,12 @@ pub struct Placed {
 /// An answer of the search for a work tree.
 fn places_result_with_here_refusal(
     answer: Result<Places, GitRefusal>,
-) -> Result<Places, HereRefusal>
+) -> Result<Places, CommandRefusal>
     ensures { result ≡ words.places_result_with_here_refusal answer }
 {
     match answer {
         Ok(places) => Ok(places),
-        Err(refused) => Err(HereRefusal::from(refused)),
+        Err(refused) => Err(CommandRefusal::from(refused)),
     }
 }
 
@@ -62,7 +62,7 @@ fn find_repository_places_in_surroundings<W: Worktree, O: Owners>(
     worktree: &mut W,
     owners: &mut O,
     around: &Surroundings,
-) -> Result<Places, HereRefusal>
+) -> Result<Places, CommandRefusal>
     ensures finds { FindsHereResultOverTreeAndOwners W.Worktree O.Owners worktree.old worktree.new
         owners.old owners.new (λ t owned. words.places_result_with_here_refusal
         (find_repository_places t owned around.now)) result }
@@ -79,7 +79,7 @@ fn find_repository_from_directory<W: Worktree, O: Owners>(
     owners: &mut O,
     variables: &[Variable],
     directory: &[u8],
-) -> Result<Placed, HereRefusal>
+) -> Result<Placed, CommandRefusal>
     ensures finds { FindsHereResultOverTreeAndOwners W.Worktree O.Owners worktree.old worktree.new
         owners.old owners.new (λ t owned. words.find_repository_from_directory t owned variables.now
         directory.now) result }
@@ -97,7 +97,7 @@ pub fn find_work_tree_and_repository_places<W: Worktree, O: Owners>(
     worktree: &mut W,
     owners: &mut O,
     here: &Here<'_>,
-) -> Result<Placed, HereRefusal>
+) -> Result<Placed, CommandRefusal>
     ensures finds { FindsHereResultOverTreeAndOwners W.Worktree O.Owners worktree.old worktree.new
         owners.old owners.new (λ t owned. words.find_work_tree_and_repository_places t owned
         here.now.current.now here.now.variables.now here.now.directory.now) result }
@@ -122,7 +122,7 @@ fn read_mtime_of_path<W: Worktree, D: Stats>(
     _worktree: &mut W,
     stats: &mut D,
     path: &[u8],
-) -> Result<u32, HereRefusal>
+) -> Result<u32, CommandRefusal>
     ensures finds { FindsOverTreeAndStats W.Worktree D.Stats _worktree.old _worktree.new stats.old
         stats.new (λ t told. words.mtime_of_path told path.now) result }
     ensures of { IfErr result MayComeBeforeSetupIsFound }
@@ -136,7 +136,7 @@ fn read_index_mtime_of_git_dir<W: Worktree, D: Stats>(
     worktree: &mut W,
     stats: &mut D,
     git: &[u8],
-) -> Result<u32, HereRefusal>
+) -> Result<u32, CommandRefusal>
     ensures finds { FindsOverTreeAndStats W.Worktree D.Stats worktree.old worktree.new stats.old
         stats.new (λ t told. words.index_mtime_of_git_dir t told git.now) result }
     ensures of { IfErr result MayComeBeforeSetupIsFound }
@@ -154,7 +154,7 @@ pub fn read_index_mtime<W: Worktree, D: Stats>(
     worktree: &mut W,
     stats: &mut D,
     places: &Places,
-) -> Result<u32, HereRefusal>
+) -> Result<u32, CommandRefusal>
     ensures finds { FindsOverTreeAndStats W.Worktree D.Stats worktree.old worktree.new stats.old
         stats.new (λ t told. words.index_mtime_of_git_dir t told places.now.git) result }
     ensures of { IfErr result MayComeBeforeSetupIsFound }
@@ -169,7 +169,7 @@ fn read_comparison_inputs<W: Worktree>(
     worktree: &mut W,
     placed: &Placed,
     asked: &Asked,
-) -> Result<Compared, HereRefusal>
+) -> Result<Compared, CommandRefusal>
     ensures finds { FindsHereResultOverToldTree W.Worktree worktree.old worktree.new
         (λ t. words.comparison_inputs_of_placed t placed.now asked.now) result }
     ensures of { IfErr result MayComeBeforeSetupIsFound }
@@ -246,7 +246,7 @@ fn reply_of_differences(
     alloc: Global,
     comparing: &Comparing,
     answer: Result<Differences, DiffError>,
-) -> Result<Reply, HereRefusal>
+) -> Result<Reply, CommandRefusal>
     ensures { result ≡ words.reply_of_differences comparing.now answer }
 {
     match answer {
@@ -264,7 +264,7 @@ fn reply_of_differences(
                 is_no,
             })
         }
-        Err(refused) => Err(HereRefusal::from(refused)),
+        Err(refused) => Err(CommandRefusal::from(refused)),
     }
 }
 
@@ -276,7 +276,7 @@ fn diff_files_reply<W: Worktree, D: Stats>(
     compared: &Compared,
     comparing: &Comparing,
     index_time: u32,
-) -> Result<Reply, HereRefusal>
+) -> Result<Reply, CommandRefusal>
     ensures finds { FindsOverTreeAndStats W.Worktree D.Stats worktree.old worktree.new stats.old
         stats.new (λ t told. words.diff_files_reply_of_comparison t told comparing.now compared.now
         index_time) result }
@@ -304,7 +304,7 @@ fn diff_files_or_state_lines_reply<W: Worktree, D: Stats>(
     compared: &Compared,
     lines: ChangeLines,
     index_time: u32,
-) -> Result<Reply, HereRefusal>
+) -> Result<Reply, CommandRefusal>
     ensures finds { FindsOverTreeAndStats W.Worktree D.Stats worktree.old worktree.new stats.old
         stats.new (λ t told. words.diff_files_or_state_lines_reply t told lines compared.now
         index_time) result }
@@ -329,7 +329,7 @@ fn read_index_and_compare_work_tree<W: Worktree, D: Stats>(
     asked: &Asked,
     lines: ChangeLines,
     index_time: u32,
-) -> Result<Reply, HereRefusal>
+) -> Result<Reply, CommandRefusal>
     ensures finds { FindsOverTreeAndStats W.Worktree D.Stats worktree.old worktree.new stats.old
         stats.new (λ t told. words.comparison_reply_at_index_time t told placed.now asked.now lines
         index_time) result }
@@ -358,7 +358,7 @@ fn read_index_time_and_compare<W: Worktree, D: Stats>(
     placed: &Placed,
     asked: &Asked,
     lines: ChangeLines,
-) -> Result<Reply, HereRefusal>
+) -> Result<Reply, CommandRefusal>
     ensures finds { FindsOverTreeAndStats W.Worktree D.Stats worktree.old worktree.new stats.old
         stats.new (λ t told. words.comparison_reply_of_placed t told placed.now asked.now lines)
         result }
@@ -376,14 +376,14 @@ fn compare_unless_name_options_conflict<W: Worktree, D: Stats>(
     placed: &Placed,
     asked: &Asked,
     lines: ChangeLines,
-) -> Result<Reply, HereRefusal>
+) -> Result<Reply, CommandRefusal>
     ensures finds { FindsOverTreeAndStats W.Worktree D.Stats worktree.old worktree.new stats.old
         stats.new (λ t told. words.comparison_reply_if_options_agree t told placed.now asked.now
         lines) result }
     ensures of { IfErr result MayComeBeforeSetupIsFound }
 {
     if asks_name_only_and_name_status(lines) {
-        return Err(HereRefusal::Uncompared(Uncompared::Exclusive));
+        return Err(CommandRefusal::Uncompared(Uncompared::Exclusive));
     }
     read_index_time_and_compare(alloc, worktree, stats, placed, asked, lines)
 }
@@ -408,7 +408,7 @@ pub fn answer_diff_files_or_state_lines<W: Worktree, O: Owners, D: Stats>(
     here: &Here<'_>,
     asked: &Asked,
     lines: ChangeLines,
-) -> Result<Reply, HereRefusal>
+) -> Result<Reply, CommandRefusal>
     ensures { FindsOverTreeOwnersAndStats W.Worktree O.Owners D.Stats worktree.old worktree.new
         owners.old owners.new stats.old stats.new
         (λ t owned told. words.comparison_reply_around_directory t owned told here.now.current.now

@@ -7,7 +7,7 @@ ghost use Rattle.tizhagor.specs.Directory as words;
 ghost use Rattle.tizhagor.specs.Finds.{FindsHereResultOverToldTree};
 ghost use Rattle.tizhagor.specs.Refusals.{MayComeBeforeSetupIsFound};
 
-use crate::refusal::HereRefusal;
+use crate::refusal::CommandRefusal;
 use git_places::Variable;
 use gitbase_core::{Bytes, OutOfMemory, PathText};
 use std::alloc::Global;
@@ -23,19 +23,19 @@ pub struct Here<'a> {
 }
 
 /// That nothing is at the directory that is named.
-fn absent_directory_refusal(alloc: Global, name: &[u8]) -> Result<HereRefusal, OutOfMemory>
-    ensures { IfOk result (λ e. e ≡ HereRefusal.Absent name.now) }
+fn absent_directory_refusal(alloc: Global, name: &[u8]) -> Result<CommandRefusal, OutOfMemory>
+    ensures { IfOk result (λ e. e ≡ CommandRefusal.Absent name.now) }
 {
-    Ok(HereRefusal::Absent {
+    Ok(CommandRefusal::Absent {
         directory: Bytes::from_slice(alloc, name)?,
     })
 }
 
 /// That what is named is no directory.
-fn refusal_not_a_directory(alloc: Global, name: &[u8]) -> Result<HereRefusal, OutOfMemory>
-    ensures { IfOk result (λ e. e ≡ HereRefusal.NotADirectory name.now) }
+fn refusal_not_a_directory(alloc: Global, name: &[u8]) -> Result<CommandRefusal, OutOfMemory>
+    ensures { IfOk result (λ e. e ≡ CommandRefusal.NotADirectory name.now) }
 {
-    Ok(HereRefusal::NotADirectory {
+    Ok(CommandRefusal::NotADirectory {
         directory: Bytes::from_slice(alloc, name)?,
     })
 }
@@ -46,7 +46,7 @@ fn require_directory_at_real_path<W: Worktree>(
     worktree: &mut W,
     name: &[u8],
     real: PathText,
-) -> Result<PathText, HereRefusal>
+) -> Result<PathText, CommandRefusal>
     ensures finds { FindsHereResultOverToldTree W.Worktree worktree.old worktree.new
         (λ t. words.require_directory_kind name.now real (kind_of_lookup (look t real true)))
         result }
@@ -73,7 +73,7 @@ pub fn resolve_named_directory<W: Worktree>(
     worktree: &mut W,
     current: &[u8],
     name: &[u8],
-) -> Result<PathText, HereRefusal>
+) -> Result<PathText, CommandRefusal>
     ensures finds { FindsHereResultOverToldTree W.Worktree worktree.old worktree.new
         (λ t. words.resolve_named_directory t current.now name.now) result }
     ensures of { IfErr result MayComeBeforeSetupIsFound }

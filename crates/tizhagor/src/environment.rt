@@ -32,7 +32,7 @@ pub struct Handed {
 
 /// Why the program cannot begin.
 #[derive(Clone, Copy, Debug, PartialEq, Eq)]
-pub enum NotGiven {
+pub enum StartupRefusal {
     /// A word or a variable is longer than the system hands on.
     TooLong,
     /// There is no current directory, and the words need one.
@@ -45,14 +45,14 @@ pub enum NotGiven {
     OutOfMemory,
 }
 
-impl From<OutOfMemory> for NotGiven {
+impl From<OutOfMemory> for StartupRefusal {
     ghost use Rattle.std.specs.Prelude.{◌≡◌};
-    ghost use Rattle.tizhagor.specs.declared.environment.NotGiven.TheVariants as errors;
+    ghost use Rattle.tizhagor.specs.declared.environment.StartupRefusal.TheVariants as errors;
 
     ghost from_gives = { λ _ e. e ≡ errors.OutOfMemory };
 
-    fn from(_refused: OutOfMemory) -> NotGiven {
-        NotGiven::OutOfMemory
+    fn from(_refused: OutOfMemory) -> StartupRefusal {
+        StartupRefusal::OutOfMemory
     }
 }
 
@@ -61,13 +61,13 @@ fn read_command_words<R: Env>(
     rt: &R,
     alloc: Global,
     buffer: &mut [u8],
-) -> Result<Vec<Bytes>, NotGiven> {
+) -> Result<Vec<Bytes>, StartupRefusal> {
     let mut words = Vec::new(alloc);
     for i in 1..usize::MAX {
         match rt.arg(i, buffer) {
             Ok(length) => add(alloc, &mut words, &buffer[..length])?,
             Err(FillError::NotPresent) => break,
-            Err(FillError::TooLong) => return Err(NotGiven::TooLong),
+            Err(FillError::TooLong) => return Err(StartupRefusal::TooLong),
         }
     }
     Ok(words)
@@ -117,24 +117,24 @@ fn variables_of_entries(alloc: Global, entries: &[Bytes]) -> Result<Vec<Variable
 }
 
 /// The entries of the environment.
-fn entries<R: Env>(rt: &R, alloc: Global, buffer: &mut [u8]) -> Result<Vec<Bytes>, NotGiven> {
+fn entries<R: Env>(rt: &R, alloc: Global, buffer: &mut [u8]) -> Result<Vec<Bytes>, StartupRefusal> {
     let mut entries = Vec::new(alloc);
     for i in 0..usize::MAX {
         match rt.var_at(i, buffer) {
             Ok(length) => add(alloc, &mut entries, &buffer[..length])?,
             Err(FillError::NotPresent) => break,
-            Err(FillError::TooLong) => return Err(NotGiven::TooLong),
+            Err(FillError::TooLong) => return Err(StartupRefusal::TooLong),
         }
     }
     Ok(entries)
 }
 
 /// The current directory.
-fn read_current_directory<R: Env>(rt: &R, alloc: Global) -> Result<Bytes, NotGiven> {
+fn read_current_directory<R: Env>(rt: &R, alloc: Global) -> Result<Bytes, StartupRefusal> {
     let mut buffer = [0u8; PATH_LIMIT];
     match rt.current_dir(&mut buffer) {
         Ok(length) => Ok(Bytes::from_slice(alloc, &buffer[..length])?),
-        Err(_) => Err(NotGiven::Directory),
+        Err(_) => Err(StartupRefusal::Directory),
     }
 }
 
@@ -173,13 +173,17 @@ fn need_no_current_directory(alloc: Global, words: &[Bytes]) -> bool {
 
 /// The current directory, and the same with a slash at its end. Where there is none and the words
 /// need none, the root stands in its place, and nothing is beside it.
-fn directory<R: Env>(rt: &R, alloc: Global, words: &[Bytes]) -> Result<(Bytes, String), NotGiven> {
+fn directory<R: Env>(
+    rt: &R,
+    alloc: Global,
+    words: &[Bytes],
+) -> Result<(Bytes, String), StartupRefusal> {
     match read_current_directory(rt, alloc) {
         Ok(current) => {
             let beside = utf8_path_with_slash_or_empty(alloc, current.as_bytes())?;
             Ok((current, beside))
         }
-        Err(NotGiven::Directory) if need_no_current_directory(alloc, words) => {
+        Err(StartupRefusal::Directory) if need_no_current_directory(alloc, words) => {
             Ok((Bytes::from_slice(alloc, b"/")?, String::new(alloc)))
         }
         Err(refused) => Err(refused),
@@ -193,7 +197,7 @@ fn directory<R: Env>(rt: &R, alloc: Global, words: &[Bytes]) -> Result<(Bytes, S
 /// - `TooLong`: a word or a variable is longer than the system hands on.
 /// - `Directory`: there is no current directory, or its path is longer, and the words need one.
 /// - `OutOfMemory` for want of memory.
-pub fn given<R: Env>(rt: &R, alloc: Global) -> Result<Handed, NotGiven> {
+pub fn given<R: Env>(rt: &R, alloc: Global) -> Result<Handed, StartupRefusal> {
     let mut buffer = room(alloc)?;
     let words = read_command_words(rt, alloc, &mut buffer)?;
     let entries = entries(rt, alloc, &mut buffer)?;

@@ -5,7 +5,7 @@ ghost use Rattle.tizhagor.specs.ExcludeFiles as words;
 ghost use Rattle.tizhagor.specs.Finds.{FindsHereResultOverToldTree};
 ghost use Rattle.tizhagor.specs.Refusals.{MayComeBeforeSetupIsFound};
 
-use crate::refusal::HereRefusal;
+use crate::refusal::CommandRefusal;
 use command_line::FilesAsked;
 use git_setup::{Found, exempt_top_from_star_rules};
 use gitbase_core::{Bytes, OutOfMemory, without_byte_order_mark};
@@ -13,10 +13,10 @@ use std::alloc::Global;
 use worktree_fs::{ReadAnswer, Worktree, resolve_path_from_directory};
 
 /// That a file of rules is not read.
-fn refusal_unread_exclude_file(alloc: Global, name: &[u8]) -> Result<HereRefusal, OutOfMemory>
-    ensures { IfOk result (λ e. e ≡ HereRefusal.ExcludeFile name.now) }
+fn refusal_unread_exclude_file(alloc: Global, name: &[u8]) -> Result<CommandRefusal, OutOfMemory>
+    ensures { IfOk result (λ e. e ≡ CommandRefusal.ExcludeFile name.now) }
 {
-    Ok(HereRefusal::ExcludeFile {
+    Ok(CommandRefusal::ExcludeFile {
         name: Bytes::from_slice(alloc, name)?,
     })
 }
@@ -33,7 +33,7 @@ fn empty_rules_or_special_file_refusal(
     alloc: Global,
     name: &[u8],
     path: &[u8],
-) -> Result<Bytes, HereRefusal>
+) -> Result<Bytes, CommandRefusal>
     ensures gives { words.IsResultOrOutOfMemory result (words.empty_rules_or_special_file_refusal
         name.now path.now) }
     ensures of { IfErr result MayComeBeforeSetupIsFound }
@@ -57,7 +57,7 @@ fn read_rules_at_path<W: Worktree>(
     worktree: &mut W,
     name: &[u8],
     path: &[u8],
-) -> Result<Bytes, HereRefusal>
+) -> Result<Bytes, CommandRefusal>
     ensures finds { FindsHereResultOverToldTree W.Worktree worktree.old worktree.new
         (λ t. words.rules_or_refusal_by_lookup name.now path.now (look t path.now true)) result }
     ensures of { IfErr result MayComeBeforeSetupIsFound }
@@ -76,7 +76,7 @@ fn read_rules_of_named_file<W: Worktree>(
     worktree: &mut W,
     root: &[u8],
     name: &[u8],
-) -> Result<Bytes, HereRefusal>
+) -> Result<Bytes, CommandRefusal>
     ensures finds { FindsHereResultOverToldTree W.Worktree worktree.old worktree.new
         (λ t. words.rules_of_named_file t root.now name.now) result }
     ensures of { IfErr result MayComeBeforeSetupIsFound }
@@ -106,7 +106,7 @@ fn read_rules_of_named_files<W: Worktree>(
     worktree: &mut W,
     root: &[u8],
     names: &[Bytes],
-) -> Result<Bytes, HereRefusal>
+) -> Result<Bytes, CommandRefusal>
     ensures finds { FindsHereResultOverToldTree W.Worktree worktree.old worktree.new
         (λ t. words.rules_of_files_after_text t root.now [] names.now) result }
     ensures of { IfErr result MayComeBeforeSetupIsFound }
@@ -198,7 +198,7 @@ pub fn read_exclude_files_into_found<W: Worktree>(
     worktree: &mut W,
     wants: &FilesAsked,
     found: Found,
-) -> Result<Found, HereRefusal>
+) -> Result<Found, CommandRefusal>
     ensures finds { FindsHereResultOverToldTree W.Worktree worktree.old worktree.new
         (λ t. words.read_exclude_files_into_found t wants.now found) result }
     ensures of { IfErr result MayComeBeforeSetupIsFound }

@@ -13,7 +13,7 @@ use crate::files::{
     setup_with_listing_options_and_rules,
 };
 use crate::patterns::rules_text_of_patterns;
-use crate::refusal::HereRefusal;
+use crate::refusal::CommandRefusal;
 use crate::reply::Reply;
 use command_line::FilesAsked;
 use git_setup::{Asked, Found};
@@ -29,12 +29,12 @@ use worktree_report::{Refusal, Setup};
 fn require_valid_ignored_index_listing(
     wants: &FilesAsked,
     found: Found,
-) -> Result<Found, HereRefusal>
+) -> Result<Found, CommandRefusal>
     ensures gives { result ≡ words.require_valid_ignored_index_listing wants.now found }
     ensures of { IfErr result MayComeBeforeSetupIsFound }
 {
     match refusal_if_no_rules_or_sparse(&ls_files_options_of_request(wants), &found.setup.index) {
-        Some(wrong) => Err(HereRefusal::Listing(wrong)),
+        Some(wrong) => Err(CommandRefusal::Listing(wrong)),
         None => Ok(found),
     }
 }
@@ -47,7 +47,7 @@ fn find_setup_checked_for_ignored_index<W: Worktree, O: Owners>(
     here: &Here<'_>,
     wants: &FilesAsked,
     asked: &Asked,
-) -> Result<Found, HereRefusal>
+) -> Result<Found, CommandRefusal>
     ensures finds { FindsHereResultOverTreeAndOwners W.Worktree O.Owners worktree.old worktree.new
         owners.old owners.new (λ t owned. words.found_checked_for_ignored_index t owned
         here.now.current.now here.now.variables.now here.now.directory.now wants.now asked.now)
@@ -59,20 +59,20 @@ fn find_setup_checked_for_ignored_index<W: Worktree, O: Owners>(
 }
 
 /// The refusal that stands for one of a listing of what is excluded.
-fn here_refusal_of_ignored_index_error(refused: ExcludedError) -> HereRefusal
+fn here_refusal_of_ignored_index_error(refused: ExcludedError) -> CommandRefusal
     ensures { result ≡ words.here_refusal_of_ignored_index_error refused }
 {
     match refused {
-        ExcludedError::Unread => HereRefusal::Listing(WrongListing::UnreadRules),
-        ExcludedError::Fault => HereRefusal::Program(Refusal::Fault),
-        ExcludedError::OutOfMemory => HereRefusal::Program(Refusal::OutOfMemory),
+        ExcludedError::Unread => CommandRefusal::Listing(WrongListing::UnreadRules),
+        ExcludedError::Fault => CommandRefusal::Program(Refusal::Fault),
+        ExcludedError::OutOfMemory => CommandRefusal::Program(Refusal::OutOfMemory),
     }
 }
 
 /// What is said of a listing.
 fn reply_of_ignored_index_listing(
     answer: Result<Listed, ExcludedError>,
-) -> Result<Reply, HereRefusal>
+) -> Result<Reply, CommandRefusal>
     ensures { result ≡ words.reply_of_ignored_index_listing answer }
 {
     match answer {
@@ -97,7 +97,7 @@ fn list_ignored_index_as_reply<W: Worktree>(
     listing: &Listing,
     prefix: &[u8],
     named: &[NamedSpec],
-) -> Result<Reply, HereRefusal>
+) -> Result<Reply, CommandRefusal>
     ensures looks { FindsReplyOverTree W.Worktree worktree.old worktree.new
         (λ t. words.reply_of_ignored_index_listing (output_of_ignored_index_or_error t root.now
         setup.now listing.now prefix.now named.now)) result }
@@ -113,7 +113,7 @@ fn list_ignored_index_of_found<W: Worktree>(
     worktree: &mut W,
     found: Found,
     wants: &FilesAsked,
-) -> Result<Reply, HereRefusal>
+) -> Result<Reply, CommandRefusal>
     ensures looks { FindsReplyOverTree W.Worktree worktree.old worktree.new
         (λ t. words.ignored_index_reply_of_found t wants.now found) result }
     ensures of { IfErr result MayComeBeforeSetupIsFound }
@@ -161,7 +161,7 @@ pub fn answer_ls_files_ignored_index<W: Worktree, O: Owners>(
     here: &Here<'_>,
     wants: &FilesAsked,
     asked: &Asked,
-) -> Result<Reply, HereRefusal>
+) -> Result<Reply, CommandRefusal>
     ensures { FindsReplyOverTreeAndOwners W.Worktree O.Owners worktree.old worktree.new owners.old
         owners.new (λ t owned. words.ignored_index_reply_around_directory t owned
         here.now.current.now here.now.variables.now here.now.directory.now wants.now asked.now)

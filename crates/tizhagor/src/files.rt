@@ -12,7 +12,7 @@ use crate::directory::Here;
 use crate::exclude_files::read_exclude_files_into_found;
 use crate::found::find_work_tree_around_asked_directory;
 use crate::patterns::{is_nonempty_list, rules_text_of_patterns};
-use crate::refusal::HereRefusal;
+use crate::refusal::CommandRefusal;
 use crate::reply::{Reply, reply_result_with_here_refusal};
 use command_line::{FilesAsked, RulesGiven};
 use git_setup::{Asked, AskedSpec, EachSpec, Found};
@@ -60,7 +60,7 @@ pub fn find_setup_and_read_exclude_files<W: Worktree, O: Owners>(
     here: &Here<'_>,
     wants: &FilesAsked,
     asked: &Asked,
-) -> Result<Found, HereRefusal>
+) -> Result<Found, CommandRefusal>
     ensures finds { FindsHereResultOverTreeAndOwners W.Worktree O.Owners worktree.old worktree.new
         owners.old owners.new (λ t owned. words.found_with_exclude_files_of_request t owned
         here.now.current.now here.now.variables.now here.now.directory.now wants.now asked.now)
@@ -102,7 +102,7 @@ fn require_valid_ls_files_request(
     wants: &FilesAsked,
     asked: &Asked,
     found: Found,
-) -> Result<Found, HereRefusal>
+) -> Result<Found, CommandRefusal>
     ensures gives { IsResultOrOutOfMemory result (words.require_valid_ls_files_request wants.now
         asked.now found) }
     ensures of { IfErr result MayComeBeforeSetupIsFound }
@@ -110,7 +110,7 @@ fn require_valid_ls_files_request(
         (words.ls_files_options_of_request wants.now) here.setup.index ≡ None) }
 {
     match reason_ls_files_request_is_wrong(wants, asked, &found) {
-        Some(wrong) => Err(HereRefusal::Listing(wrong)),
+        Some(wrong) => Err(CommandRefusal::Listing(wrong)),
         None => Ok(found),
     }
 }
@@ -123,7 +123,7 @@ fn find_setup_checked_for_ls_files<W: Worktree, O: Owners>(
     here: &Here<'_>,
     wants: &FilesAsked,
     asked: &Asked,
-) -> Result<Found, HereRefusal>
+) -> Result<Found, CommandRefusal>
     ensures finds { FindsHereResultOverTreeAndOwners W.Worktree O.Owners worktree.old worktree.new
         owners.old owners.new (λ t owned. words.found_checked_for_ls_files t owned
         here.now.current.now here.now.variables.now here.now.directory.now wants.now asked.now)
@@ -243,7 +243,7 @@ pub fn answer_ls_files<W: CountsFaults, O: Owners, I: Interrupt>(
     here: &Here<'_>,
     wants: &FilesAsked,
     asked: &Asked,
-) -> Result<Reply, HereRefusal>
+) -> Result<Reply, CommandRefusal>
     ensures { answers.AnswersWorkTreeCommand W.Worktree I.Interrupt O.Owners worktree.old
         worktree.new interrupt.old interrupt.new owners.old owners.new
         (λ t owned. words.found_checked_for_ls_files t owned here.now.current.now

@@ -4,7 +4,7 @@ ghost use Rattle.tizhagor.specs.Ends.{EndsWithStatusAndStreams, SaysLinesOrNothi
 
 use crate::lines::here::{line_of_refusal_with_fault_path, status_of};
 use crate::lines::{MEMORY, OUTPUT};
-use crate::refusal::HereRefusal;
+use crate::refusal::CommandRefusal;
 use crate::reply::{Reply, status_of_yes_or_no};
 use gitbase_core::OutOfMemory;
 use std::alloc::Global;
@@ -63,7 +63,12 @@ fn write_reply_to_streams<S: Sink, E: Sink>(
 }
 
 /// Says why there is no text, and answers the status.
-fn say_refusal_line<E: Sink>(alloc: Global, first: &[u8], refusal: &HereRefusal, err: &mut E) -> u8
+fn say_refusal_line<E: Sink>(
+    alloc: Global,
+    first: &[u8],
+    refusal: &CommandRefusal,
+    err: &mut E,
+) -> u8
     ensures told { SaysRefusalOrMemoryLine E.Sink err.old err.new first.now refusal.now result }
     ensures later { E.refusals err.old ≤ E.refusals err.new }
 {
@@ -86,7 +91,7 @@ fn say_refusal_line<E: Sink>(alloc: Global, first: &[u8], refusal: &HereRefusal,
 /// want of memory is free.
 pub fn finish_with_answer<S: Sink, E: Sink>(
     alloc: Global,
-    answer: Result<Reply, HereRefusal>,
+    answer: Result<Reply, CommandRefusal>,
     first: &[u8],
     out: &mut S,
     err: &mut E,

@@ -8,7 +8,7 @@ ghost use Rattle.tizhagor.specs.Refusals.{git_result_with_here_refusal, MayComeB
 
 use crate::call::{Call, setup_options_for_call};
 use crate::directory::{Here, resolve_named_directory};
-use crate::refusal::HereRefusal;
+use crate::refusal::CommandRefusal;
 use git_places::{Surroundings, Variable, surroundings_of_variables};
 use git_setup::{Asked, Found, GitRefusal, find_and_read_setup};
 use gitbase_core::{Bytes, PathText};
@@ -35,7 +35,7 @@ pub fn resolve_directory_or_current<W: Worktree>(
     worktree: &mut W,
     current: &[u8],
     directory: &Option<Bytes>,
-) -> Result<PathText, HereRefusal>
+) -> Result<PathText, CommandRefusal>
     ensures finds { FindsHereResultOverToldTree W.Worktree worktree.old worktree.new
         (λ t. words.resolve_directory_or_current t current.now directory.now) result }
     ensures of { IfErr result MayComeBeforeSetupIsFound }
@@ -47,12 +47,14 @@ pub fn resolve_directory_or_current<W: Worktree>(
 }
 
 /// An answer of the search for a setup.
-fn found_result_with_here_refusal(answer: Result<Found, GitRefusal>) -> Result<Found, HereRefusal>
+fn found_result_with_here_refusal(
+    answer: Result<Found, GitRefusal>,
+) -> Result<Found, CommandRefusal>
     ensures { result ≡ git_result_with_here_refusal answer }
 {
     match answer {
         Ok(found) => Ok(found),
-        Err(refused) => Err(HereRefusal::from(refused)),
+        Err(refused) => Err(CommandRefusal::from(refused)),
     }
 }
 
@@ -63,7 +65,7 @@ fn find_setup_in_surroundings<W: Worktree, O: Owners>(
     owners: &mut O,
     around: &Surroundings,
     asked: &Asked,
-) -> Result<Found, HereRefusal>
+) -> Result<Found, CommandRefusal>
     ensures finds { FindsHereResultOverTreeAndOwners W.Worktree O.Owners worktree.old worktree.new
         owners.old owners.new (λ t owned. git_result_with_here_refusal (find_and_read_setup t owned
         around.now asked.now)) result }
@@ -81,7 +83,7 @@ fn find_work_tree_from_directory<W: Worktree, O: Owners>(
     variables: &[Variable],
     asked: &Asked,
     directory: &[u8],
-) -> Result<Found, HereRefusal>
+) -> Result<Found, CommandRefusal>
     ensures finds { FindsHereResultOverTreeAndOwners W.Worktree O.Owners worktree.old worktree.new
         owners.old owners.new (λ t owned. words.found_from_directory t owned variables.now asked.now
         directory.now) result }
@@ -98,7 +100,7 @@ fn require_named_directory_is_current<W: Worktree>(
     worktree: &mut W,
     current: &[u8],
     directory: &Option<Bytes>,
-) -> Result<PathText, HereRefusal>
+) -> Result<PathText, CommandRefusal>
     ensures finds { FindsHereResultOverToldTree W.Worktree worktree.old worktree.new
         (λ t. and_then (words.require_current_directory current.now)
         (words.resolve_directory_or_current t current.now directory.now)) result }
@@ -106,7 +108,7 @@ fn require_named_directory_is_current<W: Worktree>(
 {
     let place = resolve_directory_or_current(alloc, worktree, current, directory)?;
     if place.as_bytes() != current {
-        return Err(HereRefusal::Elsewhere);
+        return Err(CommandRefusal::Elsewhere);
     }
     Ok(place)
 }
@@ -124,7 +126,7 @@ pub fn find_work_tree_around_current<W: Worktree, O: Owners>(
     owners: &mut O,
     here: &Here<'_>,
     asked: &Asked,
-) -> Result<Found, HereRefusal>
+) -> Result<Found, CommandRefusal>
     ensures finds { FindsHereResultOverTreeAndOwners W.Worktree O.Owners worktree.old worktree.new
         owners.old owners.new (λ t owned. words.found_around_current_directory t owned
         here.now.current.now here.now.variables.now here.now.directory.now asked.now) result }
@@ -150,10 +152,10 @@ fn deletes_away_from_top(options: &SetupOptions, current: &[u8], found: &Found) 
 }
 
 /// That it is not the top.
-fn refusal_not_at_top(found: Found) -> HereRefusal
-    ensures { result ≡ HereRefusal.NotAtTop found.root }
+fn refusal_not_at_top(found: Found) -> CommandRefusal
+    ensures { result ≡ CommandRefusal.NotAtTop found.root }
 {
-    HereRefusal::NotAtTop {
+    CommandRefusal::NotAtTop {
         root: Bytes::from_vec(found.root.into_vec()),
     }
 }
@@ -167,7 +169,7 @@ fn find_setup_requiring_top_to_delete<W: Worktree, O: Owners>(
     variables: &[Variable],
     asked: &Asked,
     directory: &[u8],
-) -> Result<Found, HereRefusal>
+) -> Result<Found, CommandRefusal>
     ensures finds { FindsHereResultOverTreeAndOwners W.Worktree O.Owners worktree.old worktree.new
         owners.old owners.new (λ t owned. words.found_requiring_top_to_delete t owned current.now
         variables.now asked.now directory.now) result }
@@ -201,7 +203,7 @@ pub fn find_work_tree_around_asked_directory<W: Worktree, O: Owners>(
     owners: &mut O,
     here: &Here<'_>,
     asked: &Asked,
-) -> Result<Found, HereRefusal>
+) -> Result<Found, CommandRefusal>
     ensures finds { FindsHereResultOverTreeAndOwners W.Worktree O.Owners worktree.old worktree.new
         owners.old owners.new (λ t owned. words.found_around_asked_directory t owned
         here.now.current.now here.now.variables.now here.now.directory.now asked.now) result }

@@ -2,7 +2,7 @@
 ghost use Rattle.std.specs.Prelude.{◌≡◌};
 ghost use Rattle.tizhagor.specs.Input as words;
 
-use crate::environment::NotGiven;
+use crate::environment::StartupRefusal;
 use check_ignore::first_option_error;
 use command_line::{CheckAsked, Command, parse_request_words};
 use git_setup::Asked;
@@ -65,24 +65,24 @@ fn words_ask_for_standard_input(alloc: Global, words: &[Bytes]) -> bool {
 }
 
 /// Why the input is not read.
-fn input_error_of_io_error(error: &io::Error) -> NotGiven {
+fn input_error_of_io_error(error: &io::Error) -> StartupRefusal {
     if error.kind() == ErrorKind::OutOfMemory && error.raw_os_error().is_none() {
-        return NotGiven::OutOfMemory;
+        return StartupRefusal::OutOfMemory;
     }
-    NotGiven::Input
+    StartupRefusal::Input
 }
 
 /// All bytes of a reader.
 fn read_bytes_or_refuse_over_limit<R: Read + Drop>(
     alloc: Global,
     reader: R,
-) -> Result<Bytes, NotGiven> {
+) -> Result<Bytes, StartupRefusal> {
     let mut bytes = Vec::new(alloc);
     if let Err(error) = reader.take(LIMIT + 1).read_to_end(&mut bytes) {
         return Err(input_error_of_io_error(&error));
     }
     if bytes.len() as u64 > LIMIT {
-        return Err(NotGiven::LongInput);
+        return Err(StartupRefusal::LongInput);
     }
     Ok(Bytes::from_vec(bytes))
 }
@@ -101,7 +101,7 @@ pub fn read_input_if_words_ask(
     rt: &HostRuntime,
     alloc: Global,
     words: &[Bytes],
-) -> Result<Bytes, NotGiven> {
+) -> Result<Bytes, StartupRefusal> {
     if !words_ask_for_standard_input(alloc, words) {
         return Ok(Bytes::new(alloc));
     }

@@ -34,7 +34,7 @@ mod written;
 
 use answer::{Called, answer_words_to_streams};
 use diff_files::DiskStats;
-use environment::{Handed, NotGiven, given};
+use environment::{Handed, StartupRefusal, given};
 use input::read_input_if_words_ask;
 use progress::Progress;
 use std::alloc::Global;
@@ -44,18 +44,22 @@ use worktree_fs::{DiskOwners, DiskWorktree, StdSink};
 use worktree_report::write_line_ignoring_refusal;
 
 /// The line of a program that cannot begin.
-fn line_of_startup_refusal(refused: NotGiven) -> &'static [u8] {
+fn line_of_startup_refusal(refused: StartupRefusal) -> &'static [u8] {
     match refused {
-        NotGiven::TooLong => b"fatal: a word or a variable is too long\n",
-        NotGiven::Directory => b"fatal: Unable to read current working directory\n",
-        NotGiven::Input => b"fatal: the standard input could not be read\n",
-        NotGiven::LongInput => b"fatal: the standard input has more than 1 GiB\n",
-        NotGiven::OutOfMemory => lines::MEMORY,
+        StartupRefusal::TooLong => b"fatal: a word or a variable is too long\n",
+        StartupRefusal::Directory => b"fatal: Unable to read current working directory\n",
+        StartupRefusal::Input => b"fatal: the standard input could not be read\n",
+        StartupRefusal::LongInput => b"fatal: the standard input has more than 1 GiB\n",
+        StartupRefusal::OutOfMemory => lines::MEMORY,
     }
 }
 
 /// Answers the words over the real disk.
-fn run_over_real_disk(rt: &HostRuntime, alloc: Global, given: &Handed) -> Result<u8, NotGiven> {
+fn run_over_real_disk(
+    rt: &HostRuntime,
+    alloc: Global,
+    given: &Handed,
+) -> Result<u8, StartupRefusal> {
     let input = read_input_if_words_ask(rt, alloc, &given.words)?;
     let mut worktree = DiskWorktree::new_with_current_dir(rt, false, given.beside.as_str());
     let mut owners = DiskOwners::new(rt);
@@ -85,7 +89,7 @@ fn run_over_real_disk(rt: &HostRuntime, alloc: Global, given: &Handed) -> Result
 }
 
 /// The status of the program, over what the system hands to it.
-fn status(rt: &HostRuntime, alloc: Global) -> Result<u8, NotGiven> {
+fn status(rt: &HostRuntime, alloc: Global) -> Result<u8, StartupRefusal> {
     let given = given(rt, alloc)?;
     run_over_real_disk(rt, alloc, &given)
 }

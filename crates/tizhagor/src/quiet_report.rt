@@ -7,7 +7,7 @@ ghost use Rattle.tizhagor.specs.QuietReport.{IsFormattedUnlessFaultsRose, Report
 
 use crate::directory::Here;
 use crate::found::find_work_tree_around_asked_directory;
-use crate::refusal::HereRefusal;
+use crate::refusal::CommandRefusal;
 use crate::reply::{Reply, plain_reply_or_program_refusal, reply_result_with_here_refusal};
 use crate::written::{Writing, text_formatted_for_output};
 use git_setup::{Asked, Found};
@@ -66,7 +66,7 @@ pub fn answer_report_unless_worktree_failed<W: CountsFaults, O: Owners, I: Inter
     here: &Here<'_>,
     asked: &Asked,
     writing: Writing,
-) -> Result<Reply, HereRefusal>
+) -> Result<Reply, CommandRefusal>
     ensures { answers.AnswersWorkTreeCommand W.Worktree I.Interrupt O.Owners worktree.old
         worktree.new interrupt.old interrupt.new owners.old owners.new
         (λ t owned. found_around_asked_directory t owned here.now.current.now here.now.variables.now

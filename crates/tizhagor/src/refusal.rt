@@ -30,7 +30,7 @@ pub enum Unchecked {
 
 /// Why there is no text of a work tree.
 #[derive(Debug, Drop)]
-pub enum HereRefusal {
+pub enum CommandRefusal {
     /// The words ask for nothing.
     Words(Misuse),
     /// Nothing is at the directory that `-C` names.
@@ -58,71 +58,73 @@ pub enum HereRefusal {
     Program(Refusal),
 }
 
-impl From<OutOfMemory> for HereRefusal {
+impl From<OutOfMemory> for CommandRefusal {
     ghost use Rattle.std.specs.Prelude.{◌≡◌};
     ghost use Rattle.tizhagor.specs.Refusals.{memory};
 
     ghost from_gives = { λ _ e. e ≡ memory };
 
-    fn from(_refused: OutOfMemory) -> HereRefusal {
-        HereRefusal::Program(Refusal::OutOfMemory)
+    fn from(_refused: OutOfMemory) -> CommandRefusal {
+        CommandRefusal::Program(Refusal::OutOfMemory)
     }
 }
 
-impl From<ReadError> for HereRefusal {
+impl From<ReadError> for CommandRefusal {
     ghost use Rattle.std.specs.Prelude.{◌≡◌};
     ghost use Rattle.tizhagor.specs.Refusals.{here_refusal_of_read_error};
 
     ghost from_gives = { λ refused e. e ≡ here_refusal_of_read_error refused };
 
-    fn from(refused: ReadError) -> HereRefusal {
+    fn from(refused: ReadError) -> CommandRefusal {
         match refused {
-            ReadError::Fault => HereRefusal::Program(Refusal::Fault),
-            ReadError::OutOfMemory => HereRefusal::Program(Refusal::OutOfMemory),
+            ReadError::Fault => CommandRefusal::Program(Refusal::Fault),
+            ReadError::OutOfMemory => CommandRefusal::Program(Refusal::OutOfMemory),
         }
     }
 }
 
-impl From<GitRefusal> for HereRefusal {
+impl From<GitRefusal> for CommandRefusal {
     ghost use Rattle.std.specs.Prelude.{◌≡◌};
     ghost use Rattle.tizhagor.specs.Refusals.{here_refusal_of_git_refusal};
 
     ghost from_gives = { λ refused e. e ≡ here_refusal_of_git_refusal refused };
 
-    fn from(refused: GitRefusal) -> HereRefusal {
+    fn from(refused: GitRefusal) -> CommandRefusal {
         match refused {
-            GitRefusal::Fault => HereRefusal::Program(Refusal::Fault),
-            GitRefusal::OutOfMemory => HereRefusal::Program(Refusal::OutOfMemory),
-            refused => HereRefusal::Git(refused),
+            GitRefusal::Fault => CommandRefusal::Program(Refusal::Fault),
+            GitRefusal::OutOfMemory => CommandRefusal::Program(Refusal::OutOfMemory),
+            refused => CommandRefusal::Git(refused),
         }
     }
 }
 
-impl From<Misuse> for HereRefusal {
+impl From<Misuse> for CommandRefusal {
     ghost use Rattle.std.specs.Prelude.{◌≡◌};
     ghost use Rattle.tizhagor.specs.Refusals.{here_refusal_of_misuse};
 
     ghost from_gives = { λ refused e. e ≡ here_refusal_of_misuse refused };
 
-    fn from(refused: Misuse) -> HereRefusal {
+    fn from(refused: Misuse) -> CommandRefusal {
         match refused {
-            Misuse::OutOfMemory => HereRefusal::Program(Refusal::OutOfMemory),
-            refused => HereRefusal::Words(refused),
+            Misuse::OutOfMemory => CommandRefusal::Program(Refusal::OutOfMemory),
+            refused => CommandRefusal::Words(refused),
         }
     }
 }
 
-impl From<DiffError> for HereRefusal {
+impl From<DiffError> for CommandRefusal {
     ghost use Rattle.std.specs.Prelude.{◌≡◌};
     ghost use Rattle.tizhagor.specs.Refusals.{here_refusal_of_diff_error};
 
     ghost from_gives = { λ refused e. e ≡ here_refusal_of_diff_error refused };
 
-    fn from(refused: DiffError) -> HereRefusal {
+    fn from(refused: DiffError) -> CommandRefusal {
         match refused {
-            DiffError::Unsupported(refused) => HereRefusal::Uncompared(Uncompared::Form(refused)),
-            DiffError::Fault => HereRefusal::Program(Refusal::Fault),
-            DiffError::OutOfMemory => HereRefusal::Program(Refusal::OutOfMemory),
+            DiffError::Unsupported(refused) => CommandRefusal::Uncompared(Uncompared::Form(
+                refused,
+            )),
+            DiffError::Fault => CommandRefusal::Program(Refusal::Fault),
+            DiffError::OutOfMemory => CommandRefusal::Program(Refusal::OutOfMemory),
         }
     }
 }

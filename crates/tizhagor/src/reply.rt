@@ -2,7 +2,7 @@
 ghost use Rattle.std.specs.Prelude.{◌≡◌};
 ghost use Rattle.tizhagor.specs.Replies as words;
 
-use crate::refusal::HereRefusal;
+use crate::refusal::CommandRefusal;
 use gitbase_core::Bytes;
 use std::alloc::Global;
 use worktree_report::Refusal;
@@ -21,8 +21,8 @@ pub struct Reply {
 /// A text, or why there is none, as what a command says.
 pub fn plain_reply_or_here_refusal(
     alloc: Global,
-    answer: Result<Bytes, HereRefusal>,
-) -> Result<Reply, HereRefusal>
+    answer: Result<Bytes, CommandRefusal>,
+) -> Result<Reply, CommandRefusal>
     ensures { result ≡ words.plain_reply_or_here_refusal answer }
 {
     match answer {
@@ -53,12 +53,14 @@ pub fn plain_reply_or_program_refusal(
 }
 
 /// What one of git's own words says, or why it says nothing.
-pub fn reply_result_with_here_refusal(answer: Result<Reply, Refusal>) -> Result<Reply, HereRefusal>
+pub fn reply_result_with_here_refusal(
+    answer: Result<Reply, Refusal>,
+) -> Result<Reply, CommandRefusal>
     ensures { result ≡ words.reply_result_with_here_refusal answer }
 {
     match answer {
         Ok(reply) => Ok(reply),
-        Err(refusal) => Err(HereRefusal::Program(refusal)),
+        Err(refusal) => Err(CommandRefusal::Program(refusal)),
     }
 }
 

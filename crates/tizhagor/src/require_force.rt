@@ -4,7 +4,7 @@ ghost use Rattle.tizhagor.specs.CleanLines.{message_of_wrong_clean};
 ghost use Rattle.tizhagor.specs.Cleanings as words;
 
 use command_line::{CleanAsked, Force};
-use git_clean::WrongCleaning;
+use git_clean::UnsupportedCleaning;
 use git_config_lite::File;
 use git_setup::Found;
 
@@ -31,7 +31,7 @@ pub enum WrongClean {
     /// The same, where the configuration has `clean.requireForce`.
     UnforcedAsSaid,
     /// Another reason.
-    Wrong(WrongCleaning),
+    Wrong(UnsupportedCleaning),
 }
 
 impl WrongClean {

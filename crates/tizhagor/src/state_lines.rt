@@ -6,7 +6,7 @@ ghost use Rattle.tizhagor.specs.Refusals.{MayComeBeforeSetupIsFound};
 ghost use Rattle.tizhagor.specs.StateLines as states;
 
 use crate::compare::comparison_of_request_and_settings;
-use crate::refusal::HereRefusal;
+use crate::refusal::CommandRefusal;
 use crate::reply::Reply;
 use crate::written::{Writing, text_formatted_for_output};
 use command_line::{Comparing, Ignoring, default_diff_files_request};
@@ -131,7 +131,7 @@ fn make_state_lines_by_stat<W: Worktree, D: Stats>(
 fn reply_of_state_lines(
     alloc: Global,
     answer: Result<Bytes, DiffError>,
-) -> Result<Reply, HereRefusal>
+) -> Result<Reply, CommandRefusal>
     ensures { result ≡ comparing.reply_of_state_lines answer }
 {
     match answer {
@@ -140,7 +140,7 @@ fn reply_of_state_lines(
             err: Bytes::new(alloc),
             is_no: false,
         }),
-        Err(refused) => Err(HereRefusal::from(refused)),
+        Err(refused) => Err(CommandRefusal::from(refused)),
     }
 }
 
@@ -153,7 +153,7 @@ pub fn state_reply_by_stat<W: Worktree, D: Stats>(
     compared: &Compared,
     writing: Writing,
     index_time: u32,
-) -> Result<Reply, HereRefusal>
+) -> Result<Reply, CommandRefusal>
     ensures finds { FindsOverTreeAndStats W.Worktree D.Stats worktree.old worktree.new stats.old
         stats.new (λ t told. comparing.state_reply_by_stat t told writing compared.now index_time)
         result }

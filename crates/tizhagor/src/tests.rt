@@ -4,7 +4,7 @@ mod rows;
 
 use crate::answer::{Called, answer_words_to_streams};
 use crate::finish::finish_with_answer;
-use crate::refusal::HereRefusal;
+use crate::refusal::CommandRefusal;
 use bstr::ByteSlice;
 use diff_files::{MemoryStats, NodeStat, StatNode};
 use git_places::Variable;
@@ -367,7 +367,7 @@ fn stops_with_the_interrupt(rt: HostRuntime) {
 fn refusal_prints_line(alloc: Global, refusal: Refusal, first: &[u8], line: &[u8]) -> Option<bool> {
     let mut out = MemorySink::new(alloc, ROOM).ok()?;
     let mut err = MemorySink::new(alloc, ROOM).ok()?;
-    let answer = Err(HereRefusal::Program(refusal));
+    let answer = Err(CommandRefusal::Program(refusal));
     let status = finish_with_answer(alloc, answer, first, &mut out, &mut err);
     Some(status == 128 && out.written_bytes().is_empty() && err.written_bytes() == line)
 }

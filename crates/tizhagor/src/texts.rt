@@ -10,7 +10,7 @@ ghost use Rattle.tizhagor.specs.Texts.{MakesTextOfCall};
 use crate::call::Call;
 use crate::directory::Here;
 use crate::found::find_work_tree_around_asked_directory;
-use crate::refusal::HereRefusal;
+use crate::refusal::CommandRefusal;
 use clean_plan::{Finding, Wanted, What, plan_clean_as_text, prepare};
 use git_setup::{Asked, Found};
 use gitbase_core::Bytes;
@@ -64,12 +64,12 @@ fn make_call_text<W: CountsFaults, I: Interrupt>(
 }
 
 /// An answer by a setup that was found.
-fn text_result_with_here_refusal(answer: Result<Bytes, Refusal>) -> Result<Bytes, HereRefusal>
+fn text_result_with_here_refusal(answer: Result<Bytes, Refusal>) -> Result<Bytes, CommandRefusal>
     ensures { result ≡ program_result_with_here_refusal answer }
 {
     match answer {
         Ok(text) => Ok(text),
-        Err(refusal) => Err(HereRefusal::Program(refusal)),
+        Err(refusal) => Err(CommandRefusal::Program(refusal)),
     }
 }
 
@@ -83,7 +83,7 @@ pub fn find_setup_and_make_call_text<W: CountsFaults, O: Owners, I: Interrupt>(
     here: &Here<'_>,
     call: Call,
     asked: &Asked,
-) -> Result<Bytes, HereRefusal>
+) -> Result<Bytes, CommandRefusal>
     ensures { answers.AnswersCallText W.Worktree I.Interrupt O.Owners worktree.old worktree.new
         interrupt.old interrupt.new owners.old owners.new
         (λ t owned. found_around_asked_directory t owned here.now.current.now here.now.variables.now

@@ -3,7 +3,7 @@ ghost use Rattle.std.specs.Prelude.{◌≡◌, IfOk};
 ghost use Rattle.tizhagor.specs.Writing as words;
 ghost use Rattle.tizhagor.specs.Written.{IsFormattedOrOutOfMemory};
 
-use crate::refusal::HereRefusal;
+use crate::refusal::CommandRefusal;
 use command_line::{LineEnd, Style, plan_text_with_line_ends, restyle_report_text};
 use gitbase_core::{Bytes, OutOfMemory};
 use std::alloc::Global;
@@ -38,8 +38,8 @@ pub fn text_formatted_for_output(
 pub fn format_text_of_answer(
     alloc: Global,
     writing: Writing,
-    answer: Result<Bytes, HereRefusal>,
-) -> Result<Bytes, HereRefusal>
+    answer: Result<Bytes, CommandRefusal>,
+) -> Result<Bytes, CommandRefusal>
     ensures { IsFormattedOrOutOfMemory writing answer result }
 {
     let text = answer?;

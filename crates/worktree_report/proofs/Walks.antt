@@ -1,5 +1,6 @@
 -- What a walk answers, with what a setup asks for.
-use Rattle.std.proofs.Common.{◌≡◌, ◌≤◌, ◌-◌, ◌^◌, min, ℕ, List, [], length, Bool, true, Option, Result, IfOk, IfErr, refl, sym, ap, ◌∙◌, subst, Err, inl, inr, arith}
+use Rattle.std.proofs.Common.{◌≡◌, ◌≤◌, ℕ, List, [], Bool, true, Option, Result, IfOk, IfErr, refl, sym, ap, ◌∙◌, subst, Err, inl, inr, arith}
+use Rattle.std.proofs.lemmas.Result.{IfOk-weaker}
 use Rattle.gitbase_core.specs.declared.find.Find.{Ghosts as FindOf}
 use Rattle.worktree_fs.specs.declared.interrupt.Interrupt.{Ghosts as InterruptOf}
 use Rattle.worktree_fs.specs.declared.worktree.Worktree.{Ghosts as WorktreeOf}
@@ -16,10 +17,8 @@ use Rattle.dir_walk.specs.declared.outcome.Outcome.{Outcome}
 use Rattle.dir_walk.specs.declared.report.Report.{Report}
 use Rattle.dir_walk.specs.declared.strategy.Strategy.{Strategy}
 use Rattle.dir_walk.specs.declared.strategy.Strategy.TheVariants.{AtOnce, Held}
-use Rattle.dir_walk.specs.Distinct.{IsStrictlyAscendingByPath}
 use Rattle.dir_walk.specs.Opens.{CountsListingsByStrategy}
-use Rattle.dir_walk.specs.Puts.{count_hidden_emissions}
-use Rattle.dir_walk.specs.Reports.{IsReportFromNormalizedRoot, IsSafeReport}
+use Rattle.dir_walk.specs.Reports.{IsReportOverAnyWorktree, IsSafeReport}
 use Rattle.dir_walk.specs.Root.{rooted, find_traversal_root, walk_over_sources}
 use Rattle.dir_walk.specs.Unopened.{count_unlisted_in_answer}
 use Rattle.dir_walk.specs.WalkRefused.{default_without_refusals, IsUnenteredNonDirectoryRoot, HoldsIfRootIsFileError, DelegateDefaultAndRefusalCounts, IsWholeWalkErrorByInput, IsWholeWalkErrorByTree, IsWholeWalkErrorBySources}
@@ -55,19 +54,17 @@ tells_of {w = w} {f = f} {w0 = w0} {o0 = o0} made step s told = record { tells =
 pub Reports-walked : {W F I : Type 0} {w : WorktreeOf W} {f : FindOf F} {i : InterruptOf I} {w0 w1 : W} {o0 o1 : F} {i0 i1 : I} {old new : Option StackModel} {root : List ℕ} {setup : Setup} {result : Result Report Error}
     → setup_of_optional_stack old ≡ stack_setup_if_excludes_option root setup → ((s : TreeAndObjects) → IsStackInStepIfGiven s old)
     → ((s : TreeAndObjects) → Tells w f w0 o0 old s → CountNotIncreased (w.faults w0) (w.faults w1) → IfOk result (IsSafeReport (walk_setting_of_setup (w.precomposes w0) root setup) (setup_of_optional_stack old) s setup.root setup.depth))
-    → IfOk result (λ r. IsStrictlyAscendingByPath r.entries) → IfOk result (λ r. r.outcome.returned_entries ≡ min (length r.entries) (2 ^ 64 - 1))
-    → IfOk result (λ r. min r.outcome.returned_entries (2 ^ 32 - 1) ≤ r.outcome.seen_entries)
-    → IfOk result (λ r. count_hidden_emissions (walk_options_of_setup (w.precomposes w0) setup) r.entries ≡ 0) → IfOk result (IsReportFromNormalizedRoot (walk_setting_of_setup (w.precomposes w0) root setup) setup.root)
+    → IfOk result (IsReportOverAnyWorktree (walk_setting_of_setup (w.precomposes w0) root setup) setup.root)
     → WalksWorktreeWithCauses w f i w0 w1 o0 o1 i0 i1 old new setup.options.strategy (walk_setting_of_setup (w.precomposes w0) root setup) setup.root setup.depth default_without_refusals (λ (r : Report). r.outcome) (λ (r : Report). r.root) result
     → WalksBySetup w f i w0 w1 o0 o1 i0 i1 root setup result
-Reports-walked {w = w} {f = f} {w0 = w0} {o0 = o0} {o1 = o1} {root = root} {setup = setup} {result = result} made step gives ordered counted seen filtered once walks =
+Reports-walked {w = w} {f = f} {w0 = w0} {o0 = o0} {o1 = o1} {root = root} {setup = setup} {result = result} made step gives any walks =
     record {
       gives = λ s told quiet. subst (λ m. IfOk result (IsSafeReport (walk_setting_of_setup (w.precomposes w0) root setup) m s setup.root setup.depth)) made (gives s (tells_of {w = w} {f = f} made step s told) quiet);
-      ordered = ordered;
-      counted = counted;
-      filtered = filtered;
-      seen = seen;
-      once = once;
+      ordered = IfOk-weaker result _ _ (λ r whole. whole.ordered) any;
+      counted = IfOk-weaker result _ _ (λ r whole. whole.counted) any;
+      filtered = IfOk-weaker result _ _ (λ r whole. whole.filtered) any;
+      seen = IfOk-weaker result _ _ (λ r whole. whole.seen) any;
+      once = IfOk-weaker result _ _ (λ r whole. whole.once) any;
       named = walks.named;
       about = subst (λ m. IfErr result (IsWholeWalkErrorByInput (walk_setting_of_setup (w.precomposes w0) root setup) m setup.root setup.depth)) made walks.about;
       found = λ s told. subst (λ m. IfErr result (IsWholeWalkErrorByTree (walk_setting_of_setup (w.precomposes w0) root setup) m setup.root (f.holds o0) s)) made (walks.found s told);

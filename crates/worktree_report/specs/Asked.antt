@@ -94,6 +94,7 @@ sources_of_tree_and_setup t setup = record { tree = t; objects = setup.blobs }
 abbrev pub walk_report_of_setup : Bool → TreeAndObjects → List ℕ → Setup → Option WalkReport
 walk_report_of_setup composes s root setup = report (walk_setting_of_setup composes root setup) (stack_setup_if_excludes_option root setup) s setup.root setup.depth
 
+-- what the walk gave, with the submodules in it; none where the walk gave none or what tells of submodules is misread
 abbrev pub report_unless_misread : Result (Option Known) Misread → Option WalkReport → Option Report
 report_unless_misread (Ok known) walked = option_map (report_with_submodules known) walked
 report_unless_misread (Err why) walked = None

@@ -22,10 +22,12 @@ use Rattle.worktree_report.specs.declared.refusal.Refusal.{Refusal}
 use Rattle.worktree_report.specs.declared.refusal.Refusal.TheVariants as refusals
 use Rattle.worktree_report.specs.declared.refusal.WalkWord.TheVariants as words
 
+-- reading the setup failed: a fault of the worktree, or want of memory
 abbrev pub refusal_of_read_error : ReadError → Refusal
 refusal_of_read_error read.Fault = refusals.Fault
 refusal_of_read_error read.OutOfMemory = refusals.OutOfMemory
 
+-- a setup text is refused by the number of its first line outside the grammar, or for want of memory
 abbrev pub refusal_of_setup_error : SetupError → Refusal
 refusal_of_setup_error (setup.Line line) = refusals.Setup line
 refusal_of_setup_error setup.OutOfMemory = refusals.OutOfMemory

@@ -35,6 +35,7 @@ pub record ReportsMemoryForLine {E : Type 0} (e : SinkOf E) (e0 e1 : E) (usage :
   pub made : takes_memory_for_line refusal ≡ true
   pub wants : ReportsRefusalLine e e0 e1 usage refusals.OutOfMemory status
 
+-- a refusal is told with its own status and line, or as `out of memory` where its line could not be made
 abbrev pub ReportsRefusalOrMemory : {E : Type 0} → SinkOf E → E → E → List ℕ → Refusal → ℕ → Type 0
 ReportsRefusalOrMemory e e0 e1 usage refusal status = ReportsRefusalLine e e0 e1 usage refusal status ⊎ ReportsMemoryForLine e e0 e1 usage refusal status
 

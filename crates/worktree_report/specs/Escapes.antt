@@ -14,6 +14,7 @@ needs_escape b = nat_lt b 32 || (b == 127 || b == 92)
 abbrev pub hex_escape_of_byte : ℕ → List ℕ
 hex_escape_of_byte b = 92 ∷ hex_digit (b / 16) ∷ hex_digit (b % 16) ∷ []
 
+-- a control byte, DEL or a backslash is escaped; any other byte, a space too, stands as it is
 abbrev pub byte_escaped_if_needed : ℕ → List ℕ
 byte_escaped_if_needed b = if needs_escape b then hex_escape_of_byte b else b ∷ []
 
@@ -25,6 +26,7 @@ path_escaped bytes = flat_map byte_escaped_if_needed bytes
 abbrev pub byte_escaped_in_word : ℕ → List ℕ
 byte_escaped_in_word b = if needs_escape b || b == 32 then hex_escape_of_byte b else b ∷ []
 
+-- a path as one word of a line: a space in it is escaped too, so that none ends the word
 abbrev pub path_escaped_in_word : List ℕ → List ℕ
 path_escaped_in_word bytes = flat_map byte_escaped_in_word bytes
 

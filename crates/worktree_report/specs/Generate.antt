@@ -29,6 +29,7 @@ relative_path_of_file i = codes "d" ++ decimal (i / 100) ++ codes "/f" ++ decima
 abbrev pub worktree_root : List ℕ
 worktree_root = codes "/w"
 
+-- `/w/d0/f7` for file 7: its path beneath the worktree root `/w`
 abbrev pub full_path_of_file : ℕ → List ℕ
 full_path_of_file i = codes "/w/" ++ relative_path_of_file i
 
@@ -56,6 +57,7 @@ tracked_paths_of_file_count (suc i) = insert_path_if_tracked (tracked_paths_of_f
 abbrev pub index_entry_of_path : List ℕ → IndexEntry
 index_entry_of_path path = record { path = path; stage = 0; mode = record { 0 = regular_file_mode }; flags = record { 0 = 0 }; id = replicate 20 0 }
 
+-- the index of so many files: one entry for each that is tracked, ascending by the bytes of its path
 abbrev pub index_of_file_count : ℕ → List IndexEntry
 index_of_file_count n = map index_entry_of_path (tracked_paths_of_file_count n)
 
@@ -66,6 +68,7 @@ index_of_file_count n = map index_entry_of_path (tracked_paths_of_file_count n)
 abbrev pub text_of_generated_setup : List ℕ
 text_of_generated_setup = codes "git_dir /g\nglobal f*7\noption emit_untracked collapse\noption emit_ignored collapse\n"
 
+-- a setup whose index tracks every tenth file of every other directory, in place of what it had
 abbrev replace_index_of_setup : ℕ → Setup → Setup
 replace_index_of_setup n setup = record setup { index = index_of_file_count n }
 

@@ -42,6 +42,7 @@ word_of_kind (Some Symlink) = codes "symlink"
 word_of_kind (Some Directory) = codes "directory"
 word_of_kind (Some Repository) = codes "repository"
 
+-- how a path spec matches the path; `excluded` is for a spec that takes it out, as `:!x` does
 abbrev pub word_of_pathspec_match : Option PathspecMatch → List ℕ
 word_of_pathspec_match None = codes "-"
 word_of_pathspec_match (Some Always) = codes "always"
@@ -50,6 +51,7 @@ word_of_pathspec_match (Some Prefix) = codes "prefix"
 word_of_pathspec_match (Some WildcardMatch) = codes "wildcard"
 word_of_pathspec_match (Some Verbatim) = codes "verbatim"
 
+-- what is special of an entry; `excluded` is a directory that a sparse checkout leaves out as a whole
 abbrev pub word_of_property : Option Property → List ℕ
 word_of_property None = codes "-"
 word_of_property (Some DotGit) = codes "dotgit"
@@ -68,6 +70,7 @@ word_of_activity Active = codes "active:"
 word_of_activity Inactive = codes "inactive:"
 word_of_activity (Invalid input) = codes "invalid:"
 
+-- `active:NAME`, `inactive:NAME` or `invalid:NAME` with the name escaped; a dash where the path is no submodule's
 abbrev pub word_of_submodule : Option Facts → List ℕ
 word_of_submodule None = codes "-"
 word_of_submodule (Some facts) = word_of_activity facts.active ++ path_escaped_in_word facts.name
@@ -114,6 +117,7 @@ line_of_report_entry options e =
     class_words_of_entry e.entry e.collapsed ++ submodule_word_if options.submodules e.facts ++ rule_origin_word_if options.origins e.entry.rela_path e.entry.origin
     ++ 9 ∷ [] ++ path_escaped e.entry.rela_path ++ 10 ∷ []
 
+-- one line for each entry, in the order of the report
 abbrev pub lines_of_report_entries : SetupOptions → List ReportEntry → List ℕ
 lines_of_report_entries options entries = flat_map (line_of_report_entry options) entries
 

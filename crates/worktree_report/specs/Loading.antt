@@ -4,7 +4,7 @@ use Rattle.gitbase_core.specs.Path.{path_joined_with_slash}
 use Rattle.git_config_lite.specs.declared.metadata.Metadata.{Metadata}
 use Rattle.git_config_lite.specs.Grammar.{parse_text_sections}
 use Rattle.git_config_lite.specs.Sections.{Section, Configuration, metadata_of_joined_files}
-use Rattle.git_config_lite.specs.Writers.{configuration_with_sections}
+use Rattle.git_config_lite.specs.Writers.{configuration_with_replaced_sections}
 use Rattle.glob_rules.specs.PathSpec.{PathSpec}
 use Rattle.submodule.specs.declared.is_active_platform.Error.{Error as ActiveError}
 use Rattle.submodule.specs.declared.is_active_platform.Error.TheVariants as active_errors
@@ -40,12 +40,13 @@ file_bytes_or_empty too_many_links = []
 abbrev pub metadata_of_config_file : ConfigFile → Metadata
 metadata_of_config_file named = record { source = named.0; path = Some named.1 }
 
+-- no sections yet; the files that are put together here have no one path
 abbrev pub empty_configuration : Configuration
 empty_configuration = record { meta = metadata_of_joined_files; sections = [] }
 
 -- the sections of a configuration behind those of others; its number is that of its line
 abbrev pub append_sections_or_misread : Configuration → ℕ → Result (List Section) ℕ → Result Configuration Misread
-append_sections_or_misread config at (Ok sections) = Ok (configuration_with_sections config (config.sections ++ sections))
+append_sections_or_misread config at (Ok sections) = Ok (configuration_with_replaced_sections config (config.sections ++ sections))
 append_sections_or_misread config at (Err line) = Err (misread.Config at line)
 
 -- a configuration behind others, where the permissions admit it; links to its file are followed
@@ -66,6 +67,7 @@ append_admitted_configs t permissions at (named ∷ more) config =
 abbrev pub gitmodules_path : List ℕ → List ℕ
 gitmodules_path root = path_joined_with_slash root (codes ".gitmodules")
 
+-- `.gitmodules` with the configuration beside it; a bad line is told as one of `.gitmodules`, by its number
 abbrev pub modules_or_misread : Configuration → Result Configuration ℕ → Result Modules Misread
 modules_or_misread config (Ok modules) = Ok (record { file = modules; config = config })
 modules_or_misread config (Err line) = Err (misread.Modules line)
@@ -91,17 +93,19 @@ misread_of_active_error (active_errors.ParsePattern value at) = Err (misread.Act
 misread_of_active_error (active_errors.NormalizePattern value) = Err (misread.ActiveSpec value)
 misread_of_active_error active_errors.OutOfMemory = Ok None
 
+-- what is known, with the path specs of `submodule.active`; a value that is no path spec is misread, by its number
 abbrev pub known_of_active_specs : Modules → Result (Option (List PathSpec)) ActiveError → Result (Option Known) Misread
 known_of_active_specs modules (Ok specs) = Ok (Some (record { modules = modules; platform = specs }))
 known_of_active_specs modules (Err e) = misread_of_active_error e
 
-abbrev pub known_with_active_platform : Bool → Modules → Result (Option Known) Misread
-known_with_active_platform folds modules = known_of_active_specs modules (active_specs_or_error_of_config folds modules.config.sections)
+-- `submodule.active` is read from the configurations, never from `.gitmodules`; its specs fold letters where `folds` says
+abbrev pub known_submodules_with_active_specs : Bool → Modules → Result (Option Known) Misread
+known_submodules_with_active_specs folds modules = known_of_active_specs modules (active_specs_or_error_of_config folds modules.config.sections)
 
 -- What is known of submodules, where that is asked for; or the first place that is outside its grammar.
 unfoldable pub known_submodules_in_tree : Names → List ℕ → Setup → Result (Option Known) Misread
 known_submodules_in_tree t root setup =
-    if setup.options.submodules then continue_unless_misread (known_with_active_platform setup.options.ignore_case) (modules_of_setup_in_tree t root setup)
+    if setup.options.submodules then continue_unless_misread (known_submodules_with_active_specs setup.options.ignore_case) (modules_of_setup_in_tree t root setup)
     else Ok None
 
 -- all that tells of submodules is in its grammar
@@ -118,5 +122,6 @@ count_admitted_configs permissions configs = count_by (λ (named : ConfigFile). 
 abbrev pub count_files_for_submodules : Setup → ℕ
 count_files_for_submodules setup = count_admitted_configs setup.options.permissions setup.configs + 1
 
+-- how many files are read at most to tell of submodules: none unless the option `submodules` is `yes`
 abbrev pub count_files_if_submodules_asked : Setup → ℕ
 count_files_if_submodules_asked setup = if setup.options.submodules then count_files_for_submodules setup else 0

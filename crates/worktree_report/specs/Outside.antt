@@ -14,7 +14,7 @@ use Rattle.worktree_report.specs.declared.refusal.Misread.{Misread}
 use Rattle.worktree_report.specs.declared.refusal.Misread.TheVariants as misread
 use Rattle.worktree_report.specs.declared.setup.Setup.{Setup}
 use Rattle.worktree_report.specs.ConfigFiles.{ConfigFile}
-use Rattle.worktree_report.specs.Loading.{count_admitted_configs, count_files_if_submodules_asked, count_files_for_submodules, metadata_of_config_file, gitmodules_path, empty_configuration, append_admitted_configs, known_with_active_platform}
+use Rattle.worktree_report.specs.Loading.{count_admitted_configs, count_files_if_submodules_asked, count_files_for_submodules, metadata_of_config_file, gitmodules_path, empty_configuration, append_admitted_configs, known_submodules_with_active_specs}
 use Rattle.worktree_report.specs.Loads.{ReadsFilesAtMost}
 use Rattle.worktree_report.specs.Permissions.{admits}
 
@@ -43,7 +43,7 @@ pub record IsGitmodulesLineMisread (root : List ℕ) (line : ℕ) : Type 0 where
 -- A value of `submodule.active` is refused, by its number in some configuration.
 pub record IsActiveSpecMisread (folds : Bool) (which : Misread) : Type 0 where
   pub modules : Modules
-  pub outside : known_with_active_platform folds modules ≡ Err which
+  pub outside : known_submodules_with_active_specs folds modules ≡ Err which
 
 -- what is outside its grammar is a configuration of the setup that is admitted, `.gitmodules`, or a value of `submodule.active`
 abbrev pub IsMisreadOfSetup : List ℕ → Setup → Misread → Type 0

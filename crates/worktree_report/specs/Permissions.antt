@@ -21,6 +21,7 @@ isolated_config = record { git_binary = false; system = false; git = false; user
 abbrev pub all_attributes : Attributes
 all_attributes = record { git_binary = false; system = true; git = true }
 
+-- none of the installation's, the system's or the user's files of attributes
 abbrev pub isolated_attributes : Attributes
 isolated_attributes = record { git_binary = false; system = false; git = false }
 
@@ -37,9 +38,11 @@ environment_with permission =
       ssh_prefix = permission;
     }
 
+-- every variable may be read, those of the user's directories, identity, transport and objects too
 abbrev pub all_environment : Environment
 all_environment = environment_with Allow
 
+-- no variable may be read, not even `HOME`
 abbrev pub isolated_environment : Environment
 isolated_environment = environment_with Deny
 
@@ -47,6 +50,7 @@ isolated_environment = environment_with Deny
 abbrev pub all_permissions : Permissions
 all_permissions = record { env = all_environment; config = all_config; attributes = all_attributes }
 
+-- no file of the user, the system or git's installation may be read, and no variable; nothing is included
 abbrev pub isolated_permissions : Permissions
 isolated_permissions = record { env = isolated_environment; config = isolated_config; attributes = isolated_attributes }
 

@@ -21,6 +21,7 @@ status_of refusals.Fault = 6
 status_of refusals.Output = 7
 status_of refusals.OutOfMemory = 8
 
+-- the word that stands behind `walk: ` on standard error and says why the walk was refused
 abbrev pub bytes_of_walk_word : WalkWord → List ℕ
 bytes_of_walk_word words.RootIsFile = codes "root-is-file"
 bytes_of_walk_word words.OutsideRoot = codes "outside-root"

@@ -18,6 +18,7 @@ parse_two_digits a b = do
   ones ← parse_decimal_digit b
   Some (10 * tens + ones)
 
+-- a number from 100 to 999
 abbrev pub parse_three_digits : ℕ → ℕ → ℕ → Option ℕ
 parse_three_digits a b c = do
   front ← parse_two_digits a b

@@ -6,6 +6,7 @@ pub record WordAndRest : Type 0 where
   pub word : List ℕ
   pub rest : List ℕ
 
+-- the bytes before an index and those behind it; the byte at the index, the space, is in neither
 abbrev pub word_and_rest_at_index : List ℕ → ℕ → WordAndRest
 word_and_rest_at_index bytes place = record { word = take place bytes; rest = drop (place + 1) bytes }
 

@@ -41,6 +41,7 @@ parse_config_source word =
     else if bytes_eq word (codes "api") then Some Api
     else None
 
+-- a configuration has to be named by an absolute path; a relative one is outside the grammar
 abbrev config_file_if_absolute : Source → List ℕ → Option ConfigFile
 config_file_if_absolute source path = if is_absolute path then Some (source, path) else None
 

@@ -11,6 +11,7 @@ use Rattle.gitbase_core.specs.Steps.{◌>>=◌}
 use Rattle.worktree_report.specs.Escapes.{unescape_path}
 use Rattle.worktree_report.specs.SetupFields.{split_at_first_space}
 
+-- bits as the mode of an entry, unchecked
 abbrev mode_from_bits : ℕ → Mode
 mode_from_bits bits = record { 0 = bits }
 
@@ -29,6 +30,7 @@ abbrev pub parse_stage_word : List ℕ → Option ℕ
 parse_stage_word (b ∷ []) = if nat_le 48 b && nat_le b 51 then Some (b - 48) else None
 parse_stage_word _ = None
 
+-- bits as the flags of an entry, unchecked
 abbrev flags_from_bits : ℕ → Flags
 flags_from_bits bits = record { 0 = bits }
 
@@ -42,6 +44,7 @@ parse_flags_of_several_letters word =
     else if bytes_eq word (codes "uas") then Some (flags_from_bits (bit_or uptodate_flag (bit_or assume_valid_flag skip_worktree_flag)))
     else None
 
+-- a dash or letters of `u`, `a` and `s`, each at most once and in this order; any other word is refused
 abbrev pub parse_flags_word : List ℕ → Option Flags
 parse_flags_word word =
     if bytes_eq word (codes "-") then Some (flags_from_bits 0)
@@ -62,6 +65,7 @@ pub record IndexWords : Type 0 where
   pub id : List ℕ
   pub path : List ℕ
 
+-- four spaces part the words; the path is all that is behind the fourth, further spaces too
 abbrev pub split_index_words : List ℕ → Option IndexWords
 split_index_words rest = do
   first ← split_at_first_space rest

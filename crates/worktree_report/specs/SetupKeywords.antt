@@ -40,9 +40,11 @@ parse_single_setting_line fields = if is_valid_setting_allowed_once fields then 
 abbrev pub parse_worktree_path_if_relative : List ℕ → Option SetupLine
 parse_worktree_path_if_relative path = if is_absolute path then None else Some (SetsApart path)
 
+-- none where the path is absolute, or a backslash in it is not followed by two hexadecimal digits
 abbrev pub parse_worktree_line : List ℕ → Option SetupLine
 parse_worktree_line rest = option_and_then parse_worktree_path_if_relative (unescape_path rest)
 
+-- a path spec as it stands, which has to parse both with letters folded and without
 abbrev pub parse_spec_line : List ℕ → Option SetupLine
 parse_spec_line text = if is_valid_spec text then Some (Specifies text) else None
 

@@ -101,6 +101,7 @@ reporting_options options =
       print_outcome = is_option_set_to (codes "print_outcome") (codes "yes") options;
     }
 
+-- all options as one record: each stands in one group alone
 abbrev pub merge_option_groups : Looking → Reporting → SetupOptions
 merge_option_groups l r =
     record {
@@ -126,6 +127,7 @@ merge_option_groups l r =
       strategy = l.strategy;
     }
 
+-- what the option lines set, and the default of each option that no line sets
 unfoldable pub setup_options_from_lines : List SetupOption → SetupOptions
 setup_options_from_lines options = merge_option_groups (classification_options options) (reporting_options options)
 
@@ -140,6 +142,7 @@ abbrev pub depth_limit_or_default : Option ℕ → ℕ
 depth_limit_or_default None = 256
 depth_limit_or_default (Some depth) = depth
 
+-- the number behind the keyword `depth`, or 256 where no line gives it
 unfoldable pub depth_limit_from_options : List SetupOption → ℕ
 depth_limit_from_options options = depth_limit_or_default (option_and_then parse_depth_limit (value_of_named_option (codes "depth") options))
 

@@ -67,6 +67,7 @@ is_valid_option_value name value =
     else if bytes_eq name (codes "for_deletion") then bytes_eq value (codes "no") || is_deletion_value value
     else is_valid_source_or_strategy name value
 
+-- an option with a value that it may have; another value or an unknown name is outside the grammar
 abbrev pub option_if_valid : WordAndRest → Option SetupOption
 option_if_valid fields = if is_valid_option_value fields.word fields.rest then Some (record { name = fields.word; value = fields.rest }) else None
 

@@ -17,6 +17,7 @@ pub record SetupDraft : Type 0 where
   pub worktrees : List (List ℕ)
   pub configs : List ConfigFile
 
+-- what no lines say, and what an empty line or a comment says
 abbrev pub empty_setup_draft : SetupDraft
 empty_setup_draft = record { options = []; index = []; blobs = []; overrides = []; globals = []; specs = []; worktrees = []; configs = [] }
 

@@ -67,6 +67,7 @@ abbrev pub parse_generate_words : List (List ℕ) → Option ℕ
 parse_generate_words (word ∷ number ∷ []) = if bytes_eq word (codes "generate") then parse_file_count number else None
 parse_generate_words _ = None
 
+-- `generate N` where the words are it, else the report; none where they are neither
 abbrev generate_or_report_command : Option ℕ → Option RootAndSetupPaths → Option Command
 generate_or_report_command (Some n) places = Some (generate n)
 generate_or_report_command None places = option_map report places

@@ -3,7 +3,7 @@ ghost use Rattle.std.specs.Prelude.{◌≡◌, ◌≤◌, ℕ, true, false, Some
 ghost use Rattle.submodule.specs.Active.{active_specs_or_error_of_config};
 ghost use Rattle.worktree_fs.specs.Causes.{CountIncreasedOrSaturated, saturating_sum};
 ghost use Rattle.worktree_fs.specs.Tree.{Names};
-ghost use Rattle.worktree_report.specs.Loading.{known_submodules_in_tree, known_with_active_platform, count_files_if_submodules_asked};
+ghost use Rattle.worktree_report.specs.Loading.{known_submodules_in_tree, known_submodules_with_active_specs, count_files_if_submodules_asked};
 ghost use Rattle.worktree_report.specs.Loads.{IsResultUnlessFault, ReadsFilesAtMost, IsErrorOfLoadingKnown};
 ghost use Rattle.worktree_report.specs.Outside.{IsMisreadOfActiveSpec, IsMisreadOfSetup, HoldsOfMisread, HoldsIfReadingError, StopsReadingAtError};
 
@@ -28,12 +28,13 @@ pub struct Known {
 /// `ActiveSpec` names the first value of `submodule.active` that is refused.
 ///
 /// See docs/DECISIONS.md#active-always-read.
-fn known_with_active_platform(
+fn known_submodules_with_active_specs(
     alloc: Global,
     modules: Modules,
     ignore_case: bool,
 ) -> Result<Option<Known>, ReportError>
-    ensures gives { IsResultUnlessFault result (known_with_active_platform ignore_case modules) }
+    ensures gives { IsResultUnlessFault result (known_submodules_with_active_specs ignore_case
+        modules) }
     ensures known { IfOk result (λ known. is_some known ≡ true) }
     ensures answers { IfErr result (IsErrorOfLoadingKnown ⊥) }
     ensures outside { IfErr result (HoldsOfMisread (IsMisreadOfActiveSpec ignore_case)) }
@@ -79,5 +80,5 @@ pub fn load_known_submodules<W: Worktree>(
         return Ok(None);
     }
     let modules = load_modules(alloc, worktree, root, setup)?;
-    known_with_active_platform(alloc, modules, setup.options.ignore_case)
+    known_submodules_with_active_specs(alloc, modules, setup.options.ignore_case)
 }

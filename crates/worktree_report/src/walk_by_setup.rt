@@ -1,13 +1,11 @@
 //! The report of a work tree, and its text.
-ghost use Rattle.std.specs.Prelude.{◌≡◌, ◌≤◌, ◌-◌, ◌^◌, min, length, true, IfOk, is_some};
+ghost use Rattle.std.specs.Prelude.{◌≡◌, true, IfOk, is_some};
 ghost use Rattle.worktree_fs.specs.Causes.{CountNotIncreased};
 ghost use Rattle.worktree_stack.specs.Reading.{TreeAndObjects};
 ghost use Rattle.dir_classify.specs.Chosen.{walk_options_of};
-ghost use Rattle.dir_classify.specs.Excludes.{setup_of_optional_stack, has_excludes_if_given};
+ghost use Rattle.dir_classify.specs.Excludes.{setup_of_optional_stack, is_absent_or_has_excludes};
 ghost use Rattle.dir_classify.specs.Layers.{IsLookupOfIndexIfGiven};
-ghost use Rattle.dir_walk.specs.Distinct.{IsStrictlyAscendingByPath};
-ghost use Rattle.dir_walk.specs.Puts.{count_hidden_emissions};
-ghost use Rattle.dir_walk.specs.Reports.{IsReportFromNormalizedRoot, IsSafeReport};
+ghost use Rattle.dir_walk.specs.Reports.{IsReportOverAnyWorktree, IsSafeReport};
 ghost use Rattle.dir_walk.specs.WalkRefused.{default_without_refusals};
 ghost use Rattle.dir_walk.specs.Walks.{Tells, WalksWorktreeWithCauses};
 ghost use Rattle.worktree_report.specs.Asked.{walk_options_of_setup, git_dir_or_default, current_dir_or_root, walk_setting_of_setup};
@@ -96,8 +94,17 @@ fn current_dir_of_setup_or_root<'a>(root: &'a [u8], setup: &'a Setup) -> &'a [u8
     }
 }
 
-/// Walks the work tree at `root` as the setup asks for it, with these ignore rules, this look-up of
-/// the index and this git directory.
+/// What a walk is handed ready.
+#[derive(Clone, Copy)]
+struct Prepared<'a> {
+    /// The look-up of the setup's index, where letters match without regard to case.
+    lookup: &'a Option<AccelerateLookup>,
+    /// The git directory of the work tree.
+    git_dir: &'a [u8],
+}
+
+/// Walks the work tree at `root` as the setup asks for it, with these ignore rules, and this look-up
+/// of the index and git directory.
 fn walk_with_rules_and_lookup<'a, W: Worktree, F: Find, I: Interrupt>(
     alloc: Global,
     worktree: &'a mut W,
@@ -106,25 +113,17 @@ fn walk_with_rules_and_lookup<'a, W: Worktree, F: Find, I: Interrupt>(
     root: &'a [u8],
     setup: &'a Setup,
     excludes: &'a mut Option<Stack>,
-    lookup: &'a Option<AccelerateLookup>,
-    git_dir: &'a [u8],
+    prepared: &'a Prepared<'a>,
 ) -> Result<walk::Report, Error>
-    requires excludes { has_excludes_if_given (setup_of_optional_stack excludes.old) ≡ true }
-    requires lookup { IsLookupOfIndexIfGiven setup.now.index lookup.now }
-    requires given { is_some lookup.now ≡ setup.now.options.ignore_case }
-    requires git_dir { git_dir.now ≡ git_dir_or_default root.now setup.now.git_dir }
+    requires excludes { is_absent_or_has_excludes (setup_of_optional_stack excludes.old) ≡ true }
+    requires lookup { IsLookupOfIndexIfGiven setup.now.index prepared.now.lookup.now }
+    requires given { is_some prepared.now.lookup.now ≡ setup.now.options.ignore_case }
+    requires git_dir { prepared.now.git_dir.now ≡ git_dir_or_default root.now setup.now.git_dir }
     ensures gives { (s : TreeAndObjects) → Tells W.Worktree F.Find worktree.old objects.old
         excludes.old s → CountNotIncreased (W.faults worktree.old) (W.faults worktree.new)
         → IfOk result (IsSafeReport (walk_setting_of_setup (W.precomposes worktree.old) root.now
         setup.now) (setup_of_optional_stack excludes.old) s setup.now.root setup.now.depth) }
-    ensures ordered { IfOk result (λ r. IsStrictlyAscendingByPath r.entries) }
-    ensures counted { IfOk result
-        (λ r. r.outcome.returned_entries ≡ min (length r.entries) (2 ^ 64 - 1)) }
-    ensures seen { IfOk result
-        (λ r. min r.outcome.returned_entries (2 ^ 32 - 1) ≤ r.outcome.seen_entries) }
-    ensures filtered { IfOk result (λ r. count_hidden_emissions
-        (walk_options_of_setup (W.precomposes worktree.old) setup.now) r.entries ≡ 0) }
-    ensures once { IfOk result (IsReportFromNormalizedRoot
+    ensures any_worktree { IfOk result (IsReportOverAnyWorktree
         (walk_setting_of_setup (W.precomposes worktree.old) root.now setup.now) setup.now.root) }
     ensures walks_worktree { WalksWorktreeWithCauses W.Worktree F.Find I.Interrupt worktree.old
         worktree.new objects.old objects.new interrupt.old interrupt.new excludes.old excludes.new
@@ -140,8 +139,8 @@ fn walk_with_rules_and_lookup<'a, W: Worktree, F: Find, I: Interrupt>(
         pathspec: &setup.specs,
         excludes,
         index: &setup.index,
-        ignore_case_index_lookup: lookup,
-        git_dir_realpath: git_dir,
+        ignore_case_index_lookup: prepared.lookup,
+        git_dir_realpath: prepared.git_dir,
         current_dir: current_dir_of_setup_or_root(root, setup),
         explicit_traversal_root: &setup.root,
         depth_limit: setup.depth,
@@ -157,12 +156,11 @@ fn walk_with_ignore_rules_of_setup<W: Worktree, F: Find, I: Interrupt>(
     interrupt: &mut I,
     root: &[u8],
     setup: &Setup,
-    lookup: &Option<AccelerateLookup>,
-    git_dir: &[u8],
+    prepared: &Prepared<'_>,
 ) -> Result<walk::Report, Error>
-    requires lookup { IsLookupOfIndexIfGiven setup.now.index lookup.now }
-    requires given { is_some lookup.now ≡ setup.now.options.ignore_case }
-    requires git_dir { git_dir.now ≡ git_dir_or_default root.now setup.now.git_dir }
+    requires lookup { IsLookupOfIndexIfGiven setup.now.index prepared.now.lookup.now }
+    requires given { is_some prepared.now.lookup.now ≡ setup.now.options.ignore_case }
+    requires git_dir { prepared.now.git_dir.now ≡ git_dir_or_default root.now setup.now.git_dir }
     ensures { WalksBySetup W.Worktree F.Find I.Interrupt worktree.old worktree.new objects.old
         objects.new interrupt.old interrupt.new root.now setup.now result }
 {
@@ -175,8 +173,7 @@ fn walk_with_ignore_rules_of_setup<W: Worktree, F: Find, I: Interrupt>(
         root,
         setup,
         &mut excludes,
-        lookup,
-        git_dir,
+        prepared,
     )
 }
 
@@ -199,16 +196,11 @@ pub fn walk_by_setup<W: Worktree, F: Find, I: Interrupt>(
 {
     let lookup = index_lookup_if_ignore_case(alloc, setup)?;
     let git_dir = git_dir_of_setup_or_default(alloc, root, setup)?;
-    walk_with_ignore_rules_of_setup(
-        alloc,
-        worktree,
-        objects,
-        interrupt,
-        root,
-        setup,
-        &lookup,
-        git_dir.as_bytes(),
-    )
+    let prepared = Prepared {
+        lookup: &lookup,
+        git_dir: git_dir.as_bytes(),
+    };
+    walk_with_ignore_rules_of_setup(alloc, worktree, objects, interrupt, root, setup, &prepared)
 }
 
 /// The lines of the report of the work tree at `root`. Blobs that ignore rules are mapped to are

@@ -75,8 +75,8 @@ pub fn is_absolute_without_dots_or_nul(path: &[u8]) -> bool
 
 /// The number that digits write, up to the limit. None where a byte is no digit.
 fn parse_number_up_to_limit(digits: &[u8]) -> Option<usize>
-    ensures { result ≡ option_and_then number_if_within_file_count_limit (parse_digits_behind_number 0
-        digits.now) }
+    ensures { result ≡ option_and_then number_if_within_file_count_limit (parse_digits_behind_number
+        0 digits.now) }
 {
     let mut number = 0;
     for byte in digits {

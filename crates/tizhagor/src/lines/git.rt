@@ -16,14 +16,16 @@ use std::alloc::Global;
 
 /// The line of what stands in the place of the index and is no file.
 fn index_is_no_file_line(alloc: Global, path: &[u8]) -> Result<Bytes, OutOfMemory>
-    ensures { IfOk result (λ line. line ≡ words.line_of_git_refusal (GitRefusal.IndexNode path.now)) }
+    ensures { IfOk result (λ line. line
+        ≡ words.line_of_git_refusal (GitRefusal.IndexNode path.now)) }
 {
     text_with_escaped_path(alloc, b"fatal: '", path, b"' is no file\n")
 }
 
 /// The line of a path spec that git refuses.
 fn bad_pathspec_line(alloc: Global, text: &[u8]) -> Result<Bytes, OutOfMemory>
-    ensures { IfOk result (λ line. line ≡ words.line_of_git_refusal (GitRefusal.PathSpec text.now)) }
+    ensures { IfOk result (λ line. line
+        ≡ words.line_of_git_refusal (GitRefusal.PathSpec text.now)) }
 {
     text_with_escaped_path(alloc, b"fatal: bad pathspec '", text, b"'\n")
 }

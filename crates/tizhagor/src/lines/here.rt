@@ -5,7 +5,7 @@ ghost use Rattle.tizhagor.specs.Refusals as words;
 use crate::lines::git::line_of_git_refusal;
 use crate::lines::program::{line_of_program_refusal, status_of_program_refusal};
 use crate::lines::{copy_fixed_line, fault_line_with_path, text_with_escaped_path};
-use crate::refusal::{HereRefusal, Unchecked, Uncompared};
+use crate::refusal::{CommandRefusal, Unchecked, Uncompared};
 use crate::require_force::WrongClean;
 use check_ignore::told;
 use command_line::message_of_misuse;
@@ -16,28 +16,28 @@ use std::alloc::Global;
 use worktree_report::Refusal;
 
 /// The status that the program ends with.
-pub fn status_of(refusal: &HereRefusal) -> u8
+pub fn status_of(refusal: &CommandRefusal) -> u8
     ensures { result ≡ words.status_of refusal.now }
 {
     match refusal {
-        HereRefusal::Words(_) => 129,
-        HereRefusal::Absent { directory: _ }
-        | HereRefusal::NotADirectory { directory: _ }
-        | HereRefusal::NotAtTop { root: _ }
-        | HereRefusal::Elsewhere
-        | HereRefusal::Git(_)
-        | HereRefusal::Listing(_)
-        | HereRefusal::ExcludeFile { name: _ }
-        | HereRefusal::Uncompared(_)
-        | HereRefusal::Unchecked(_)
-        | HereRefusal::Cleaning(_) => 128,
-        HereRefusal::Program(refusal) => status_of_program_refusal(refusal),
+        CommandRefusal::Words(_) => 129,
+        CommandRefusal::Absent { directory: _ }
+        | CommandRefusal::NotADirectory { directory: _ }
+        | CommandRefusal::NotAtTop { root: _ }
+        | CommandRefusal::Elsewhere
+        | CommandRefusal::Git(_)
+        | CommandRefusal::Listing(_)
+        | CommandRefusal::ExcludeFile { name: _ }
+        | CommandRefusal::Uncompared(_)
+        | CommandRefusal::Unchecked(_)
+        | CommandRefusal::Cleaning(_) => 128,
+        CommandRefusal::Program(refusal) => status_of_program_refusal(refusal),
     }
 }
 
 /// The line of a listing that there is not.
 fn wrong_listing_line(alloc: Global, wrong: WrongListing) -> Result<Bytes, OutOfMemory>
-    ensures { IfOk result (λ line. line ≡ words.line_of_refusal (HereRefusal.Listing wrong)) }
+    ensures { IfOk result (λ line. line ≡ words.line_of_refusal (CommandRefusal.Listing wrong)) }
 {
     let mut line = Bytes::from_slice(alloc, b"fatal: ")?;
     line.extend(alloc, wrong.text())?;
@@ -47,7 +47,7 @@ fn wrong_listing_line(alloc: Global, wrong: WrongListing) -> Result<Bytes, OutOf
 
 /// The line of a cleaning that there is not.
 fn wrong_cleaning_line(alloc: Global, wrong: WrongClean) -> Result<Bytes, OutOfMemory>
-    ensures { IfOk result (λ line. line ≡ words.line_of_refusal (HereRefusal.Cleaning wrong)) }
+    ensures { IfOk result (λ line. line ≡ words.line_of_refusal (CommandRefusal.Cleaning wrong)) }
 {
     let mut line = Bytes::from_slice(alloc, b"fatal: ")?;
     line.extend(alloc, wrong.text())?;
@@ -103,65 +103,65 @@ fn line_of_check_ignore_refusal(alloc: Global, reason: &Unchecked) -> Result<Byt
 /// # Errors
 ///
 /// Memory was refused.
-fn line_of_refusal(alloc: Global, refusal: &HereRefusal) -> Result<Bytes, OutOfMemory>
+fn line_of_refusal(alloc: Global, refusal: &CommandRefusal) -> Result<Bytes, OutOfMemory>
     ensures { IfOk result (λ line. line ≡ words.line_of_refusal refusal.now) }
 {
     match refusal {
-        HereRefusal::Words(misuse) => message_of_misuse(alloc, misuse),
-        HereRefusal::Absent { directory } => text_with_escaped_path(
+        CommandRefusal::Words(misuse) => message_of_misuse(alloc, misuse),
+        CommandRefusal::Absent { directory } => text_with_escaped_path(
             alloc,
             b"fatal: cannot change to '",
             directory.as_bytes(),
             b"': No such file or directory\n",
         ),
-        HereRefusal::NotADirectory { directory } => text_with_escaped_path(
+        CommandRefusal::NotADirectory { directory } => text_with_escaped_path(
             alloc,
             b"fatal: cannot change to '",
             directory.as_bytes(),
             b"': Not a directory\n",
         ),
-        HereRefusal::NotAtTop { root } => text_with_escaped_path(
+        CommandRefusal::NotAtTop { root } => text_with_escaped_path(
             alloc,
             b"fatal: what is to be deleted is told at the top of the work tree; call it there: '",
             root.as_bytes(),
             b"'\n",
         ),
-        HereRefusal::Elsewhere => copy_fixed_line(
+        CommandRefusal::Elsewhere => copy_fixed_line(
             alloc,
             b"fatal: clean is not supported with -C: it works in the current directory\n",
         ),
-        HereRefusal::Git(refusal) => line_of_git_refusal(alloc, refusal),
-        HereRefusal::Listing(wrong) => wrong_listing_line(alloc, *wrong),
-        HereRefusal::ExcludeFile { name } => text_with_escaped_path(
+        CommandRefusal::Git(refusal) => line_of_git_refusal(alloc, refusal),
+        CommandRefusal::Listing(wrong) => wrong_listing_line(alloc, *wrong),
+        CommandRefusal::ExcludeFile { name } => text_with_escaped_path(
             alloc,
             b"fatal: cannot use ",
             name.as_bytes(),
             b" as an exclude file\n",
         ),
-        HereRefusal::Uncompared(reason) => line_of_comparison_refusal(alloc, reason),
-        HereRefusal::Unchecked(reason) => line_of_check_ignore_refusal(alloc, reason),
-        HereRefusal::Cleaning(wrong) => wrong_cleaning_line(alloc, *wrong),
-        HereRefusal::Program(refusal) => line_of_program_refusal(alloc, refusal),
+        CommandRefusal::Uncompared(reason) => line_of_comparison_refusal(alloc, reason),
+        CommandRefusal::Unchecked(reason) => line_of_check_ignore_refusal(alloc, reason),
+        CommandRefusal::Cleaning(wrong) => wrong_cleaning_line(alloc, *wrong),
+        CommandRefusal::Program(refusal) => line_of_program_refusal(alloc, refusal),
     }
 }
 
 /// Whether the worktree, the owners or the stats failed.
-fn is_fault_refusal(refusal: &HereRefusal) -> bool
+fn is_fault_refusal(refusal: &CommandRefusal) -> bool
     ensures { result ≡ words.is_fault_refusal refusal.now }
 {
     match refusal {
-        HereRefusal::Words(_)
-        | HereRefusal::Absent { directory: _ }
-        | HereRefusal::NotADirectory { directory: _ }
-        | HereRefusal::NotAtTop { root: _ }
-        | HereRefusal::Elsewhere
-        | HereRefusal::Git(_)
-        | HereRefusal::Listing(_)
-        | HereRefusal::ExcludeFile { name: _ }
-        | HereRefusal::Uncompared(_)
-        | HereRefusal::Unchecked(_)
-        | HereRefusal::Cleaning(_) => false,
-        HereRefusal::Program(refusal) => matches!(refusal, Refusal::Fault),
+        CommandRefusal::Words(_)
+        | CommandRefusal::Absent { directory: _ }
+        | CommandRefusal::NotADirectory { directory: _ }
+        | CommandRefusal::NotAtTop { root: _ }
+        | CommandRefusal::Elsewhere
+        | CommandRefusal::Git(_)
+        | CommandRefusal::Listing(_)
+        | CommandRefusal::ExcludeFile { name: _ }
+        | CommandRefusal::Uncompared(_)
+        | CommandRefusal::Unchecked(_)
+        | CommandRefusal::Cleaning(_) => false,
+        CommandRefusal::Program(refusal) => matches!(refusal, Refusal::Fault),
     }
 }
 
@@ -174,7 +174,7 @@ fn is_fault_refusal(refusal: &HereRefusal) -> bool
 pub fn line_of_refusal_with_fault_path(
     alloc: Global,
     first: &[u8],
-    refusal: &HereRefusal,
+    refusal: &CommandRefusal,
 ) -> Result<Bytes, OutOfMemory>
     ensures { IfOk result (λ line. line ≡ words.line_of_refusal_with_fault_path first.now
         refusal.now) }

@@ -1,5 +1,5 @@
 -- What was collected is sorted by its paths; each clause on what was given is one on the sorted entries.
-use Rattle.std.proofs.Common.{Some, refl, ap, subst, List, ℕ, length, cond, not, arith}
+use Rattle.std.proofs.Common.{Some, refl, ap, subst, List, ℕ, length, cond, not, arith, rules}
 use Rattle.std.proofs.lemmas.List.Sorted.{length_permutation, sum_by-IsPermutation}
 use Rattle.std.proofs.lemmas.Result.{err_from_is_err_and}
 use Rattle.dir_classify.specs.Chosen.{walk_options_of}
@@ -49,37 +49,27 @@ returns-clause-walks_worktree g c =
     walks-more g.W.Worktree g.F.Find g.I.Interrupt a.strategy (setting_of_context g.M.Matcher a.worktree_root.now a.options a.ctx) a.ctx.explicit_traversal_root.now a.ctx.depth_limit default_without_refusals (λ r. r.0) (λ r. r.1) (λ r. r.outcome) (λ r. r.root)
     (c.in_ok-outcome.outcome, c.in_ok-outcome.root) made refl refl c.in_ok-outcome.ensures.walks_worktree
 
-pub returns-clause-ordered : goal.returns-clause-ordered
-returns-clause-ordered g c =
+pub returns-clause-any_worktree : goal.returns-clause-any_worktree
+returns-clause-any_worktree g c =
     let a = c.args in
+    let o = walk_options_of a.options in
+    let given = setting_of_context g.M.Matcher a.worktree_root.now a.options a.ctx in
+    let explicit = a.ctx.explicit_traversal_root.now in
     let got = c.walk_by_strategy.new.delegate.unorded_entries in
-    ascends-given got c.in_ok-entries.entries
-    (distinct-given (setting_of_context g.M.Matcher a.worktree_root.now a.options a.ctx) a.ctx.explicit_traversal_root.now _ _ c.new-delegate.result.unorded_entries got c.new-delegate.ensures c.in_ok-outcome.ensures.feeds.once)
-    c.in_ok-entries.ensures.sorted
-
-pub returns-clause-counted : goal.returns-clause-counted
-returns-clause-counted g c =
-    let got = c.walk_by_strategy.new.delegate.unorded_entries in
-    omega (
-      arith,
-      c.in_ok-outcome.ensures.feeds.returned refl,
-      ap {B = ℕ} (λ (xs : List Emission). length xs) c.new-delegate.ensures,
-      length_permutation got c.in_ok-entries.entries c.in_ok-entries.ensures.same,
-    )
-
-pub returns-clause-once : goal.returns-clause-once
-returns-clause-once g c =
-    let a = c.args in
-    from-root (setting_of_context g.M.Matcher a.worktree_root.now a.options a.ctx) a.ctx.explicit_traversal_root.now c.in_ok-outcome.outcome c.in_ok-outcome.root c.new-delegate.result.unorded_entries c.walk_by_strategy.new.delegate.unorded_entries
-    c.in_ok-entries.entries c.new-delegate.ensures c.in_ok-entries.ensures.same c.in_ok-outcome.ensures.feeds.once
-
-pub returns-clause-filtered : goal.returns-clause-filtered
-returns-clause-filtered g c =
-    let o = walk_options_of c.args.options in
-    let got = c.walk_by_strategy.new.delegate.unorded_entries in
-    omega (
-      arith,
-      c.in_ok-outcome.ensures.feeds.filtered,
-      ap {B = ℕ} (λ (xs : List Emission). count_hidden_emissions o xs) c.new-delegate.ensures,
-      sum_by-IsPermutation (λ (x : Emission). cond (not (is_entry_shown_by_options o x.0)) 1 0) got c.in_ok-entries.entries c.in_ok-entries.ensures.same,
-    )
+    record {
+      ordered = ascends-given got c.in_ok-entries.entries (distinct-given given explicit _ _ c.new-delegate.result.unorded_entries got c.new-delegate.ensures c.in_ok-outcome.ensures.feeds.once) c.in_ok-entries.ensures.sorted;
+      counted = omega (
+        arith,
+        c.in_ok-outcome.ensures.feeds.returned refl,
+        ap {B = ℕ} (λ (xs : List Emission). length xs) c.new-delegate.ensures,
+        length_permutation got c.in_ok-entries.entries c.in_ok-entries.ensures.same,
+      );
+      seen = search rules;
+      filtered = omega (
+        arith,
+        c.in_ok-outcome.ensures.feeds.filtered,
+        ap {B = ℕ} (λ (xs : List Emission). count_hidden_emissions o xs) c.new-delegate.ensures,
+        sum_by-IsPermutation (λ (x : Emission). cond (not (is_entry_shown_by_options o x.0)) 1 0) got c.in_ok-entries.entries c.in_ok-entries.ensures.same,
+      );
+      once = from-root given explicit c.in_ok-outcome.outcome c.in_ok-outcome.root c.new-delegate.result.unorded_entries got c.in_ok-entries.entries c.new-delegate.ensures c.in_ok-entries.ensures.same c.in_ok-outcome.ensures.feeds.once;
+    }

@@ -8,4 +8,4 @@ returns-in_err-excludes g c =
     rw (p.1, p.2) (Reports-memory g.W.Worktree g.F.Find g.I.Interrupt _ _ _ c.args.root.now c.args.setup.now)
 
 pub returns : goal.returns
-returns g c = Reports-walked c.in_ok-excludes.ensures.made c.in_ok-excludes.ensures.in_step c.walk_with_rules_and_lookup.ensures.gives c.walk_with_rules_and_lookup.ensures.ordered c.walk_with_rules_and_lookup.ensures.counted c.walk_with_rules_and_lookup.ensures.seen c.walk_with_rules_and_lookup.ensures.filtered c.walk_with_rules_and_lookup.ensures.once c.walk_with_rules_and_lookup.ensures.walks_worktree
+returns g c = Reports-walked c.in_ok-excludes.ensures.made c.in_ok-excludes.ensures.in_step c.walk_with_rules_and_lookup.ensures.gives c.walk_with_rules_and_lookup.ensures.any_worktree c.walk_with_rules_and_lookup.ensures.walks_worktree

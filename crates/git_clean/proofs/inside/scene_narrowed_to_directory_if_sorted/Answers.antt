@@ -3,7 +3,7 @@ use Rattle.git_clean.specs.declared.scene.Scene.{Scene}
 use Rattle.git_clean.specs.Lines.{would_remove_lines_inside, skipped_repository_lines}
 use Rattle.git_clean.specs.Scenes.{scene_in_specification}
 use Rattle.git_clean.proofs.Near.{parts-near, skips-near}
-use Rattle.git_clean.proofs.inside.scene_narrowed_to_directory.Goals as goal
+use Rattle.git_clean.proofs.inside.scene_narrowed_to_directory_if_sorted.Goals as goal
 
 pub returns-clause-skips : goal.returns-clause-skips
 returns-clause-skips c =
