@@ -1,4 +1,4 @@
-//! Paths in double quotes, as git's `unquote_c_style_after_opening_quote` reads them.
+//! Paths in double quotes, as git's `unquote_c_style` reads them.
 ghost use Rattle.std.specs.Prelude.{◌≡◌, ◌≤◌, ◌+◌, drop, length, IfOk, IfSome};
 ghost use Rattle.check_ignore.specs.Unquoted as words;
 
